@@ -1,0 +1,6 @@
+pub mod ByteLaws
+pub mod ListLaws
+pub mod FoldLaws
+pub mod TrimLaws
+pub mod NumberLaws
+pub mod SignLaws

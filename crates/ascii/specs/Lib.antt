@@ -1,0 +1,6 @@
+pub mod Choice
+pub mod Text
+pub mod Classes
+pub mod Fold
+pub mod Trim
+pub mod Numbers
