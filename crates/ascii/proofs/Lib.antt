@@ -4,3 +4,5 @@ pub mod FoldLaws
 pub mod TrimLaws
 pub mod NumberLaws
 pub mod SignLaws
+pub mod NumeralLaws
+pub mod SignedLaws

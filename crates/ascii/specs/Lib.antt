@@ -4,3 +4,4 @@ pub mod Classes
 pub mod Fold
 pub mod Trim
 pub mod Numbers
+pub mod Numerals

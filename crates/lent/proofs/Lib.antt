@@ -1,0 +1,6 @@
+pub mod BufferLaws
+pub mod LoopLaws
+pub mod HighLaws
+pub mod GateLaws
+pub mod SpanLaws
+pub mod TableLaws

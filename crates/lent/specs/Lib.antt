@@ -1,0 +1,4 @@
+pub mod Sizes
+pub mod Buffers
+pub mod Gates
+pub mod Table

@@ -1,0 +1,24 @@
+// What the caller lends: the gate that every reader's input passes, and the buffers it writes.
+mod filling;
+mod gating;
+mod packing;
+
+pub use filling::clear_bytes;
+pub use filling::clear_words;
+pub use filling::store_bytes;
+pub use filling::store_words;
+pub use gating::Gate;
+pub use gating::admit;
+pub use gating::first_high;
+pub use packing::room;
+pub use packing::span;
+
+// The longest input, in bytes.
+pub const LIMIT: usize = 16384;
+
+// Words in a record of each kind.
+pub const TOKEN_WORDS: usize = 5;
+
+pub const ACTION_WORDS: usize = 6;
+
+pub const VARIABLE_WORDS: usize = 5;

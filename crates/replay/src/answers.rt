@@ -1,0 +1,41 @@
+// One answer, by the question's letter. docs/VECTORS.md lists the letters.
+use crate::hexes;
+use ascii::Number;
+
+fn print_number(n: Number) {
+    match n {
+        Number::Value(v) => {
+            io::print_decimal(1, v);
+        }
+        Number::Unreadable => {
+            io::write_all(1, b"refused");
+        }
+        Number::TooLarge => {
+            io::write_all(1, b"refused");
+        }
+    }
+}
+
+fn print_trimmed(s: &[u8]) {
+    let t = ascii::trim(s);
+    if t.len() == 0 {
+        io::write_all(1, b"empty");
+    } else {
+        hexes::print(t);
+    }
+}
+
+pub fn answer(letter: u8, body: &[u8]) {
+    match letter {
+        b'1' => print_number(ascii::unsigned(body, 255)),
+        b'2' => print_number(ascii::unsigned(body, 65535)),
+        b'4' => print_number(ascii::unsigned(body, 4294967295)),
+        b'8' => print_number(ascii::unsigned(body, 18446744073709551615)),
+        b'i' => print_number(ascii::signed(body)),
+        b't' => print_trimmed(body),
+        _ => {
+            io::write_all(1, b"?");
+        }
+    }
+    io::write_all(1, b"\n");
+}

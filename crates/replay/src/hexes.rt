@@ -1,0 +1,54 @@
+// Bytes as pairs of hexadecimal digits.
+ghost use Prim.Native.Nat.{_≤_, _<_};
+ghost use lib.ListN.{length};
+
+fn digit_value(b: u8) -> u8
+    ensures { λ r. ⌜ r < 16 ⌝ }
+{
+    match b {
+        48..=57 => b - 48,
+        97..=102 => b - 87,
+        _ => 0,
+    }
+}
+
+fn digit_of(v: u8) -> u8
+    requires { ⌜ v < 16 ⌝ }
+{
+    if v < 10 {
+        48 + v
+    } else {
+        87 + v
+    }
+}
+
+// The bytes that pairs of digits stand for, as many as fit.
+pub fn decode(digits: &[u8], out: &mut [u8]) -> usize
+    ensures { λ r. ⌜ r ≤ length (now (out .exit)) ⌝ }
+{
+    let most = digits.len() / 2;
+    let mut n = 0;
+    while n < most {
+        if out.len() <= n {
+            return n;
+        }
+        let high = digit_value(digits[n * 2]);
+        let low = digit_value(digits[n * 2 + 1]);
+        out[n] = high * 16 + low;
+        n += 1;
+    }
+    n
+}
+
+fn print_byte(b: u8) {
+    let pair = [digit_of(b / 16), digit_of(b % 16)];
+    io::write_all(1, &pair);
+}
+
+pub fn print(s: &[u8]) {
+    let mut i = 0;
+    while i < s.len() {
+        print_byte(s[i]);
+        i += 1;
+    }
+}

@@ -1,0 +1,30 @@
+// Answers the stored questions on standard input, a line each. The file `stdout` beside this folder
+// has the original's answers, and the check compares the two.
+mod answers;
+mod hexes;
+mod lines;
+
+use lines::Line;
+
+// One question and its answer; whether there was one.
+fn answer_one() -> bool {
+    let mut line = [0u8; 65536];
+    let Line::Of(n) = lines::read_line(&mut line) else {
+        return false;
+    };
+    if n < 2 {
+        return false;
+    }
+    let mut body = [0u8; 32768];
+    let len = hexes::decode(&line[2..n], &mut body);
+    answers::answer(line[0], &body[..len]);
+    true
+}
+
+// A proved loop has to end, and nothing says that the input does: the count is one that no run uses up.
+fn main() {
+    let mut turns = u64::MAX;
+    while turns > 0 && answer_one() {
+        turns -= 1;
+    }
+}
