@@ -6,3 +6,4 @@ pub mod NumberLaws
 pub mod SignLaws
 pub mod NumeralLaws
 pub mod SignedLaws
+pub mod OneAnswer

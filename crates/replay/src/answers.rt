@@ -1,6 +1,7 @@
 // One answer, by the question's letter. docs/VECTORS.md lists the letters.
 use crate::hexes;
 use ascii::Number;
+use names::Lookup;
 
 fn print_number(n: Number) {
     match n {
@@ -14,6 +15,34 @@ fn print_number(n: Number) {
             io::write_all(1, b"refused");
         }
     }
+}
+
+fn print_code(found: Lookup) {
+    match found {
+        Lookup::Code(code) => {
+            io::print_decimal(1, code);
+        }
+        Lookup::Unknown => {
+            io::write_all(1, b"unknown");
+        }
+    }
+}
+
+fn print_flag(flag: bool) {
+    if flag {
+        io::write_all(1, b"1");
+    } else {
+        io::write_all(1, b"0");
+    }
+}
+
+// The three tests on a code.
+fn print_flags(code: u64) {
+    print_flag(names::is_collection(code));
+    io::write_all(1, b" ");
+    print_flag(names::is_implemented(code));
+    io::write_all(1, b" ");
+    print_flag(names::requires_argument(code));
 }
 
 fn print_trimmed(s: &[u8]) {
@@ -33,6 +62,10 @@ pub fn answer(letter: u8, body: &[u8]) {
         b'8' => print_number(ascii::unsigned(body, 18446744073709551615)),
         b'i' => print_number(ascii::signed(body)),
         b't' => print_trimmed(body),
+        b'v' => print_code(names::variable_code(body)),
+        b'o' => print_code(names::operator_code(body)),
+        b's' => print_code(names::severity_code(body)),
+        b'c' => print_flags(hexes::word(body)),
         _ => {
             io::write_all(1, b"?");
         }

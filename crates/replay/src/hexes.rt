@@ -15,11 +15,7 @@ fn digit_value(b: u8) -> u8
 fn digit_of(v: u8) -> u8
     requires { ⌜ v < 16 ⌝ }
 {
-    if v < 10 {
-        48 + v
-    } else {
-        87 + v
-    }
+    if v < 10 { 48 + v } else { 87 + v }
 }
 
 // The bytes that pairs of digits stand for, as many as fit.
@@ -38,6 +34,17 @@ pub fn decode(digits: &[u8], out: &mut [u8]) -> usize
         n += 1;
     }
     n
+}
+
+// The number of up to eight bytes, the largest first.
+pub fn word(bytes: &[u8]) -> u64 {
+    let mut v: u64 = 0;
+    let mut i = 0;
+    while i < bytes.len() {
+        v = (v % 72057594037927936) * 256 + bytes[i] as u64;
+        i += 1;
+    }
+    v
 }
 
 fn print_byte(b: u8) {

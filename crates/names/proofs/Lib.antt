@@ -1,0 +1,10 @@
+pub mod Tests
+pub mod TableLaws
+pub mod OrderLaws
+pub mod SearchLaws
+pub mod ShelfLaws
+pub mod FoldingLaws
+pub mod FlagLaws
+pub mod VariableLaws
+pub mod OperatorLaws
+pub mod SeverityLaws

@@ -1,0 +1,132 @@
+-- What is found in a table: by the place of a row, and alike in two tables that hold the same rows.
+use mathlib.Core.Path.{_≡_, _∙_, refl, sym, ap}
+use mathlib.Core.Bool.{Bool, true, false}
+use mathlib.Core.List.{List, [], _∷_, map}
+use Prim.Native.Nat.{ℕ, zero, suc, _+_, _<_, zero-le, suc-le-suc}
+use native.Mathlib.Nat.{not-suc-le-zero, le-of-suc-le-suc, lt-irrefl, lt-of-le-of-lt, add-zero, suc-add, add-suc}
+use lib.ListN.{length, getD}
+use lib.Dec.{eqb, leb}
+use borrow.Author.Tests.{eq-eqb, eqb-true, leb-true}
+use Rattle.ascii.specs.Choice.{pick, and}
+use Rattle.ascii.specs.Fold.{same}
+use Rattle.names.specs.declared.Lookup.{Lookup}
+use Rattle.names.specs.declared.Lookup.the-variants.{Code, Unknown}
+use Rattle.names.specs.Tables.{Row, row, find, nameAt, codeAt}
+use Rattle.names.proofs.Tests.{never, and-left, and-right, every, at}
+
+pub same-refl : (a : List ℕ) → same a a ≡ true
+unfolding same
+same-refl [] = refl
+same-refl (x ∷ a) = rw (eq-eqb x x refl) (same-refl a)
+
+pub same-true : (a b : List ℕ) → same a b ≡ true → a ≡ b
+unfolding same
+same-true [] [] e = refl
+same-true [] (y ∷ b) e = absurd (never cc)
+same-true (x ∷ a) [] e = absurd (never cc)
+same-true (x ∷ a) (y ∷ b) e =
+    let p = eqb-true x y (and-left (eqb x y) (same a b) e) in
+    let q = same-true a b (and-right (eqb x y) (same a b) e) in
+    rw (p, q)
+
+pub same-false : (a b : List ℕ) → (a ≡ b → ⊥) → same a b ≡ false
+same-false a b n = go (same a b) (λ e. n (same-true a b e))
+  where
+    go : (t : Bool) → (t ≡ true → ⊥) → t ≡ false
+    go true f = absurd (f refl)
+    go false f = refl
+
+pub same-not : (a b : List ℕ) → same a b ≡ false → a ≡ b → ⊥
+same-not a b e p =
+    let q : same a b ≡ true = rw p (same-refl b) in
+    never cc
+
+-- the first row of a name decides
+pub find-at : (rows : List Row) (name : List ℕ) (r : ℕ) → r < length rows
+    → ((k : ℕ) → k < r → nameAt rows k ≡ name → ⊥)
+    → nameAt rows r ≡ name
+    → find rows name ≡ Code (codeAt rows r)
+unfolding find
+find-at [] name r h n e = absurd (not-suc-le-zero h)
+find-at (t ∷ rows) name zero h n e = rw (e, same-refl name)
+find-at (t ∷ rows) name (suc r) h n e =
+    rw (same-false (t .name) name (n 0 (suc-le-suc zero-le)))
+    (find-at rows name r (le-of-suc-le-suc h) (λ k l. n (suc k) (suc-le-suc l)) e)
+
+pub find-none : (rows : List Row) (name : List ℕ) → ((k : ℕ) → k < length rows → nameAt rows k ≡ name → ⊥) → find rows name ≡ Unknown
+unfolding find
+find-none [] name n = refl
+find-none (t ∷ rows) name n =
+    rw (same-false (t .name) name (n 0 (suc-le-suc zero-le))) (find-none rows name (λ k l. n (suc k) (suc-le-suc l)))
+
+-- a lookup gave this code
+abbrev pub gave : Lookup → ℕ → Bool
+gave (Code c) d = eqb c d
+gave Unknown d = false
+
+gave-true : (l : Lookup) (c : ℕ) → gave l c ≡ true → l ≡ Code c
+gave-true (Code c) d e = ap Code (eqb-true c d e)
+gave-true Unknown d e = absurd (never cc)
+
+-- each row of a is found in b with its code
+unfoldable pub foundIn : List Row → List Row → Bool
+foundIn [] b = true
+foundIn (r ∷ a) b = and (gave (find b (r .name)) (r .code)) (foundIn a b)
+
+carried : (a b : List Row) → foundIn a b ≡ true → (name : List ℕ) (c : ℕ) → find a name ≡ Code c → find b name ≡ Code c
+unfolding find foundIn
+carried [] b f name c e = absurd (never cc)
+carried (r ∷ a) b f name c e = go (same (r .name) name) refl (carried a b (and-right first rest f) name c) e
+  where
+    first : Bool
+    first = gave (find b (r .name)) (r .code)
+
+    rest : Bool
+    rest = foundIn a b
+
+    go : (t : Bool) → same (r .name) name ≡ t
+        → (find a name ≡ Code c → find b name ≡ Code c)
+        → pick t (Code (r .code)) (find a name) ≡ Code c → find b name ≡ Code c
+    go true s q p = rw (sym (same-true (r .name) name s)) (gave-true (find b (r .name)) (r .code) (and-left first rest f) ∙ p)
+    go false s q p = q p
+
+-- two tables each of whose rows is found in the other with its code find the same for every name
+pub agree : (a b : List Row) → foundIn a b ≡ true → foundIn b a ≡ true → (name : List ℕ) → find a name ≡ find b name
+agree a b f g name = go (find a name) (find b name) refl refl
+  where
+    go : (x y : Lookup) → find a name ≡ x → find b name ≡ y → find a name ≡ find b name
+    go (Code c) y p q = p ∙ sym (carried a b f name c p)
+    go Unknown (Code c) p q = carried b a g name c q ∙ sym q
+    go Unknown Unknown p q = p ∙ sym q
+
+-- a name longer than all of the table's is not in it
+pub too-long : (rows : List Row) (top : ℕ)
+    → every (λ k. leb (length (nameAt rows k)) top) (length rows) ≡ true
+    → (name : List ℕ) → top < length name → find rows name ≡ Unknown
+too-long rows top t name h = find-none rows name other
+  where
+    other : (k : ℕ) → k < length rows → nameAt rows k ≡ name → ⊥
+    other k l e =
+        let f = leb-true (length (nameAt rows k)) top (at (λ k. leb (length (nameAt rows k)) top) (length rows) t k l) in
+        lt-irrefl (length name) (lt-of-le-of-lt (rw e at f) h)
+
+-- a table written out from a rule for each place
+unfoldable pub tabulate : (ℕ → Row) → ℕ → ℕ → List Row
+tabulate f k zero = []
+tabulate f k (suc n) = f k ∷ tabulate f (suc k) n
+
+pub tabulate-length : (f : ℕ → Row) (k n : ℕ) → length (tabulate f k n) ≡ n
+unfolding tabulate
+tabulate-length f k zero = refl
+tabulate-length f k (suc n) = ap suc (tabulate-length f (suc k) n)
+
+pub tabulate-at : (f : ℕ → Row) (k n i : ℕ) → i < n → getD (tabulate f k n) i (row "" 0) ≡ f (k + i)
+unfolding tabulate
+tabulate-at f k zero i h = absurd (not-suc-le-zero h)
+tabulate-at f k (suc n) zero h = ap f (sym (add-zero k))
+tabulate-at f k (suc n) (suc i) h = tabulate-at f (suc k) n i (le-of-suc-le-suc h) ∙ ap f (suc-add k i ∙ sym (add-suc k i))
+
+pub getD-map : {A B : Type 0} (f : A → B) (xs : List A) (k : ℕ) (d : A) (e : B) → k < length xs → getD (map f xs) k e ≡ f (getD xs k d)
+getD-map f [] k d e h = absurd (not-suc-le-zero h)
+getD-map f (x ∷ xs) zero d e h = refl
+getD-map f (x ∷ xs) (suc k) d e h = getD-map f xs k d e (le-of-suc-le-suc h)

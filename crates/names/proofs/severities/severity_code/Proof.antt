@@ -1,0 +1,62 @@
+-- The rows, lengths and numbers are those of the definition's table.
+use mathlib.Core.Path.{_∙_, sym, ap}
+use borrow.Author.Needs.{needs}
+use denote.Ref.{now}
+use Rattle.ascii.specs.Text.{bytes}
+use Rattle.ascii.specs.Fold.{lower, lowered}
+use Rattle.names.specs.declared.Lookup.the-variants.{Code}
+use Rattle.names.specs.Shelves.{shelved}
+use Rattle.names.specs.Severities.{severities, severityCode}
+use Rattle.names.proofs.ShelfLaws.{shelf-none}
+use Rattle.names.proofs.FoldingLaws.{folded-longer}
+use Rattle.names.proofs.SeverityLaws.{severity-found, severity-long}
+use Rattle.names.proofs.severities.severity_code.Statement.{statement}
+use Rattle.names.proofs.severities.severity_code.Tie as tie
+
+returns : tie.Need-returns
+unfolding severityCode
+returns c =
+    let s = c .before .before .args in
+    sym (severity-long (lowered (now (s .word))) (folded-longer lower 20 (now (s .word)) (c .if1 .taken)))
+
+slice-aggregate-lowered-shelf-of : tie.Need-slice-aggregate-lowered-shelf-of
+slice-aggregate-lowered-shelf-of c = search needs
+
+slice-aggregate-lowered-shelf-of-2 : tie.Need-slice-aggregate-lowered-shelf-of-2
+slice-aggregate-lowered-shelf-of-2 c = search needs
+
+lowered-shelf-of-requires : tie.Need-lowered-shelf-of-requires
+lowered-shelf-of-requires c κs = search needs
+
+array-read-wide : tie.Need-array-read-wide
+array-read-wide c = search needs
+
+wide-requires : tie.Need-wide-requires
+wide-requires c κs = search needs
+
+returns-2 : tie.Need-returns-2
+unfolding severityCode severities bytes shelved
+returns-2 c =
+    let s = c .before .before .before .before .before .before .before .args in
+    let f = c .before .before .lowered-shelf-of in
+    ap Code (c .wide .ensures) ∙ sym (severity-found (lowered (now (s .word))) (f .result) (f .ensures) (c .before .if2 .taken))
+
+returns-3 : tie.Need-returns-3
+unfolding severityCode severities bytes shelved
+returns-3 c =
+    let s = c .before .before .before .before .before .before .args in
+    let f = c .before .lowered-shelf-of in
+    sym (shelf-none severities (lowered (now (s .word))) (f .result) (f .ensures) (c .if2 .left))
+
+pub severity-code-spec : {M : Type 1} → statement M
+severity-code-spec =
+    tie.close
+    (tie.spec
+    returns
+    slice-aggregate-lowered-shelf-of
+    slice-aggregate-lowered-shelf-of-2
+    lowered-shelf-of-requires
+    array-read-wide
+    wide-requires
+    returns-2
+    returns-3)

@@ -1,0 +1,21 @@
+-- The digits are the flags of the enum's places.
+use mathlib.Core.Path.{refl}
+use borrow.Author.Needs.{needs}
+use Rattle.names.specs.Variables.{Place, places, nowhere, isImplemented}
+use Rattle.names.proofs.FlagLaws.{flag-at, flag-past}
+use Rattle.names.proofs.variables.is_implemented.Statement.{statement}
+use Rattle.names.proofs.variables.is_implemented.Tie as tie
+
+array-read-result : tie.Need-array-read-result
+array-read-result c = search needs
+
+returns : tie.Need-returns
+unfolding places isImplemented
+returns c = flag-at (λ (p : Place). p .implemented) nowhere refl places (c .before .args .code)
+
+returns-2 : tie.Need-returns-2
+unfolding places isImplemented
+returns-2 c = flag-past (λ (p : Place). p .implemented) nowhere refl places (c .before .args .code) (c .if1 .left)
+
+pub is-implemented-spec : {M : Type 1} → statement M
+is-implemented-spec = tie.close (tie.spec array-read-result returns returns-2)
