@@ -1,0 +1,146 @@
+-- The loop keeps a cursor from which the same run ends at the same spot.
+use Rattle.lexer.proofs.blanks.skip_blanks.Statement.{statement}
+use Rattle.lexer.proofs.blanks.skip_blanks.Tie as tie
+use mathlib.Core.Path.{_≡_, _∙_, sym, refl}
+use Prim.Native.Nat.{_+_, _-_, _≤_, _<_}
+use native.Mathlib.Omega.{arith}
+use borrow.Author.Needs.{needs}
+use denote.Ref.{now}
+use mathlib.Core.List.{[], _∷_}
+use lib.ListN.{length, drop, getD}
+use Rattle.lexer.specs.Bytes.{Class, class, Feed, Return, Gap, Upright, Hash, Quote, Slash, Other}
+use Rattle.lexer.specs.Cursors.{cursor}
+use Rattle.lexer.specs.Rules.{beforeBy, lineEnd}
+use Rattle.lexer.specs.Steps.{Skipped}
+use Rattle.lexer.proofs.BlankLaws.{Skipping, skip-gap, skip-return, skip-slash, skip-end, skip-stop, skip-past}
+use Rattle.lexer.proofs.ClassLaws.{arm}
+use Rattle.lexer.proofs.LineEndLaws.{Ending, ending, line-end-fits}
+
+abbrev Inv-loop : tie.InvT-loop
+Inv-loop s place₀ line₀ column₀ mark₀ place line column mark = Skipping s (cursor place₀ line₀ column₀ mark₀) 0 (cursor place line column mark)
+
+abbrev μ-loop : tie.MeasureT-loop
+μ-loop s place₀ line₀ column₀ mark₀ place line column mark = length s - place
+
+loop-holds : tie.Need-loop-holds Inv-loop μ-loop
+loop-holds c = record { going = refl; within = c .before .pre }
+
+shared-slice-read-class-of : tie.Need-shared-slice-read-class-of Inv-loop μ-loop
+shared-slice-read-class-of c = search needs
+
+class-of-requires : tie.Need-class-of-requires Inv-loop μ-loop
+class-of-requires c κs = search needs
+
+add-place : tie.Need-add-place Inv-loop μ-loop
+add-place c = omega (arith, c .before .before .before .before .loop .inv .within)
+
+add-column : tie.Need-add-column Inv-loop μ-loop
+add-column c = omega (arith, c .before .before .before .before .loop .inv .within)
+
+loop-less : tie.Need-loop-less Inv-loop μ-loop
+loop-less c = omega (arith, c .before .before .before .loop-test)
+
+loop-again : tie.Need-loop-again Inv-loop μ-loop
+loop-again c =
+    let s = (now (c .before .before .before .before .before .before .args .s)) in
+    let l = c .before .before .before .before .loop in
+    let d = cursor (l .place) (l .line) (l .column) (l .mark) in
+    arm (λ k. class (getD s (l .place) 0) ≡ k → Skipping s (c .before .before .before .before .before .before .args .c) 0 (cursor (l .place + 1) (l .line) (l .column + 1) (l .mark))) (Gap ∷ Return ∷ []) _ (c .match .keys1)
+    (λ e. skip-gap s _ d (l .inv) (c .before .before .before .loop-test .left) e, (λ e. skip-return s _ d (l .inv) (c .before .before .before .loop-test .left) e, tt))
+    (sym (c .before .class-of .ensures))
+
+enum-told : tie.Need-enum-told Inv-loop μ-loop
+enum-told c = search needs
+
+add-line-end : tie.Need-add-line-end Inv-loop μ-loop
+add-line-end c = omega (arith, c .before .before .before .before .before .loop .inv .within)
+
+line-end-requires : tie.Need-line-end-requires Inv-loop μ-loop
+line-end-requires c κs = omega (arith, c .before .before .before .before .loop-test)
+
+-- the byte is a backslash
+is-slash : (c : tie.After-line-end Inv-loop μ-loop) → class (getD (now (c .before .before .before .before .before .before .before .before .args .s)) (c .before .before .before .before .before .before .loop .place) 0) ≡ Slash
+is-slash c = sym (c .before .before .before .class-of .ensures) ∙ c .before .enum-told .given .1
+
+-- its line end is inside the text
+owed-fits : (c : tie.After-line-end Inv-loop μ-loop) → c .before .before .before .before .before .before .loop .place + 1 + lineEnd (drop (c .before .before .before .before .before .before .loop .place + 1) (now (c .before .before .before .before .before .before .before .before .args .s))) ≤ length (now (c .before .before .before .before .before .before .before .before .args .s))
+owed-fits c = line-end-fits (now (c .before .before .before .before .before .before .before .before .args .s)) (c .before .before .before .before .before .before .loop .place + 1) (omega (arith, c .before .before .before .before .before .loop-test))
+
+add-place-2 : tie.Need-add-place-2 Inv-loop μ-loop
+add-place-2 c = omega (arith, c .before .before .before .before .before .before .before .loop .inv .within)
+
+add-column-2 : tie.Need-add-column-2 Inv-loop μ-loop
+add-column-2 c = omega (arith, c .before .before .before .before .before .before .before .loop .inv .within)
+
+loop-less-2 : tie.Need-loop-less-2 Inv-loop μ-loop
+loop-less-2 c = omega (arith, c .before .before .before .before .before .before .loop-test)
+
+loop-again-2 : tie.Need-loop-again-2 Inv-loop μ-loop
+loop-again-2 c =
+    let l = c .before .before .before .before .before .before .before .loop in
+    skip-slash (now (c .before .before .before .before .before .before .before .before .before .args .s)) _ (cursor (l .place) (l .line) (l .column) (l .mark)) (l .inv) (c .before .before .before .before .before .before .loop-test .left) (is-slash (c .before)) (sym (c .before .line-end .ensures) ∙ c .if1 .taken)
+
+add-place-3 : tie.Need-add-place-3 Inv-loop μ-loop
+add-place-3 c = omega (arith, owed-fits (c .before), c .before .line-end .ensures)
+
+add-place-4 : tie.Need-add-place-4 Inv-loop μ-loop
+add-place-4 c = omega (arith, owed-fits (c .before), c .before .line-end .ensures)
+
+add-line : tie.Need-add-line Inv-loop μ-loop
+add-line c = omega (arith, c .before .before .before .before .before .before .before .loop .inv .within)
+
+loop-less-3 : tie.Need-loop-less-3 Inv-loop μ-loop
+loop-less-3 c = omega (arith, c .before .before .before .before .before .before .loop-test)
+
+loop-again-3 : tie.Need-loop-again-3 Inv-loop μ-loop
+loop-again-3 c =
+    let s = (now (c .before .before .before .before .before .before .before .before .before .args .s)) in
+    let l = c .before .before .before .before .before .before .before .loop in
+    let f = c .before .line-end .ensures in
+    let a : Ending s (l .place + 1) (c .before .line-end .result) = rw f (ending s (l .place + 1)) in
+    skip-end s _ (cursor (l .place) (l .line) (l .column) (l .mark)) (l .inv) (c .before .before .before .before .before .before .loop-test .left) (is-slash (c .before)) a (c .if1 .left) (sym f)
+
+returns : tie.Need-returns Inv-loop μ-loop
+returns c =
+    let l = c .before .loop in
+    skip-past (now (c .before .before .before .args .s)) _ (cursor (l .place) (l .line) (l .column) (l .mark)) (l .inv) (c .before .before .before .pre) (c .loop-test .taken)
+
+returns-2 : tie.Need-returns-2 Inv-loop μ-loop
+unfolding beforeBy
+returns-2 c =
+    let s = (now (c .before .before .before .before .before .before .args .s)) in
+    let l = c .before .before .before .before .loop in
+    let d = cursor (l .place) (l .line) (l .column) (l .mark) in
+    let stops = skip-stop s _ d (l .inv) (c .before .before .before .loop-test .left) in
+    let w = c .before .before .before .before .before .before .pre in
+    arm (λ k. class (getD s (l .place) 0) ≡ k → Skipped s (c .before .before .before .before .before .before .args .c) d) (Feed ∷ Upright ∷ Hash ∷ Quote ∷ Other ∷ []) _ (c .match .keys3)
+    (λ e. stops Feed e (λ r. refl) w, (λ e. stops Upright e (λ r. refl) w, (λ e. stops Hash e (λ r. refl) w, (λ e. stops Quote e (λ r. refl) w, (λ e. stops Other e (λ r. refl) w, tt)))))
+    (sym (c .before .class-of .ensures))
+
+pub skip-blanks-spec : {M : Type 1} → statement M
+skip-blanks-spec =
+    tie.close
+    (tie.spec
+    Inv-loop
+    μ-loop
+    loop-holds
+    shared-slice-read-class-of
+    class-of-requires
+    add-place
+    add-column
+    loop-less
+    loop-again
+    enum-told
+    add-line-end
+    line-end-requires
+    add-place-2
+    add-column-2
+    loop-less-2
+    loop-again-2
+    add-place-3
+    add-place-4
+    add-line
+    loop-less-3
+    loop-again-3
+    returns
+    returns-2)

@@ -1,0 +1,11 @@
+pub mod Bytes
+pub mod Cursors
+pub mod Runs
+pub mod Rules
+pub mod Tokens
+pub mod Places
+pub mod Parts
+pub mod Cases
+pub mod Layout
+pub mod Promises
+pub mod Steps

@@ -1,0 +1,111 @@
+-- What the public calls promise, by document 01's table: the answer, and every byte of lent memory, on every path.
+use mathlib.Core.Path.{_≡_}
+use Prim.Native.Nat.{ℕ, _-_}
+use mathlib.Core.Bool.{Bool, true, false}
+use mathlib.Core.List.{List, [], _∷_, _++_}
+use lib.ListN.{length, drop}
+use lib.Dec.{ltb, leb, eqb}
+use Rattle.ascii.specs.Choice.{pick}
+use Rattle.lent.specs.Sizes.{cursorMost, tokenWords, roomFor}
+use Rattle.lent.specs.Gates.{gateOf}
+use Rattle.lent.specs.Table.{Given, given, tooLong, notAscii, shortBuffer, noRoom, badCursor, refused, refusedText, Outcome, refuses, reads, pastGate, Filled, givenBy, textBy, recordsBy}
+use Rattle.lexer.specs.Cursors.{Cursor}
+use Rattle.lexer.specs.Tokens.{Token, Reading, next, reading, nothing, token}
+use Rattle.lexer.specs.Tokens as T
+use Rattle.lexer.specs.Layout.{kindCode, wordsFrom, texts}
+use Rattle.lexer.specs.declared.stepping.Lexeme.{Lexeme}
+use Rattle.lexer.specs.declared.stepping.Step.{Step}
+use Rattle.lexer.specs.declared.stepping.Step.the-variants as Step
+use Rattle.lexer.specs.declared.writing.Answer.{Answer}
+use Rattle.lexer.specs.declared.writing.Answer.the-variants as Answer
+
+-- ---- one token
+
+abbrev pub bit : Bool → ℕ
+bit true = 1
+bit false = 0
+
+-- A cursor's values: place, line, column and mark.
+abbrev pub cursorValues : Cursor → List ℕ
+cursorValues c = c .place ∷ c .line .0 ∷ c .column .0 ∷ bit (c .mark) ∷ []
+
+-- A token's values: kind, line, column, first byte and text length, then the next cursor, at whose place the token ends.
+abbrev pub lexemeValues : Lexeme → List ℕ
+lexemeValues t = kindCode (t .kind) ∷ t .line .0 ∷ t .column .0 ∷ t .first ∷ t .len ∷ cursorValues (t .next)
+
+-- The paper's number and values for each answer of a step: 1 and a token, or 0 and where reading stands.
+abbrev pub stepGiven : Step → Given
+stepGiven (Step.Token t) = given 0 (1 ∷ lexemeValues t)
+stepGiven (Step.Nothing c) = given 0 (0 ∷ cursorValues c)
+stepGiven Step.TooLong = refused tooLong
+stepGiven (Step.NotAscii place) = refused (notAscii place)
+stepGiven Step.Short = refused shortBuffer
+stepGiven Step.BadCursor = refused badCursor
+
+-- A line or a column: not 0, and at most one more than the limit.
+abbrev pub counted : ℕ → Bool
+counted n = pick (eqb n 0) false (leb n cursorMost)
+
+-- Number 9: the place is past the end, or the line or the column is none.
+abbrev pub cursorRefused : List ℕ → Cursor → Bool
+cursorRefused s c = pick (ltb (length s) (c .place)) true (pick (counted (c .line .0)) (pick (counted (c .column .0)) false true) true)
+
+-- The source's token, and the text that is written for it.
+abbrev pub lexeme : Token → Cursor → Lexeme
+lexeme t c = record { kind = t .kind; line = t .line; column = t .column; first = t .first; len = length (t .text); next = c }
+
+-- What a step gives, and the text that it writes.
+abbrev pub stepValues : T.Step → List ℕ
+stepValues (nothing c) = 0 ∷ cursorValues c
+stepValues (token t e) = 1 ∷ lexemeValues (lexeme t (e .here))
+
+abbrev pub stepText : T.Step → List ℕ
+stepText (nothing c) = []
+stepText (token t e) = t .text
+
+-- What a call of next_token comes to, with n bytes of text lent: checks 1, 2, 3 and 9, then the token.
+unfoldable pub nextOutcome : List ℕ → Cursor → ℕ → Outcome T.Step
+nextOutcome s c n =
+    pastGate (gateOf s n (length s)) (pick (cursorRefused s c) (refuses badCursor) (reads (next (drop (c .place) s) c)))
+
+abbrev pub nextGivenBy : Outcome T.Step → Given
+nextGivenBy (refuses f) = refused f
+nextGivenBy (reads x) = given 0 (stepValues x)
+
+-- The text stands at the buffer's front, and nothing beyond is touched.
+abbrev pub nextTextBy : Outcome T.Step → List ℕ → List ℕ
+nextTextBy (refuses f) old = refusedText f old
+nextTextBy (reads x) old = stepText x ++ drop (length (stepText x)) old
+
+pub record NextToken (s : List ℕ) (c : Cursor) (old new : List ℕ) (r : Step) : Type 0 where
+  pub answer : stepGiven r ≡ nextGivenBy (nextOutcome s c (length old))
+  pub text : new ≡ nextTextBy (nextOutcome s c (length old)) old
+
+-- ---- a whole text
+
+-- The paper's number and values for each answer: the count of records, the length of the texts, and the stop's place, line and column.
+abbrev pub answerGiven : Answer → Given
+answerGiven (Answer.Read count used place line column) = given 0 (count ∷ used ∷ place ∷ line .0 ∷ column .0 ∷ [])
+answerGiven Answer.TooLong = refused tooLong
+answerGiven (Answer.NotAscii place) = refused (notAscii place)
+answerGiven Answer.Short = refused shortBuffer
+answerGiven (Answer.NoRoom needed) = refused (noRoom needed)
+
+-- A reading laid out: the values returned, the texts, and the records' words.
+abbrev pub laidOut : Reading → Filled
+laidOut x = record {
+  values = length (x .tokens) ∷ length (texts (x .tokens)) ∷ x .stop .place ∷ x .stop .line .0 ∷ x .stop .column .0 ∷ [];
+  texts = texts (x .tokens);
+  words = wordsFrom 0 (x .tokens);
+}
+
+-- What a call of tokens comes to, with n bytes of text and m words of records lent: checks 1, 2 and 3, the reading, and then 4.
+unfoldable pub tokensOutcome : List ℕ → ℕ → ℕ → Outcome Filled
+tokensOutcome s n m =
+    pastGate (gateOf s n (length s))
+    (pick (ltb (roomFor tokenWords m) (length (reading s .tokens))) (refuses (noRoom (length (reading s .tokens)))) (reads (laidOut (reading s))))
+
+pub record Tokens (s text text′ records records′ : List ℕ) (r : Answer) : Type 0 where
+  pub answer : answerGiven r ≡ givenBy (tokensOutcome s (length text) (length records))
+  pub texts : text′ ≡ textBy (tokensOutcome s (length text) (length records)) text
+  pub words : records′ ≡ recordsBy (tokensOutcome s (length text) (length records)) records
