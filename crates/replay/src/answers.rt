@@ -1,5 +1,6 @@
 // One answer, by the question's letter. docs/VECTORS.md lists the letters.
 use crate::hexes;
+use crate::lexing;
 use ascii::Number;
 use names::Lookup;
 
@@ -65,6 +66,8 @@ pub fn answer(letter: u8, body: &[u8]) {
         b'v' => print_code(names::variable_code(body)),
         b'o' => print_code(names::operator_code(body)),
         b's' => print_code(names::severity_code(body)),
+        b'T' => lexing::print_tokens(body),
+        b'S' => lexing::print_step(body),
         b'c' => print_flags(hexes::word(body)),
         _ => {
             io::write_all(1, b"?");

@@ -53,8 +53,16 @@ fn print_byte(b: u8) {
 }
 
 pub fn print(s: &[u8]) {
+    print_front(s, s.len());
+}
+
+// The first `n` bytes, or all.
+pub fn print_front(s: &[u8], n: usize) {
     let mut i = 0;
-    while i < s.len() {
+    while i < n {
+        if s.len() <= i {
+            return;
+        }
         print_byte(s[i]);
         i += 1;
     }

@@ -2,6 +2,7 @@
 // has the original's answers, and the check compares the two.
 mod answers;
 mod hexes;
+mod lexing;
 mod lines;
 
 use lines::Line;

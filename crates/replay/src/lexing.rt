@@ -1,0 +1,135 @@
+// The lexer's answers: a whole text, and one step.
+use crate::hexes;
+use lexer::Answer;
+use lexer::Column;
+use lexer::Cursor;
+use lexer::Kind;
+use lexer::Lexeme;
+use lexer::Line;
+use lexer::Step;
+
+fn print_number(n: u64) {
+    io::print_decimal(1, n);
+    io::write_all(1, b" ");
+}
+
+// The words of the first `count` records.
+fn print_records(records: &[u64], count: usize) {
+    let mut i = 0;
+    while i < records.len() {
+        if count <= i / 5 {
+            return;
+        }
+        print_number(records[i]);
+        i += 1;
+    }
+}
+
+fn print_text(text: &[u8], len: usize) {
+    if len == 0 {
+        io::write_all(1, b"-");
+    } else {
+        hexes::print_front(text, len);
+    }
+}
+
+// A refusal's number, with the value beside it and no text.
+fn print_refusal(number: u64, value: usize) {
+    print_number(number);
+    print_number(value as u64);
+    io::write_all(1, b"-");
+}
+
+// Records needed, where the buffer of this program is too small for them.
+pub fn print_tokens(input: &[u8]) {
+    let mut text = [0u8; 16384];
+    let mut records = [0u64; 20480];
+    match lexer::tokens(input, &mut text, &mut records) {
+        Answer::Read {
+            count,
+            text: used,
+            place,
+            line,
+            column,
+        } => {
+            print_number(0);
+            print_number(count as u64);
+            print_number(place as u64);
+            print_number(line.0 as u64);
+            print_number(column.0 as u64);
+            print_number(used as u64);
+            print_records(&records, count);
+            print_text(&text, used);
+        }
+        Answer::TooLong => print_refusal(1, 16384),
+        Answer::NotAscii(place) => print_refusal(2, place),
+        Answer::Short => print_refusal(3, 0),
+        Answer::NoRoom(needed) => print_refusal(4, needed),
+    }
+}
+
+fn kind_code(k: Kind) -> u64 {
+    match k {
+        Kind::Directive => 1,
+        Kind::Word => 2,
+        Kind::QuotedString => 3,
+        Kind::Comment => 4,
+        Kind::Newline => 5,
+    }
+}
+
+fn print_cursor(c: Cursor) {
+    print_number(c.place as u64);
+    print_number(c.line.0 as u64);
+    print_number(c.column.0 as u64);
+    print_number(c.mark as u64);
+}
+
+// A token's record, as the original's is laid out: its text starts at 0.
+fn print_lexeme(t: Lexeme) {
+    let kind = t.kind;
+    let past = t.next.place;
+    let first = t.first;
+    print_number(kind_code(kind));
+    print_number(t.line.0 as u64);
+    print_number(t.column.0 as u64);
+    if first <= past {
+        print_number((first as u64 % 65536) * 65536 + (past - first) as u64 % 65536);
+    }
+    print_number(t.len as u64);
+}
+
+// The body is a cursor, three words and a byte, and then the text.
+pub fn print_step(body: &[u8]) {
+    if body.len() < 25 {
+        return;
+    }
+    let from = Cursor {
+        place: hexes::word(&body[..8]) as usize,
+        line: Line(hexes::word(&body[8..16]) as usize),
+        column: Column(hexes::word(&body[16..24]) as usize),
+        mark: body[24] == 1,
+    };
+    let mut text = [0u8; 16384];
+    match lexer::next_token(&body[25..], from, &mut text) {
+        Step::Token(t) => {
+            let next = t.next;
+            let len = t.len;
+            print_number(0);
+            print_number(1);
+            print_cursor(next);
+            print_lexeme(t);
+            print_text(&text, len);
+        }
+        Step::Nothing(c) => {
+            print_number(0);
+            print_number(0);
+            print_cursor(c);
+            io::write_all(1, b"-");
+        }
+        Step::TooLong => print_refusal(1, 16384),
+        Step::NotAscii(place) => print_refusal(2, place),
+        Step::Short => print_refusal(3, 0),
+        Step::BadCursor => print_refusal(9, 0),
+    }
+}
