@@ -4,3 +4,4 @@ pub mod HighLaws
 pub mod GateLaws
 pub mod SpanLaws
 pub mod TableLaws
+pub mod OutcomeLaws

@@ -1,3 +1,6 @@
+-- Damage stays in its line. For a text cut into a front that is closed (empty, or ending in a line feed that its last Newline or
+-- Comment token holds), one line without quotation marks, backslash, LF, VT or FF and closed by a LF, and any rest: the tokens of the
+-- whole are those of the three parts read by themselves, with equal kinds, texts and columns, and lines raised only by the line feeds before.
 -- The third demand: a line in a text is read as if it stood alone, and so are what stands before and behind it.
 -- What stands behind a closed text is read as if it stood alone, and this is used twice: behind the front, and behind the line.
 use mathlib.Core.Path.{_≡_, refl, ap, ap₂, _∙_}

@@ -22,3 +22,8 @@ pub mod AnswerLaws
 pub mod LayoutLaws
 pub mod WholeLaws
 pub mod AllLaws
+pub mod GivenLaws
+pub mod PromiseLaws
+pub mod ReadLaws
+pub mod DecodeLaws
+pub mod Demand3Promise

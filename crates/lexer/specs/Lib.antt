@@ -9,3 +9,5 @@ pub mod Cases
 pub mod Layout
 pub mod Promises
 pub mod Steps
+pub mod Decoding
+pub mod Calls
