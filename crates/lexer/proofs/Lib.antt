@@ -27,3 +27,4 @@ pub mod PromiseLaws
 pub mod ReadLaws
 pub mod DecodeLaws
 pub mod Demand3Promise
+pub mod ReadingLaws

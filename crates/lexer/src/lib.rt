@@ -4,10 +4,16 @@ mod bytes;
 mod comments;
 mod moving;
 mod quotes;
+mod reading;
 mod stepping;
 mod words;
 mod writing;
 
+pub use reading::Reader;
+pub use reading::first_token;
+pub use reading::next_of;
+pub use reading::reader_at;
+pub use reading::reader_of;
 pub use stepping::Lexeme;
 pub use stepping::Step;
 pub use stepping::next_token;

@@ -1,0 +1,48 @@
+// A reader that holds its text, as the Rust's lexer does; the work is next_token's.
+ghost use mathlib.Core.Path.{_≡_};
+ghost use Rattle.lexer.specs.Cursors.{fresh};
+ghost use Rattle.lexer.specs.Promises.{NextToken};
+use crate::Cursor;
+use crate::stepping::Step;
+use crate::stepping::next_token;
+use crate::writing::start;
+
+// The Rust's Lexer<'a>: the text, and where reading stands in it.
+pub struct Reader<'a> {
+    pub text: &'a [u8],
+    pub cursor: Cursor,
+}
+
+// Lexer::new, under another name since a function `reader` and a struct `Reader` would clash.
+pub fn reader_of<'a>(text: &'a [u8]) -> Reader<'a>
+    ensures { λ r. ⌜ (r .text ≡ text .entry) × (r .cursor ≡ fresh) ⌝ }
+{
+    Reader {
+        text,
+        cursor: start(),
+    }
+}
+
+// The same text from another cursor: a step cannot hand a reader back, since no enum holds a reference.
+pub fn reader_at<'a>(r: Reader<'a>, cursor: Cursor) -> Reader<'a>
+    ensures { λ q. ⌜ (q .text ≡ r .entry .text) × (q .cursor ≡ cursor) ⌝ }
+{
+    Reader {
+        text: r.text,
+        cursor,
+    }
+}
+
+// Lexer::next_token, on the reader's text and cursor.
+pub fn next_of<'a>(r: Reader<'a>, out: &mut [u8]) -> Step
+    ensures { λ s. ⌜ NextToken (now (r .entry .text)) (r .entry .cursor) (now (out .entry)) (now (out .exit)) s ⌝ }
+{
+    next_token(r.text, r.cursor, out)
+}
+
+// A text's first token: its parameters are plain, so whoever calls it needs no walk by hand.
+pub fn first_token(text: &[u8], out: &mut [u8]) -> Step
+    ensures { λ s. ⌜ NextToken (now (text .entry)) fresh (now (out .entry)) (now (out .exit)) s ⌝ }
+{
+    next_of(reader_of(text), out)
+}
