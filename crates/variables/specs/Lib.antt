@@ -1,0 +1,5 @@
+pub mod Parts
+pub mod Variables
+pub mod Layout
+pub mod Promises
+pub mod Cases

@@ -1,0 +1,107 @@
+-- One variable, and the lists that are read from pieces.
+use Prim.Native.Nat.{ℕ, suc, _-_}
+use mathlib.Core.Bool.{Bool, true, false}
+use mathlib.Core.List.{List, [], _∷_, _++_}
+use lib.ListN.{length, take, drop, getD}
+use lib.Dec.{eqb, ltb}
+use Rattle.ascii.specs.Choice.{pick, and}
+use Rattle.names.specs.Variables.{variableCode}
+use Rattle.names.specs.declared.Lookup.{Lookup}
+use Rattle.names.specs.declared.Lookup.the-variants.{Code, Unknown}
+
+-- ---- one variable
+
+-- A text before the first colon, and what follows it if there is one: bytes().position(|b| b == b':').
+pub data Split : Type 0 where
+  whole : List ℕ → Split
+  parted : List ℕ → List ℕ → Split
+
+abbrev pub before : ℕ → Split → Split
+before b (whole s) = whole (b ∷ s)
+before b (parted s t) = parted (b ∷ s) t
+
+unfoldable pub atColon : List ℕ → Split
+atColon [] = whole []
+atColon (b ∷ r) = pick (eqb b 58) (parted [] r) (before b (atColon r))
+
+-- The Rust's Selection, or none.
+pub data Selection : Type 0 where
+  none : Selection
+  key : List ℕ → Selection
+  regex : List ℕ → Selection
+
+-- A selection is a regex where it starts and ends with `/` and is longer than two bytes.
+unfoldable pub selection : List ℕ → Selection
+selection s =
+    pick (and (eqb (getD s 0 0) 47) (and (eqb (getD s (length s - 1) 0) 47) (ltb 2 (length s)))) (regex (take (length s - 2) (drop 1 s))) (key s)
+
+-- The Rust's VariableSpec, without exclusions, which hold for every variable of a list.
+pub record Variable : Type 0 where
+  pub code : ℕ
+  pub counts : Bool
+  pub chosen : Selection
+
+-- A variable, or the name that is none.
+pub data Single : Type 0 where
+  variable : Variable → Single
+  unknown : List ℕ → Single
+
+abbrev pub named : Lookup → List ℕ → Bool → Selection → Single
+named (Code c) name counts chosen = variable (record { code = c; counts = counts; chosen = chosen })
+named Unknown name counts chosen = unknown name
+
+abbrev pub splitSingle : Split → Bool → Single
+splitSingle (whole name) counts = named (variableCode name) name counts none
+splitSingle (parted name t) counts = named (variableCode name) name counts (selection t)
+
+-- parse_single_variable, on a part that is trimmed: `&` first is count mode.
+unfoldable pub single : List ℕ → Single
+single [] = splitSingle (atColon []) false
+single (b ∷ r) = pick (eqb b 38) (splitSingle (atColon r) true) (splitSingle (atColon (b ∷ r)) false)
+
+-- ---- a list
+
+-- What a list is read to: variables and exclusions, each in order; or the first name that is none, with its piece.
+pub data Targets : Type 0 where
+  targets : List Variable → List (List ℕ) → Targets
+  refused : ℕ → List ℕ → Targets
+
+-- One piece read before the others.
+abbrev pub withVariable : Single → Targets → Targets
+withVariable (variable v) (targets vs es) = targets (v ∷ vs) es
+withVariable (variable v) (refused i n) = refused (suc i) n
+withVariable (unknown n) (targets vs es) = refused 0 n
+withVariable (unknown n) (refused i m) = refused 0 n
+
+abbrev pub withExclusion : List ℕ → Targets → Targets
+withExclusion e (targets vs es) = targets vs (e ∷ es)
+withExclusion e (refused i n) = refused (suc i) n
+
+-- An exclusion's name up to a colon, looked up: only parse_update_targets does.
+abbrev pub frontOf : Split → List ℕ
+frontOf (whole s) = s
+frontOf (parted s t) = s
+
+abbrev pub ifKnown : Lookup → List ℕ → Targets → Targets
+ifKnown (Code c) n ts = ts
+ifKnown Unknown n ts = refused 0 n
+
+-- What `!` does with the text behind it, in each of the two parsers.
+abbrev pub Excluding : Type 0
+Excluding = List ℕ → Targets → Targets
+
+abbrev pub asWritten : Excluding
+asWritten e ts = withExclusion e ts
+
+abbrev pub lookedUp : Excluding
+lookedUp e ts = ifKnown (variableCode (frontOf (atColon e))) (frontOf (atColon e)) (withExclusion e ts)
+
+-- A piece: an exclusion behind `!`, else a variable.
+abbrev pub piece : Excluding → List ℕ → Targets → Targets
+piece ex [] ts = withVariable (single []) ts
+piece ex (b ∷ r) ts = pick (eqb b 33) (ex r ts) (withVariable (single (b ∷ r)) ts)
+
+-- The loops of parse_variables and parse_update_targets over their pieces.
+unfoldable pub readAll : Excluding → List (List ℕ) → Targets
+readAll ex [] = targets [] []
+readAll ex (p ∷ ps) = piece ex p (readAll ex ps)

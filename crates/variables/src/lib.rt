@@ -1,0 +1,15 @@
+// Variables and update targets (document 01, module 5): types, until their parsers land.
+
+// What a list of variables or of update targets answers.
+pub enum Answer {
+    // 0: how many records and bytes of text.
+    Read { count: usize, text: usize },
+    // The numbers 1, 2 and 3.
+    TooLong,
+    NotAscii(usize),
+    Short,
+    // 7: the piece, and the length of the name that is none.
+    Unknown { piece: usize, name: usize },
+    // 4: the records needed.
+    NoRoom(usize),
+}
