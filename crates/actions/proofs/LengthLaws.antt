@@ -1,0 +1,76 @@
+-- The texts of an accepted list, and the name of a refused one, are no longer than the normalised text; those of a setvar alone than the input plus 3.
+-- Each piece pays for its own.
+use mathlib.Core.List.{List, [], _∷_}
+use Prim.Native.Nat.{ℕ, suc, _+_, _≤_}
+use native.Mathlib.Omega.{arith}
+use lib.ListN.{length, length-append}
+use Rattle.lent.specs.Table.{tooLong, notAscii, shortBuffer, noRoom, unknownAction, badArgument, unknownVariable, unknownOperator, badCursor, Outcome, refuses, reads}
+use Rattle.actions.specs.Normal.{normalised}
+use Rattle.actions.specs.Pieces.{pieces}
+use Rattle.actions.specs.Setvar.{setvar}
+use Rattle.actions.specs.Actions.{Action, Single, done, bad, unknown, setvarAction, single}
+use Rattle.actions.specs.Lists.{actionThen, singleThen, actionsFrom, actionsOf}
+use Rattle.actions.specs.Layout.{actionText, texts}
+use Rattle.actions.specs.Promises.{setvarAlone}
+use Rattle.actions.proofs.PieceLaws.{total, pieces-total}
+use Rattle.actions.proofs.SingleLaws.{Within, setvar-text, single-within}
+
+-- ---- a list
+
+-- what a list writes is at most n bytes long
+abbrev pub Fits : ℕ → Outcome (List Action) → Type 0
+Fits n (reads xs) = length (texts xs) ≤ n
+Fits n (refuses (unknownAction k name)) = length name ≤ n
+Fits n (refuses (badArgument k name)) = length name ≤ n
+Fits n (refuses tooLong) = Unit {0}
+Fits n (refuses (notAscii k)) = Unit {0}
+Fits n (refuses shortBuffer) = Unit {0}
+Fits n (refuses (noRoom k)) = Unit {0}
+Fits n (refuses (unknownVariable k name)) = Unit {0}
+Fits n (refuses (unknownOperator k l)) = Unit {0}
+Fits n (refuses badCursor) = Unit {0}
+
+action-fits : (x : Action) (o : Outcome (List Action)) (m n : ℕ) → length (actionText x) ≤ m → Fits n o → Fits (m + n) (actionThen x o)
+unfolding texts
+action-fits x (reads xs) m n h k = omega (arith, length-append (actionText x) (texts xs))
+action-fits x (refuses (unknownAction p name)) m n h k = omega arith
+action-fits x (refuses (badArgument p name)) m n h k = omega arith
+action-fits x (refuses tooLong) m n h k = tt
+action-fits x (refuses (notAscii p)) m n h k = tt
+action-fits x (refuses shortBuffer) m n h k = tt
+action-fits x (refuses (noRoom p)) m n h k = tt
+action-fits x (refuses (unknownVariable p name)) m n h k = tt
+action-fits x (refuses (unknownOperator p l)) m n h k = tt
+action-fits x (refuses badCursor) m n h k = tt
+
+single-fits : (p : ℕ) (x : Single) (o : Outcome (List Action)) (m n : ℕ) → Within m x → Fits n o → Fits (m + n) (singleThen p x o)
+single-fits p (done x) o m n h k = action-fits x o m n h k
+single-fits p (bad name) o m n h k = omega arith
+single-fits p (unknown name) o m n h k = omega arith
+
+from-fits : (k : ℕ) (ps : List (List ℕ)) → Fits (total ps) (actionsFrom k ps)
+unfolding actionsFrom total texts
+from-fits k [] = omega arith
+from-fits k (p ∷ ps) = single-fits k (single p) (actionsFrom (suc k) ps) (length p) (total ps) (single-within p) (from-fits (suc k) ps)
+
+fits-more : (o : Outcome (List Action)) (m n : ℕ) → m ≤ n → Fits m o → Fits n o
+fits-more (reads xs) m n h k = omega arith
+fits-more (refuses (unknownAction p name)) m n h k = omega arith
+fits-more (refuses (badArgument p name)) m n h k = omega arith
+fits-more (refuses tooLong) m n h k = tt
+fits-more (refuses (notAscii p)) m n h k = tt
+fits-more (refuses shortBuffer) m n h k = tt
+fits-more (refuses (noRoom p)) m n h k = tt
+fits-more (refuses (unknownVariable p name)) m n h k = tt
+fits-more (refuses (unknownOperator p l)) m n h k = tt
+fits-more (refuses badCursor) m n h k = tt
+
+-- the texts of an accepted list, or the name of a refused one, are no longer than the normalised text
+pub actions-fit : (s : List ℕ) → Fits (length (normalised s)) (actionsOf s)
+unfolding actionsOf
+actions-fit s = fits-more (actionsFrom 0 (pieces (normalised s))) (total (pieces (normalised s))) (length (normalised s)) (pieces-total (normalised s)) (from-fits 0 (pieces (normalised s)))
+
+-- the texts of a setvar alone
+pub alone-fits : (s : List ℕ) → length (texts (setvarAlone s)) ≤ length s + 3
+unfolding texts
+alone-fits s = omega (arith, setvar-text 22 s, length-append (actionText (setvarAction 22 (setvar s))) [])

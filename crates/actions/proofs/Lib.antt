@@ -1,0 +1,17 @@
+pub mod NormalLaws
+pub mod PieceLaws
+pub mod SplitLaws
+pub mod MarkLaws
+pub mod SetvarLaws
+pub mod SingleLaws
+pub mod LengthLaws
+pub mod FindLaws
+pub mod LayoutLaws
+pub mod GivenLaws
+pub mod LoopLaws
+pub mod StripLaws
+pub mod TableLaws
+pub mod OutcomeLaws
+pub mod NormalLoop
+pub mod TrimmedLaws
+pub mod CountLaws

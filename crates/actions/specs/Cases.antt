@@ -1,0 +1,152 @@
+-- The worked lists of document 01, and a few more at the edges.
+use mathlib.Core.Path.{_≡_, refl}
+use Prim.Native.Nat.{_^_, _-_}
+use Prim.Native.String.{String}
+use mathlib.Core.List.{List, [], _∷_}
+use Rattle.ascii.specs.Text.{bytes}
+use Rattle.ascii.specs.Classes.{white, digit}
+use Rattle.ascii.specs.Fold.{lower, same}
+use Rattle.ascii.specs.Trim.{trimStart, trimEnd}
+use Rattle.ascii.specs.Numbers.{value, allDigits, digitsBy, unsignedBy, signedWord}
+use Rattle.lent.specs.Table.{Refusal, unknownAction, badArgument, Outcome, refuses, reads}
+use Rattle.names.specs.Tables as N
+use Rattle.names.specs.Severities.{severities, severityCode}
+use Rattle.actions.specs.Normal.{modeAfter, textGiven, textHeld, normalisedFrom, normalised}
+use Rattle.actions.specs.Marks.{quotation, stripStart, stripEnd, paired, unpaired}
+use Rattle.actions.specs.Pieces.{nestBare, nestQuoted, nestAfter, cuts, partsFrom, piecesOf, pieces}
+use Rattle.actions.specs.Splits.{split}
+use Rattle.actions.specs.Setvar.{SetValue, text, increment, decrement, delete, macro, setvarOf, varName, nameOf, hasMacro, plainValue, valueOf, setvarBare, setvar}
+use Rattle.actions.specs.Table.{rows, find}
+use Rattle.actions.specs.Actions.{absent, present, Action, action, numbered, worded, withText, withNone, named, single}
+use Rattle.actions.specs.Lists.{actionsFrom, actionsOf}
+
+-- A list's actions or its refusal. To unfold it is to unfold every definition that a list is read by.
+unfoldable pub Comes : String → Outcome (List Action) → Type 0
+unfolding bytes white digit lower same trimStart trimEnd value allDigits digitsBy unsignedBy signedWord N.find severities severityCode modeAfter textGiven textHeld normalisedFrom normalised quotation stripStart stripEnd paired unpaired nestBare nestQuoted nestAfter cuts partsFrom piecesOf pieces split nameOf hasMacro plainValue valueOf setvarBare setvar rows find withText withNone named single actionsFrom actionsOf
+Comes s o = actionsOf (bytes s) ≡ o
+
+-- A list that is accepted.
+abbrev pub Reads : String → List Action → Type 0
+Reads s xs = Comes s (reads xs)
+
+-- A list that is refused.
+abbrev pub Refuses : String → Refusal → Type 0
+Refuses s f = Comes s (refuses f)
+
+-- What a setvar alone says: collection, key, value.
+unfoldable pub Sets : String → String → String → SetValue → Type 0
+unfolding Comes
+Sets s c k v = setvar (bytes s) ≡ setvarOf (varName (bytes c) (bytes k)) v
+
+-- ---- document 01
+
+-- P: a number keeps its marks, and is none
+pub phase-marked : Refuses "phase:'2'" (badArgument 0 (bytes "phase"))
+unfolding Comes
+phase-marked = refl
+
+-- P: only a small `t:` is a transformation
+pub large-t : Refuses "T:none" (unknownAction 0 (bytes "t"))
+unfolding Comes
+large-t = refl
+
+-- P: any number of the width u8 is a severity
+pub severity-most : Reads "severity:255" (numbered 13 255 ∷ [])
+unfolding Comes
+severity-most = refl
+
+-- P: an empty part is no piece, and the first bad piece is the answer
+pub second-piece : Refuses "deny,,bogus,phase:x" (unknownAction 1 (bytes "bogus"))
+unfolding Comes
+second-piece = refl
+
+-- ids have the width u64
+pub id-most : Reads "id:18446744073709551615" (numbered 11 18446744073709551615 ∷ [])
+unfolding Comes
+id-most = refl
+
+pub id-over : Refuses "id:18446744073709551616" (badArgument 0 (bytes "id"))
+unfolding Comes
+id-over = refl
+
+-- ---- edges
+
+-- one pass: the backslash before a continuation stays, and so does the second line feed
+pub one-pass : Refuses "\\\\\n\n" (unknownAction 0 (bytes "\\"))
+unfolding Comes
+one-pass = refl
+
+-- a continuation goes with the whitespace up to the next line feed, and the part that is left is no piece
+pub continued : Refuses "deny,\\\r\r\n \t,x" (unknownAction 1 (bytes "x"))
+unfolding Comes
+continued = refl
+
+-- a bracket or a mark that stays open swallows the rest
+pub swallowed : Refuses "(,deny" (unknownAction 0 (bytes "(,deny"))
+unfolding Comes
+swallowed = refl
+
+pub apostrophe : Reads "msg:it's,deny" (worded 14 (bytes "it's,deny") ∷ [])
+unfolding Comes
+apostrophe = refl
+
+-- square brackets protect nothing
+pub square : Reads "msg:[a,deny" (worded 14 (bytes "[a") ∷ numbered 1 0 ∷ [])
+unfolding Comes
+square = refl
+
+-- the name is not trimmed
+pub blank-name : Refuses "deny :x" (unknownAction 0 (bytes "deny "))
+unfolding Comes
+blank-name = refl
+
+-- the one spelling with a capital
+pub spelled : Refuses "SKIPAFTER" (badArgument 0 (bytes "skipAfter"))
+unfolding Comes
+spelled = refl
+
+-- marks of both kinds go at both ends, and blanks inside them stay
+pub all-marks : Reads "tag: '',severity:'+5',msg:'\"x'\"" (worded 15 (bytes " ") ∷ numbered 13 5 ∷ worded 14 (bytes "x") ∷ [])
+unfolding Comes
+all-marks = refl
+
+-- an argument that is absent, and one that is empty
+pub empty-texts : Reads "msg,expirevar,redirect:,ctl:,t:"
+    (worded 14 [] ∷ action 25 0 (present []) absent ∷ worded 6 [] ∷ action 31 0 (present []) (present []) ∷ worded 32 [] ∷ [])
+unfolding Comes
+empty-texts = refl
+
+-- marks are kept before and behind `=`, and the seconds are unreadable
+pub expiry-marked : Reads "expirevar:'a=5'" (action 25 0 (present (bytes "'a")) absent ∷ [])
+unfolding Comes
+expiry-marked = refl
+
+-- ---- setvar
+
+pub step-twice : Sets "a=--5" "tx" "a" (decrement (2 ^ 64 - 5))
+unfolding Sets
+step-twice = refl
+
+pub step-unread : Sets "'TX.aB=+abc'" "tx" "aB" (increment 1)
+unfolding Sets
+step-unread = refl
+
+pub step-large : Sets "a=-9223372036854775808" "tx" "a" (decrement 1)
+unfolding Sets
+step-large = refl
+
+pub word-large : Sets "a=9223372036854775808" "tx" "a" (text (bytes "9223372036854775808"))
+unfolding Sets
+word-large = refl
+
+pub deleted : Sets " \"!A=b.c\" " "a=b" "c" delete
+unfolding Sets
+deleted = refl
+
+pub later-macro : Sets ".a=-1%{" "" "a" (macro (bytes "-1%{"))
+unfolding Sets
+later-macro = refl
+
+pub no-value : Sets "" "tx" "" (text (bytes "1"))
+unfolding Sets
+no-value = refl

@@ -1,0 +1,40 @@
+-- How actions become words and texts in lent memory.
+use Prim.Native.Nat.{ℕ, _+_}
+use mathlib.Core.List.{List, [], _∷_, _++_}
+use lib.ListN.{length}
+use Rattle.lent.specs.Sizes.{spanWord}
+use Rattle.actions.specs.Actions.{Slot, absent, present, Action}
+
+-- The bytes of a text.
+abbrev pub slotText : Slot → List ℕ
+slotText absent = []
+slotText (present t) = t
+
+-- Its span word, the offset o being reached: an absent text is 0.
+abbrev pub slotWord : ℕ → Slot → ℕ
+slotWord o absent = 0
+slotWord o (present t) = spanWord o (length t)
+
+-- The offset behind it.
+abbrev pub slotEnd : ℕ → Slot → ℕ
+slotEnd o s = o + length (slotText s)
+
+-- The texts of one action, in the order a, b, c.
+unfoldable pub actionText : Action → List ℕ
+actionText x = slotText (x .a) ++ (slotText (x .b) ++ slotText (x .c))
+
+-- The six words of an action whose texts start at the offset o.
+unfoldable pub actionRecord : ℕ → Action → List ℕ
+actionRecord o x =
+    x .code ∷ x .number ∷ slotWord o (x .a) ∷ slotWord (slotEnd o (x .a)) (x .b) ∷ x .kind ∷
+    slotWord (slotEnd (slotEnd o (x .a)) (x .b)) (x .c) ∷ []
+
+-- The words of all actions, one record after another, the first text at the offset o.
+unfoldable pub wordsFrom : ℕ → List Action → List ℕ
+wordsFrom o [] = []
+wordsFrom o (x ∷ xs) = actionRecord o x ++ wordsFrom (o + length (actionText x)) xs
+
+-- Their texts, one after another.
+unfoldable pub texts : List Action → List ℕ
+texts [] = []
+texts (x ∷ xs) = actionText x ++ texts xs

@@ -1,0 +1,12 @@
+pub mod Normal
+pub mod Marks
+pub mod Pieces
+pub mod Splits
+pub mod Setvar
+pub mod Table
+pub mod Actions
+pub mod Lists
+pub mod Layout
+pub mod Promises
+pub mod Cases
+pub mod CallCases
