@@ -1,0 +1,204 @@
+-- What the two calls promise, in plain words: every number exactly when it is given, what is given with it, and where it stands.
+-- The idea: lent's OutcomeLaws has numbers 1 and 2, and the name's lookup tells 8 from 0.
+use mathlib.Core.Path.{_≡_, _∙_, refl, sym, ap, subst}
+use mathlib.Core.Bool.{Bool, true, false}
+use mathlib.Core.List.{List, [], _∷_}
+use mathlib.Core.Logic.{_↔_, _⊎_, inl, inr}
+use Prim.Native.Nat.{ℕ, zero, suc, _-_, _≤_, _<_}
+use native.Mathlib.Omega.{arith}
+use lib.ListN.{length, take, drop}
+use lib.Seq.{length-take-le}
+use Rattle.ascii.specs.Trim.{trimStart, trimEnds}
+use Rattle.lent.specs.Sizes.{limit}
+use Rattle.lent.specs.Gates.{gateOf}
+use Rattle.lent.specs.Table.{Given, Outcome, refuses, reads, pastGate}
+use Rattle.lent.specs.declared.gating.Gate.{Gate}
+use Rattle.lent.specs.declared.gating.Gate.the-variants as Gate
+use Rattle.lent.proofs.HighLaws.{FirstAt}
+use Rattle.lent.proofs.GateLaws.{Opened, Row}
+use Rattle.lent.proofs.OutcomeLaws.{numberOf, Later, past-row, number-1, number-2, number-later}
+use Rattle.names.specs.Operators.{operatorCode}
+use Rattle.names.specs.declared.Lookup.{Lookup}
+use Rattle.names.specs.declared.Lookup.the-variants as Lookup
+use Rattle.operators.specs.Operators.{Spec, Reading, accepted, unknown, starts, nameLength, nameOf, afterName, unsigned, operator}
+use Rattle.operators.specs.Places.{afterAt, namePlace, isNamed, argumentPlace, textEnd}
+use Rattle.operators.specs.Promises.{answerGiven, outcomeOf, operatorOutcome, givenBy, argumentBy, partPlace, ParseOperator, OperatorArgument}
+use Rattle.operators.specs.Calls.{Missing, Meant, unwritten, written}
+use Rattle.operators.specs.declared.Answer.{Answer}
+use Rattle.operators.specs.declared.Answer.the-variants as Answer
+use Rattle.operators.proofs.NameLaws.{name-fits}
+use Rattle.operators.proofs.PlaceLaws.{name-stands, argumentText, argument-stands}
+use Rattle.operators.proofs.FoundLaws.{plain, known, missed}
+use Rattle.operators.proofs.AnswerLaws.{gate-argument}
+use Rattle.operators.proofs.GivenLaws.{answer-told}
+
+-- ---- past the gate
+
+-- what is read, by whether a name is written
+abbrev pub meaning : (s : List ℕ) → Meant s → Spec
+meaning s (unwritten h) = record { negated = starts 33 (trimEnds s); name = 0; argument = unsigned (trimEnds s) }
+meaning s (written h code l) = record { negated = starts 33 (trimEnds s); name = code; argument = trimStart (afterName (afterAt s)) }
+
+module _ (s : List ℕ) where
+  pub operator-meant : (m : Meant s) → operator s ≡ accepted (meaning s m)
+  operator-meant (unwritten h) = plain s h
+  operator-meant (written h code l) = known s h code l
+
+  pub operator-missing : Missing s → operator s ≡ unknown (nameOf (afterAt s))
+  operator-missing m = missed s (m .written) (m .missing)
+
+  -- one or the other
+  pub missing-or-meant : Missing s ⊎ Meant s
+  missing-or-meant = go (isNamed s) refl
+    where
+      look : isNamed s ≡ true → (l : Lookup) → operatorCode (nameOf (afterAt s)) ≡ l → Missing s ⊎ Meant s
+      look h (Lookup.Code code) e = inr (written h code e)
+      look h Lookup.Unknown e = inl (record { written = h; missing = e })
+
+      go : (b : Bool) → isNamed s ≡ b → Missing s ⊎ Meant s
+      go true h = look h (operatorCode (nameOf (afterAt s))) refl
+      go false h = inr (unwritten h)
+
+  abbrev past : Outcome Spec
+  past = outcomeOf s (operator s)
+
+  missing-number : Missing s → numberOf past ≡ 8
+  missing-number m = ap (λ (x : Reading). numberOf (outcomeOf s x)) (operator-missing m)
+
+  meant-number : Meant s → numberOf past ≡ 0
+  meant-number m = ap (λ (x : Reading). numberOf (outcomeOf s x)) (operator-meant m)
+
+  missing-is : (numberOf past ≡ 8) ↔ Missing s
+  missing-is = (λ z. go missing-or-meant z, missing-number)
+    where
+      go : Missing s ⊎ Meant s → numberOf past ≡ 8 → Missing s
+      go (inl m) z = m
+      go (inr m) z = absurd (omega (arith, meant-number m))
+
+  meant-is : (numberOf past ≡ 0) ↔ Meant s
+  meant-is = (λ z. go missing-or-meant z, meant-number)
+    where
+      go : Missing s ⊎ Meant s → numberOf past ≡ 0 → Meant s
+      go (inl m) z = absurd (omega (arith, missing-number m))
+      go (inr m) z = m
+
+  late : Later (numberOf past)
+  late = go missing-or-meant
+    where
+      go : Missing s ⊎ Meant s → Later (numberOf past)
+      go (inl m) = inr (omega (arith, missing-number m))
+      go (inr m) = inl (meant-number m)
+
+  -- The unknown name stands in the input, at the place given with it.
+  pub unknown-stands : Missing s → take (length (nameOf (afterAt s))) (drop (namePlace s) s) ≡ nameOf (afterAt s)
+  unknown-stands m =
+      ap (λ (k : ℕ). take k (drop (namePlace s) s)) (length-take-le (nameLength (afterAt s)) (afterAt s) (name-fits (afterAt s))) ∙ name-stands s
+
+-- ---- parse_operator
+
+given-number : (o : Outcome Spec) → givenBy o .number ≡ numberOf o
+given-number (refuses f) = refl
+given-number (reads x) = refl
+
+-- No number but 0, 1, 2 and 8.
+pub parse-operator-numbers : (r : Answer) → (answerGiven r .number ≡ 0) ⊎ ((answerGiven r .number ≡ 1) ⊎ ((answerGiven r .number ≡ 2) ⊎ (answerGiven r .number ≡ 8)))
+parse-operator-numbers (Answer.Parsed negated name) = inl refl
+parse-operator-numbers Answer.TooLong = inr (inl refl)
+parse-operator-numbers (Answer.NotAscii place) = inr (inr (inl refl))
+parse-operator-numbers (Answer.Unknown place len) = inr (inr (inr refl))
+
+module _ {s : List ℕ} {r : Answer} (x : ParseOperator s r) where
+  number-is : answerGiven r .number ≡ numberOf (pastGate (gateOf s 0 0) (past s))
+  unfolding operatorOutcome
+  number-is = ap (λ (g : Given). g .number) (x .answer) ∙ given-number (operatorOutcome s)
+
+  -- Number 1: the input is over the limit.
+  pub parse-operator-1 : (answerGiven r .number ≡ 1) ↔ (limit < length s)
+  parse-operator-1 = rw number-is (number-1 s 0 0 (past s) (late s))
+
+  -- Number 2: it is not, and a byte is 128 or more.
+  pub parse-operator-2 : (answerGiven r .number ≡ 2) ↔ ((length s ≤ limit) × ((p : ℕ) × FirstAt s p))
+  parse-operator-2 = rw number-is (number-2 s 0 0 (past s) (late s))
+
+  -- Number 8: none is, and a name is written that no operator has.
+  pub parse-operator-8 : (answerGiven r .number ≡ 8) ↔ (Opened s 0 0 × Missing s)
+  parse-operator-8 =
+      let n = number-later s 0 0 (past s) (late s) 8 (inr (omega arith)) in
+      rw number-is (λ e. (n .0 e .0, missing-is s .0 (n .0 e .1)), λ p. n .1 (p .0, missing-is s .1 (p .1)))
+
+  -- Number 0: none of these.
+  pub parse-operator-0 : (answerGiven r .number ≡ 0) ↔ (Opened s 0 0 × Meant s)
+  parse-operator-0 =
+      let n = number-later s 0 0 (past s) (late s) 0 (inl refl) in
+      rw number-is (λ e. (n .0 e .0, meant-is s .0 (n .0 e .1)), λ p. n .1 (p .0, meant-is s .1 (p .1)))
+
+  -- what is given back, by the gate's answer
+  by-gate : (g : Gate) → Row s 0 0 g → answerGiven r ≡ givenBy (pastGate g (past s))
+  unfolding operatorOutcome
+  by-gate g h = x .answer ∙ ap givenBy (past-row s 0 0 (past s) g h)
+
+  -- Each answer in full.
+  pub parse-operator-long : limit < length s → r ≡ Answer.TooLong
+  parse-operator-long h = answer-told r Answer.TooLong (by-gate Gate.TooLong h)
+
+  pub parse-operator-high : (p : ℕ) → (length s ≤ limit) × FirstAt s p → r ≡ Answer.NotAscii p
+  parse-operator-high p h = answer-told r (Answer.NotAscii p) (by-gate (Gate.NotAscii p) h)
+
+  pub parse-operator-unknown : Opened s 0 0 → Missing s → r ≡ Answer.Unknown (namePlace s) (length (nameOf (afterAt s)))
+  parse-operator-unknown o m =
+      answer-told r (Answer.Unknown (namePlace s) (length (nameOf (afterAt s))))
+      (by-gate Gate.Open o ∙ ap (λ (y : Reading). givenBy (outcomeOf s y)) (operator-missing s m))
+
+  pub parse-operator-reads : Opened s 0 0 → (m : Meant s) → r ≡ Answer.Parsed (meaning s m .negated) (meaning s m .name)
+  parse-operator-reads o m =
+      answer-told r (Answer.Parsed (meaning s m .negated) (meaning s m .name))
+      (by-gate Gate.Open o ∙ ap (λ (y : Reading). givenBy (outcomeOf s y)) (operator-meant s m))
+
+-- ---- operator_argument
+
+-- what was cut out of a list is as long as it is
+own-length : (n : ℕ) (l : List ℕ) → take (length (take n l)) l ≡ take n l
+own-length zero [] = refl
+own-length zero (x ∷ l) = refl
+own-length (suc n) [] = refl
+own-length (suc n) (x ∷ l) = ap (λ (r : List ℕ). x ∷ r) (own-length n l)
+
+front : (l : List ℕ) → take 0 l ≡ []
+front [] = refl
+front (x ∷ l) = refl
+
+module _ (s : List ℕ) where
+  text-stands : take (length (argumentText s (isNamed s))) (drop (argumentPlace s) s) ≡ argumentText s (isNamed s)
+  text-stands =
+      subst (λ (t : List ℕ). take (length t) (drop (argumentPlace s) s) ≡ t) (argument-stands s)
+      (own-length (textEnd s - argumentPlace s) (drop (argumentPlace s) s))
+
+  part-stands : (o : Outcome Spec) → (givenBy o .number ≡ 0 → argumentBy o ≡ argumentText s (isNamed s))
+      → take (length (argumentBy o)) (drop (partPlace s o) s) ≡ argumentBy o
+  part-stands (refuses f) h = front s
+  part-stands (reads x) h = subst (λ (t : List ℕ). take (length t) (drop (argumentPlace s) s) ≡ t) (sym (h refl)) text-stands
+
+module _ {s part : List ℕ} (x : OperatorArgument s part) where
+  argument-by : (g : Gate) → Row s 0 0 g → part ≡ argumentBy (pastGate g (past s))
+  unfolding operatorOutcome
+  argument-by g h = x .argument ∙ ap argumentBy (past-row s 0 0 (past s) g h)
+
+  -- It is a part of the input, at the place of the definition.
+  pub operator-argument-part : take (length part) (drop (partPlace s (operatorOutcome s)) s) ≡ part
+  unfolding operatorOutcome
+  operator-argument-part =
+      subst (λ (t : List ℕ). take (length t) (drop (partPlace s (pastGate (gateOf s 0 0) (past s))) s) ≡ t) (sym (x .argument))
+      (part-stands s (pastGate (gateOf s 0 0) (past s)) (gate-argument s (gateOf s 0 0)))
+
+  -- Empty on every refusal, and else the operator's own.
+  pub operator-argument-long : limit < length s → part ≡ []
+  operator-argument-long h = argument-by Gate.TooLong h
+
+  pub operator-argument-high : (p : ℕ) → (length s ≤ limit) × FirstAt s p → part ≡ []
+  operator-argument-high p h = argument-by (Gate.NotAscii p) h
+
+  pub operator-argument-unknown : Opened s 0 0 → Missing s → part ≡ []
+  operator-argument-unknown o m = argument-by Gate.Open o ∙ ap (λ (y : Reading). argumentBy (outcomeOf s y)) (operator-missing s m)
+
+  pub operator-argument-reads : Opened s 0 0 → (m : Meant s) → part ≡ meaning s m .argument
+  operator-argument-reads o m = argument-by Gate.Open o ∙ ap (λ (y : Reading). argumentBy (outcomeOf s y)) (operator-meant s m)

@@ -1,0 +1,61 @@
+-- The loop keeps that the name's bytes are those passed and those still to come.
+use mathlib.Core.Path.{_≡_, _∙_, sym}
+use Prim.Native.Nat.{_+_, _≤_, _-_}
+use native.Mathlib.Omega.{arith}
+use borrow.Author.Needs.{needs}
+use denote.Ref.{now}
+use lib.ListN.{length, drop}
+use Rattle.operators.specs.Operators.{nameLength}
+use Rattle.operators.proofs.NameLaws.{name-more, name-stop, name-end}
+use Rattle.operators.proofs.finding.name_length.Statement.{statement}
+use Rattle.operators.proofs.finding.name_length.Tie as tie
+
+abbrev Inv-loop : tie.InvT-loop
+Inv-loop s i₀ i = (i ≤ length s) × (i + nameLength (drop i s) ≡ nameLength s)
+
+abbrev μ-loop : tie.MeasureT-loop
+μ-loop s i₀ i = length s - i
+
+loop-holds : tie.Need-loop-holds Inv-loop μ-loop
+loop-holds c = (omega arith, omega arith)
+
+shared-slice-read-ends-name :
+    tie.Need-shared-slice-read-ends-name Inv-loop μ-loop
+shared-slice-read-ends-name c = search needs
+
+ends-name-requires : tie.Need-ends-name-requires Inv-loop μ-loop
+ends-name-requires c κs = search needs
+
+returns : tie.Need-returns Inv-loop μ-loop
+returns c =
+    let w = sym (c .before .ends-name .ensures) ∙ c .if1 .taken in
+    omega (arith, name-stop (now (c .before .before .before .before .before .before .args .s)) (c .before .before .before .before .loop .i) (c .before .before .before .loop-test .taken) w)
+
+add-i : tie.Need-add-i Inv-loop μ-loop
+add-i c = search needs
+
+loop-less : tie.Need-loop-less Inv-loop μ-loop
+loop-less c = search needs
+
+loop-again : tie.Need-loop-again Inv-loop μ-loop
+loop-again c =
+    let w = sym (c .before .ends-name .ensures) ∙ c .if1 .left in
+    omega (arith, name-more (now (c .before .before .before .before .before .before .args .s)) (c .before .before .before .before .loop .i) (c .before .before .before .loop-test .taken) w)
+
+returns-2 : tie.Need-returns-2 Inv-loop μ-loop
+returns-2 c = omega (arith, name-end (now (c .before .before .before .args .s)) (c .before .loop .i) (c .loop-test .left))
+
+pub name-length-spec : {M : Type 1} → statement M
+name-length-spec =
+    tie.close
+    (tie.spec
+    Inv-loop
+    μ-loop
+    loop-holds
+    shared-slice-read-ends-name
+    ends-name-requires
+    returns
+    add-i
+    loop-less
+    loop-again
+    returns-2)

@@ -1,0 +1,63 @@
+-- By whether a name is written, and then by its lookup; each way is one law of FoundLaws.
+use mathlib.Core.Path.{_≡_, _∙_, sym}
+use mathlib.Core.Bool.{true}
+use native.Mathlib.Omega.{arith}
+use borrow.Author.Needs.{needs}
+use borrow.Author.Tests.{not-true, not-false}
+use denote.Ref.{now}
+use Rattle.operators.proofs.FoundLaws.{name-ordered, name-within, answer-plain, answer-known, answer-unknown}
+use Rattle.operators.proofs.reading.parsed.Statement.{statement}
+use Rattle.operators.proofs.reading.parsed.Tie as tie
+
+find-requires : tie.Need-find-requires
+find-requires c κs = search needs
+
+returns : tie.Need-returns
+returns c = answer-plain (now (c .before .before .before .before .args .s)) _ (c .before .before .find .ensures) (not-true _ (c .if1 .taken))
+
+-- a name is written
+written : (c : tie.Else1) → c .before .before .find .result .named ≡ true
+written c = not-false _ (c .if1 .left)
+
+sub-operator-code : tie.Need-sub-operator-code
+sub-operator-code c = name-ordered (now (c .before .before .before .before .args .s)) _ (c .before .before .find .ensures) (written c)
+
+part-operator-code-start : tie.Need-part-operator-code-start
+part-operator-code-start c = omega (arith, name-ordered (now (c .before .before .before .before .args .s)) _ (c .before .before .find .ensures) (written c))
+
+part-operator-code-end : tie.Need-part-operator-code-end
+part-operator-code-end c = omega (arith, name-within (now (c .before .before .before .before .args .s)) _ (c .before .before .find .ensures) (written c))
+
+operator-code-requires : tie.Need-operator-code-requires
+operator-code-requires c κs = search needs
+
+enum-known-name : tie.Need-enum-known-name
+enum-known-name c = search needs
+
+enum-told : tie.Need-enum-told
+enum-told c = search needs
+
+sub-t13 : tie.Need-sub-t13
+sub-t13 c = name-ordered (now (c .before .before .before .before .before .before .before .before .args .s)) _ (c .before .before .before .before .before .before .find .ensures) (written (c .before .before .before .before))
+
+returns-2 : tie.Need-returns-2
+returns-2 c = answer-known (now (c .before .before .before .before .before .before .before .before .before .args .s)) _ (c .before .before .before .before .before .before .before .find .ensures) (written (c .before .before .before .before .before)) _ (sym (c .before .before .before .operator-code .ensures) ∙ c .before .name .given .1)
+
+returns-3 : tie.Need-returns-3
+returns-3 c = answer-unknown (now (c .before .before .before .before .before .before .before .before .args .s)) _ (c .before .before .before .before .before .before .find .ensures) (written (c .before .before .before .before)) (sym (c .before .before .operator-code .ensures) ∙ c .enum-told .given .1)
+
+pub parsed-spec : {M : Type 1} → statement M
+parsed-spec =
+    tie.close
+    (tie.spec
+    find-requires
+    returns
+    sub-operator-code
+    part-operator-code-start
+    part-operator-code-end
+    operator-code-requires
+    enum-known-name
+    enum-told
+    sub-t13
+    returns-2
+    returns-3)

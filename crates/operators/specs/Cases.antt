@@ -1,0 +1,88 @@
+-- The operator texts of document 01, and a few more.
+use mathlib.Core.Path.{_≡_, refl}
+use Prim.Native.Nat.{ℕ}
+use Prim.Native.String.{String}
+use mathlib.Core.Bool.{true, false}
+use mathlib.Core.List.{[]}
+use Rattle.ascii.specs.Text.{bytes}
+use Rattle.ascii.specs.Classes.{white, operatorNameEnd}
+use Rattle.ascii.specs.Fold.{lower, same}
+use Rattle.ascii.specs.Trim.{trimStart, trimEnd, leadingWhite}
+use Rattle.names.specs.Tables.{find}
+use Rattle.names.specs.Operators.{operators, operatorCode}
+use Rattle.operators.specs.Operators.{Reading, spec, unknown, nameLength, operator}
+use Rattle.operators.specs.Places.{namePlace, argumentPlace}
+
+-- A text's operator. To unfold it is to unfold every definition that a text is read by.
+unfoldable pub Reads : String → Reading → Type 0
+unfolding bytes white operatorNameEnd lower same trimStart trimEnd leadingWhite find operators operatorCode nameLength operator
+Reads s r = operator (bytes s) ≡ r
+
+-- The place of an unknown name, and that of an argument.
+unfoldable pub NamePlace : String → ℕ → Type 0
+unfolding bytes white trimStart trimEnd leadingWhite
+NamePlace s p = namePlace (bytes s) ≡ p
+
+unfoldable pub ArgumentPlace : String → ℕ → Type 0
+unfolding bytes white operatorNameEnd trimStart trimEnd leadingWhite nameLength
+ArgumentPlace s p = argumentPlace (bytes s) ≡ p
+
+-- P: one `!` only is taken off, and what follows has no `@` first
+pub twice-negated : Reads "!!@rx a" (spec true 0 (bytes "!@rx a"))
+unfolding Reads
+twice-negated = refl
+
+-- a name with no argument
+pub bare : Reads "@rx" (spec false 0 [])
+unfolding Reads
+bare = refl
+
+-- `@` alone has the empty name
+pub at-alone : Reads "@" (unknown [])
+unfolding Reads
+at-alone = refl
+
+-- a vertical tab ends no name
+pub upright : Reads "@rx\u{b}a" (unknown (bytes "rx\u{b}a"))
+unfolding Reads
+upright = refl
+
+-- but it is trimmed, before the name is looked for and before the argument
+pub upright-last : Reads "@rx\u{b}" (spec false 0 [])
+unfolding Reads
+upright-last = refl
+
+pub upright-before : Reads "@rx \u{b}a" (spec false 0 (bytes "a"))
+unfolding Reads
+upright-before = refl
+
+-- the empty text, and `!` alone
+pub empty : Reads "" (spec false 0 [])
+unfolding Reads
+empty = refl
+
+pub negated-empty : Reads " ! " (spec true 0 [])
+unfolding Reads
+negated-empty = refl
+
+-- whitespace after `!`, any letter case, and the argument's own place
+pub spaced : Reads " ! @EndsWith  .php " (spec true 8 (bytes ".php"))
+unfolding Reads
+spaced = refl
+
+pub spaced-place : ArgumentPlace " ! @EndsWith  .php " 14
+unfolding ArgumentPlace
+spaced-place = refl
+
+-- the empty name before a space, at place 1; a longer one behind `!`
+pub empty-name : Reads "@ rx" (unknown [])
+unfolding Reads
+empty-name = refl
+
+pub empty-name-place : NamePlace "@ rx" 1
+unfolding NamePlace
+empty-name-place = refl
+
+pub unknown-place : NamePlace " ! @rxx a" 4
+unfolding NamePlace
+unknown-place = refl

@@ -1,0 +1,52 @@
+-- What the two public calls promise, by document 01's table.
+use mathlib.Core.Path.{_≡_}
+use Prim.Native.Nat.{ℕ}
+use mathlib.Core.Bool.{Bool, true, false}
+use mathlib.Core.List.{List, [], _∷_}
+use lib.ListN.{length}
+use Rattle.lent.specs.Gates.{gateOf}
+use Rattle.lent.specs.Table.{Given, given, refused, tooLong, notAscii, unknownOperator, Outcome, refuses, reads, pastGate}
+use Rattle.operators.specs.Operators.{Spec, Reading, accepted, unknown, operator}
+use Rattle.operators.specs.Places.{namePlace, argumentPlace}
+use Rattle.operators.specs.declared.Answer.{Answer}
+use Rattle.operators.specs.declared.Answer.the-variants as Answer
+
+abbrev pub bit : Bool → ℕ
+bit true = 1
+bit false = 0
+
+-- The paper's number and values for each answer: with 0, whether it is negated and the name's code.
+abbrev pub answerGiven : Answer → Given
+answerGiven (Answer.Parsed negated name) = given 0 (bit negated ∷ name ∷ [])
+answerGiven Answer.TooLong = refused tooLong
+answerGiven (Answer.NotAscii place) = refused (notAscii place)
+answerGiven (Answer.Unknown place len) = refused (unknownOperator place len)
+
+-- What a reading comes to: number 8 has the unknown name's place in the input and its length.
+abbrev pub outcomeOf : List ℕ → Reading → Outcome Spec
+outcomeOf s (accepted x) = reads x
+outcomeOf s (unknown name) = refuses (unknownOperator (namePlace s) (length name))
+
+-- What a call comes to: the checks 1 and 2, then the operator. No buffer is asked for, so 3 is never given.
+unfoldable pub operatorOutcome : List ℕ → Outcome Spec
+operatorOutcome s = pastGate (gateOf s 0 0) (outcomeOf s (operator s))
+
+abbrev pub givenBy : Outcome Spec → Given
+givenBy (refuses f) = refused f
+givenBy (reads x) = given 0 (bit (x .negated) ∷ x .name ∷ [])
+
+-- The argument handed back: on any refusal the empty one.
+abbrev pub argumentBy : Outcome Spec → List ℕ
+argumentBy (refuses f) = []
+argumentBy (reads x) = x .argument
+
+-- Where the part handed back begins: an empty argument is the empty part at the trimmed text's end, and on a refusal that at the front.
+abbrev pub partPlace : List ℕ → Outcome Spec → ℕ
+partPlace s (refuses f) = 0
+partPlace s (reads x) = argumentPlace s
+
+pub record ParseOperator (s : List ℕ) (r : Answer) : Type 0 where
+  pub answer : answerGiven r ≡ givenBy (operatorOutcome s)
+
+pub record OperatorArgument (s part : List ℕ) : Type 0 where
+  pub argument : part ≡ argumentBy (operatorOutcome s)

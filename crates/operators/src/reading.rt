@@ -1,0 +1,63 @@
+// The two public calls: what the operator is, and its argument.
+ghost use mathlib.Core.Path.{_≡_};
+ghost use Rattle.operators.specs.Operators.{operator};
+ghost use Rattle.operators.specs.Promises.{answerGiven, givenBy, outcomeOf, ParseOperator, OperatorArgument};
+use crate::Answer;
+use crate::finding::find;
+use lent::Gate;
+use names::Lookup;
+
+// The operator of an input that passed the gate.
+fn parsed(s: &[u8]) -> Answer
+    ensures { λ r. ⌜ answerGiven r ≡ givenBy (outcomeOf (now (s .entry)) (operator (now (s .entry)))) ⌝ }
+{
+    let f = find(s);
+    if !f.named {
+        return Answer::Parsed {
+            negated: f.negated,
+            name: 0,
+        };
+    }
+    let first = f.first;
+    let past = f.past;
+    match names::operator_code(&s[first..past]) {
+        Lookup::Code(name) => Answer::Parsed {
+            negated: f.negated,
+            name,
+        },
+        Lookup::Unknown => Answer::Unknown {
+            place: first,
+            len: past - first,
+        },
+    }
+}
+
+// The Rust's parse_operator, after the checks 1 and 2.
+pub fn parse_operator(input: &[u8]) -> Answer
+    ensures { λ r. ⌜ ParseOperator (now (input .entry)) r ⌝ }
+{
+    match lent::admit(input, 0, 0) {
+        Gate::TooLong => Answer::TooLong,
+        Gate::NotAscii(place) => Answer::NotAscii(place),
+        // Short cannot come, since no buffer is asked for.
+        Gate::Open | Gate::Short => parsed(input),
+    }
+}
+
+// The argument of the same operator, as a part of the input: on a refusal the empty part at the front.
+pub fn operator_argument(input: &[u8]) -> &[u8]
+    ensures { λ r. ⌜ OperatorArgument (now (input .entry)) (now r) ⌝ }
+{
+    match parse_operator(input) {
+        Answer::Parsed {
+            negated: _,
+            name: _,
+        } => {
+            let f = find(input);
+            let argument = f.argument;
+            let end = f.end;
+            &input[argument..end]
+        }
+        _ => &input[..0],
+    }
+}
