@@ -1,6 +1,7 @@
 // One answer, by the question's letter. docs/VECTORS.md lists the letters.
 use crate::hexes;
 use crate::lexing;
+use crate::operating;
 use ascii::Number;
 use names::Lookup;
 
@@ -68,6 +69,7 @@ pub fn answer(letter: u8, body: &[u8]) {
         b's' => print_code(names::severity_code(body)),
         b'T' => lexing::print_tokens(body),
         b'S' => lexing::print_step(body),
+        b'p' => operating::print_operator(body),
         b'c' => print_flags(hexes::word(body)),
         _ => {
             io::write_all(1, b"?");

@@ -1,5 +1,8 @@
 // The lexer's answers: a whole text, and one step.
 use crate::hexes;
+use crate::words::print_number;
+use crate::words::print_refusal;
+use crate::words::print_text;
 use lexer::Answer;
 use lexer::Column;
 use lexer::Cursor;
@@ -7,11 +10,6 @@ use lexer::Kind;
 use lexer::Lexeme;
 use lexer::Line;
 use lexer::Step;
-
-fn print_number(n: u64) {
-    io::print_decimal(1, n);
-    io::write_all(1, b" ");
-}
 
 // The words of the first `count` records.
 fn print_records(records: &[u64], count: usize) {
@@ -23,21 +21,6 @@ fn print_records(records: &[u64], count: usize) {
         print_number(records[i]);
         i += 1;
     }
-}
-
-fn print_text(text: &[u8], len: usize) {
-    if len == 0 {
-        io::write_all(1, b"-");
-    } else {
-        hexes::print_front(text, len);
-    }
-}
-
-// A refusal's number, with the value beside it and no text.
-fn print_refusal(number: u64, value: usize) {
-    print_number(number);
-    print_number(value as u64);
-    io::write_all(1, b"-");
 }
 
 // Records needed, where the buffer of this program is too small for them.

@@ -4,6 +4,8 @@ mod answers;
 mod hexes;
 mod lexing;
 mod lines;
+mod operating;
+mod words;
 
 use lines::Line;
 
