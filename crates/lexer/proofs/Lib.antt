@@ -15,6 +15,8 @@ pub mod WithinLaws
 pub mod PastLaws
 pub mod FindLaws
 pub mod QuoteLaws
+pub mod QuoteSpanLaws
+pub mod QuoteActLaws
 pub mod ClassLaws
 pub mod LineEndLaws
 pub mod BlankLaws
