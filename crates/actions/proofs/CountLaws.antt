@@ -4,6 +4,7 @@ use mathlib.Core.List.{List, [], _∷_}
 use Prim.Native.Nat.{ℕ, suc, _+_, _≤_, _<_}
 use native.Mathlib.Omega.{arith}
 use lib.ListN.{length}
+use Rattle.ascii.specs.Classes.{white}
 use Rattle.ascii.specs.Trim.{trimEnds}
 use Rattle.ascii.proofs.TrimLaws.{ends-fit}
 use Rattle.lent.specs.Table.{tooLong, notAscii, shortBuffer, noRoom, unknownAction, badArgument, unknownVariable, unknownOperator, badCursor, Outcome, refuses, reads}
@@ -22,7 +23,7 @@ keep-count (b ∷ r) ps = omega arith
 kept-count : (ps : List (List ℕ)) → length (piecesOf ps) ≤ total ps
 unfolding piecesOf total
 kept-count [] = omega arith
-kept-count (p ∷ ps) = omega (arith, keep-count (trimEnds p) (piecesOf ps), kept-count ps, ends-fit p)
+kept-count (p ∷ ps) = omega (arith, keep-count (trimEnds p) (piecesOf ps), kept-count ps, ends-fit white p)
 
 pub pieces-count : (s : List ℕ) → length (pieces s) ≤ length s
 unfolding pieces

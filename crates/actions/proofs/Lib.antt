@@ -9,7 +9,6 @@ pub mod FindLaws
 pub mod LayoutLaws
 pub mod GivenLaws
 pub mod LoopLaws
-pub mod StripLaws
 pub mod TableLaws
 pub mod OutcomeLaws
 pub mod NormalLoop

@@ -9,6 +9,7 @@ use lib.ListN.{length, take, drop, getD, drop-of-length-le}
 use lib.Dec.{eqb}
 use borrow.Author.Tests.{eqb-true}
 use Rattle.ascii.specs.Choice.{pick, and}
+use Rattle.ascii.specs.Classes.{white}
 use Rattle.ascii.specs.Trim.{trimEnds}
 use Rattle.ascii.proofs.ListLaws.{next-byte}
 use Rattle.ascii.proofs.TrimLaws.{ends-fit}
@@ -104,7 +105,7 @@ keep-total (b ∷ r) ps = refl
 pub kept-total : (ps : List (List ℕ)) → total (piecesOf ps) ≤ total ps
 unfolding piecesOf total
 kept-total [] = omega arith
-kept-total (p ∷ ps) = omega (arith, keep-total (trimEnds p) (piecesOf ps), kept-total ps, ends-fit p)
+kept-total (p ∷ ps) = omega (arith, keep-total (trimEnds p) (piecesOf ps), kept-total ps, ends-fit white p)
 
 -- the pieces together are no longer than the text
 pub pieces-total : (s : List ℕ) → total (pieces s) ≤ length s

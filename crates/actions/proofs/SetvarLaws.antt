@@ -9,6 +9,7 @@ use lib.Dec.{eqb}
 use Rattle.ascii.specs.Choice.{pick, and, or}
 use Rattle.ascii.specs.Text.{bytes}
 use Rattle.ascii.specs.Fold.{lower}
+use Rattle.ascii.specs.Classes.{white}
 use Rattle.ascii.specs.Trim.{trimEnds}
 use Rattle.ascii.specs.Numbers.{signedWord}
 use Rattle.ascii.specs.declared.numbers.Number.{Number}
@@ -73,7 +74,7 @@ bare-short s = go (leads 33 s)
 
 pub setvar-short : (s : List ℕ) → setvarLength (setvar s) ≤ length s + 3
 unfolding setvar
-setvar-short s = omega (arith, bare-short (unpaired (trimEnds s)), unpaired-short (trimEnds s), ends-fit s)
+setvar-short s = omega (arith, bare-short (unpaired (trimEnds s)), unpaired-short (trimEnds s), ends-fit white s)
 
 -- ---- the search for a macro, one byte at a time
 

@@ -5,11 +5,11 @@ use mathlib.Core.List.{List, [], _∷_, map}
 use Prim.Native.Nat.{ℕ}
 use Rattle.ascii.specs.Choice.{pick}
 use Rattle.ascii.specs.Classes.{white}
-use Rattle.ascii.specs.Trim.{trimStart, before, trimEnd, trimEnds}
+use Rattle.ascii.specs.Trim.{stripStart, stripEnd, before, trimStart, trimEnd, trimEnds}
 use Rattle.actions.specs.Pieces.{outside, partsFrom, keep, piecesOf, pieces}
 
 end-again : (s : List ℕ) → trimEnd (trimEnd s) ≡ trimEnd s
-unfolding trimEnd
+unfolding stripEnd
 end-again [] = refl
 end-again (b ∷ r) = go (trimEnd r) (end-again r)
   where
@@ -17,17 +17,17 @@ end-again (b ∷ r) = go (trimEnd r) (end-again r)
     one true e = refl
     one false e = rw e
 
-    go : (l : List ℕ) → trimEnd l ≡ l → trimEnd (before b l) ≡ before b l
+    go : (l : List ℕ) → trimEnd l ≡ l → trimEnd (before white b l) ≡ before white b l
     go [] e = one (white b) refl
-    go (x ∷ l) e = ap (before b) e
+    go (x ∷ l) e = ap (before white b) e
 
 -- the trimmed text does not start with a blank
 start-again : (s : List ℕ) → trimStart (trimEnds s) ≡ trimEnds s
-unfolding trimStart trimEnd
+unfolding stripStart stripEnd
 start-again [] = refl
 start-again (b ∷ r) = go (white b) refl (start-again r)
   where
-    solid : (l : List ℕ) → white b ≡ false → trimStart (before b l) ≡ before b l
+    solid : (l : List ℕ) → white b ≡ false → trimStart (before white b l) ≡ before white b l
     solid [] e = rw e (rw e)
     solid (x ∷ l) e = rw e
 

@@ -6,13 +6,13 @@ use mathlib.Core.List.{List, [], _∷_}
 use Rattle.ascii.specs.Text.{bytes}
 use Rattle.ascii.specs.Classes.{white, digit}
 use Rattle.ascii.specs.Fold.{lower, same}
-use Rattle.ascii.specs.Trim.{trimStart, trimEnd}
+use Rattle.ascii.specs.Trim.{stripStart, stripEnd}
 use Rattle.ascii.specs.Numbers.{value, allDigits, digitsBy, unsignedBy, signedWord}
 use Rattle.lent.specs.Table.{Refusal, unknownAction, badArgument, Outcome, refuses, reads}
 use Rattle.names.specs.Tables as N
 use Rattle.names.specs.Severities.{severities, severityCode}
 use Rattle.actions.specs.Normal.{modeAfter, textGiven, textHeld, normalisedFrom, normalised}
-use Rattle.actions.specs.Marks.{quotation, stripStart, stripEnd, paired, unpaired}
+use Rattle.actions.specs.Marks.{quotation, paired, unpaired}
 use Rattle.actions.specs.Pieces.{nestBare, nestQuoted, nestAfter, cuts, partsFrom, piecesOf, pieces}
 use Rattle.actions.specs.Splits.{split}
 use Rattle.actions.specs.Setvar.{SetValue, text, increment, decrement, delete, macro, setvarOf, varName, nameOf, hasMacro, plainValue, valueOf, setvarBare, setvar}
@@ -22,7 +22,7 @@ use Rattle.actions.specs.Lists.{actionsFrom, actionsOf}
 
 -- A list's actions or its refusal. To unfold it is to unfold every definition that a list is read by.
 unfoldable pub Comes : String → Outcome (List Action) → Type 0
-unfolding bytes white digit lower same trimStart trimEnd value allDigits digitsBy unsignedBy signedWord N.find severities severityCode modeAfter textGiven textHeld normalisedFrom normalised quotation stripStart stripEnd paired unpaired nestBare nestQuoted nestAfter cuts partsFrom piecesOf pieces split nameOf hasMacro plainValue valueOf setvarBare setvar rows find withText withNone named single actionsFrom actionsOf
+unfolding bytes white digit lower same stripStart stripEnd value allDigits digitsBy unsignedBy signedWord N.find severities severityCode modeAfter textGiven textHeld normalisedFrom normalised quotation paired unpaired nestBare nestQuoted nestAfter cuts partsFrom piecesOf pieces split nameOf hasMacro plainValue valueOf setvarBare setvar rows find withText withNone named single actionsFrom actionsOf
 Comes s o = actionsOf (bytes s) ≡ o
 
 -- A list that is accepted.

@@ -1,4 +1,4 @@
--- Trimming (str::trim_start, str::trim_end and str::trim, on ASCII).
+-- Trimming (str::trim_start, str::trim_end and str::trim, on ASCII), and the same by any test (str::trim_matches).
 use Prim.Native.Nat.{ℕ, _+_}
 use mathlib.Core.Bool.{Bool, true, false}
 use mathlib.Core.List.{List, [], _∷_}
@@ -7,26 +7,44 @@ use Rattle.ascii.specs.Choice.{pick}
 use Rattle.ascii.specs.Classes.{white}
 use Rattle.ascii.specs.declared.trimming.Part.{Part}
 
-unfoldable pub trimStart : List ℕ → List ℕ
-trimStart [] = []
-trimStart (b ∷ r) = pick (white b) (trimStart r) (b ∷ r)
+-- ---- by a test
 
--- b before what trimming leaves of the bytes after it
-abbrev pub before : ℕ → List ℕ → List ℕ
-before b [] = pick (white b) [] (b ∷ [])
-before b (x ∷ r) = b ∷ x ∷ r
+-- without the bytes at the start that pass it
+unfoldable pub stripStart : (ℕ → Bool) → List ℕ → List ℕ
+stripStart test [] = []
+stripStart test (b ∷ r) = pick (test b) (stripStart test r) (b ∷ r)
 
-unfoldable pub trimEnd : List ℕ → List ℕ
-trimEnd [] = []
-trimEnd (b ∷ r) = before b (trimEnd r)
+-- b before what is left of the bytes after it
+abbrev pub before : (ℕ → Bool) → ℕ → List ℕ → List ℕ
+before test b [] = pick (test b) [] (b ∷ [])
+before test b (x ∷ r) = b ∷ x ∷ r
+
+-- without those at the end
+unfoldable pub stripEnd : (ℕ → Bool) → List ℕ → List ℕ
+stripEnd test [] = []
+stripEnd test (b ∷ r) = before test b (stripEnd test r)
+
+abbrev pub stripEnds : (ℕ → Bool) → List ℕ → List ℕ
+stripEnds test s = stripEnd test (stripStart test s)
+
+-- how many stand first
+unfoldable pub leading : (ℕ → Bool) → List ℕ → ℕ
+leading test [] = 0
+leading test (b ∷ r) = pick (test b) (1 + leading test r) 0
+
+-- ---- of whitespace
+
+abbrev pub trimStart : List ℕ → List ℕ
+trimStart = stripStart white
+
+abbrev pub trimEnd : List ℕ → List ℕ
+trimEnd = stripEnd white
 
 abbrev pub trimEnds : List ℕ → List ℕ
-trimEnds s = trimEnd (trimStart s)
+trimEnds = stripEnds white
 
--- how many white bytes stand first
-unfoldable pub leadingWhite : List ℕ → ℕ
-leadingWhite [] = 0
-leadingWhite (b ∷ r) = pick (white b) (1 + leadingWhite r) 0
+abbrev pub leadingWhite : List ℕ → ℕ
+leadingWhite = leading white
 
 -- where the trimmed text stands in the whole
 abbrev pub trimmedPart : List ℕ → Part

@@ -5,6 +5,7 @@ use mathlib.Core.List.{List}
 use Prim.Native.Nat.{ℕ, _+_, _-_, _≤_}
 use native.Mathlib.Omega.{arith}
 use lib.ListN.{length, drop, take}
+use Rattle.ascii.specs.Classes.{white}
 use Rattle.ascii.specs.Trim.{trimEnds, leadingWhite}
 use Rattle.ascii.proofs.TrimLaws.{ends-fit}
 use Rattle.operators.specs.Operators.{nameLength, afterName, unsigned}
@@ -22,7 +23,7 @@ text-at s begin end p q = cut s begin end 0 (omega arith) q
 
 module _ {s : List ℕ} {begin end width : ℕ} (k : Begun s begin end width) where
   pub end-in : end ≤ length s
-  end-in = omega (arith, k .past, ends-fit s)
+  end-in = omega (arith, k .past, ends-fit white s)
 
   pub body-in : begin + width ≤ end
   body-in = omega (arith, k .first, k .past, k .sign, sign-fits (trimEnds s))

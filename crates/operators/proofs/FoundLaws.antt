@@ -7,17 +7,17 @@ use native.Mathlib.Omega.{arith}
 use lib.ListN.{length, drop, take}
 use lib.Seq.{length-take-le}
 use Rattle.ascii.specs.Choice.{pick}
+use Rattle.ascii.specs.Classes.{white}
 use Rattle.ascii.specs.Trim.{trimStart, trimEnds}
-use Rattle.ascii.proofs.TrimLaws.{ends-fit}
+use Rattle.ascii.proofs.TrimLaws.{ends-fit, leading-fits}
 use Rattle.lent.specs.Table.{given, refused, unknownOperator}
 use Rattle.names.specs.Operators.{operatorCode}
 use Rattle.names.specs.declared.Lookup.the-variants as Lookup
-use Rattle.operators.specs.Operators.{Reading, spec, unknown, starts, nameLength, nameOf, afterName, unsigned, operator}
+use Rattle.operators.specs.Operators.{Reading, spec, unknown, starts, nameLength, nameOf, afterName, unsigned, operator, inName}
 use Rattle.operators.specs.Places.{textEnd, bodyPlace, afterAt, namePlace, namePast, isNamed, argumentPlace, foundOf}
 use Rattle.operators.specs.Promises.{bit, answerGiven, outcomeOf, givenBy}
 use Rattle.operators.specs.declared.finding.Found.{Found}
 use Rattle.operators.specs.declared.Answer.the-variants as Answer
-use Rattle.operators.proofs.NameLaws.{name-fits}
 use Rattle.operators.proofs.PlaceLaws.{past-fits, name-stands, argumentText, argument-stands, argument-fits}
 
 -- ---- the operator, by what is written
@@ -71,7 +71,7 @@ module _ (s : List ℕ) (f : Found) (e : f ≡ foundOf s) where
     name-ordered = omega (arith, found-first, found-past)
 
     pub name-within : f .past ≤ length s
-    name-within = omega (arith, found-past, past-fits s is-named, ends-fit s)
+    name-within = omega (arith, found-past, past-fits s is-named, ends-fit white s)
 
     -- the part lent for the name
     pub name-text : take (f .past - f .first) (drop (f .first) s) ≡ nameOf (afterAt s)
@@ -89,7 +89,7 @@ module _ (s : List ℕ) (f : Found) (e : f ≡ foundOf s) where
         → answerGiven (Answer.Unknown (f .first) (f .past - f .first)) ≡ givenBy (outcomeOf s (operator s))
     answer-unknown l =
         let n : f .past - f .first ≡ length (nameOf (afterAt s)) =
-        omega (arith, found-first, found-past, length-take-le (nameLength (afterAt s)) (afterAt s) (name-fits (afterAt s))) in
+        omega (arith, found-first, found-past, length-take-le (nameLength (afterAt s)) (afterAt s) (leading-fits inName (afterAt s))) in
         ap (λ (p : ℕ). refused (unknownOperator p (f .past - f .first))) found-first
         ∙ ap (λ (k : ℕ). refused (unknownOperator (namePlace s) k)) n
         ∙ sym (ap (λ (x : Reading). givenBy (outcomeOf s x)) (missed s is-named (sym (ap operatorCode name-text) ∙ l)))
@@ -103,7 +103,7 @@ module _ (s : List ℕ) (f : Found) (e : f ≡ foundOf s) where
   argument-ordered = omega (arith, found-argument, found-end, argument-fits s)
 
   pub argument-within : f .end ≤ length s
-  argument-within = omega (arith, found-end, ends-fit s)
+  argument-within = omega (arith, found-end, ends-fit white s)
 
   -- the part handed back
   pub argument-text : take (f .end - f .argument) (drop (f .argument) s) ≡ argumentText s (isNamed s)

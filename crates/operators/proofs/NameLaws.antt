@@ -2,38 +2,22 @@
 use mathlib.Core.Path.{_≡_, refl}
 use mathlib.Core.Bool.{Bool, true, false}
 use mathlib.Core.List.{List, [], _∷_}
-use Prim.Native.Nat.{ℕ, suc, _+_, _≤_, _<_}
+use Prim.Native.Nat.{ℕ, _+_, _≤_, _<_}
 use native.Mathlib.Omega.{arith}
-use lib.ListN.{length, drop, getD, drop-of-length-le}
+use lib.ListN.{length, drop, getD}
 use lib.Dec.{eqb}
-use Rattle.ascii.specs.Choice.{pick}
 use Rattle.ascii.specs.Classes.{operatorNameEnd}
-use Rattle.ascii.proofs.ListLaws.{next-byte}
-use Rattle.operators.specs.Operators.{starts, nameLength}
+use Rattle.ascii.proofs.TrimLaws.{leading-more, leading-stop}
+use Rattle.operators.specs.Operators.{starts, inName, nameLength}
 
 -- ---- the name's length
 
 module _ (s : List ℕ) (i : ℕ) (h : i < length s) where
   pub name-more : operatorNameEnd (getD s i 0) ≡ false → nameLength (drop i s) ≡ 1 + nameLength (drop (i + 1) s)
-  unfolding nameLength
-  name-more w = rw (next-byte s i, w)
+  name-more w = leading-more inName s i h (rw w)
 
   pub name-stop : operatorNameEnd (getD s i 0) ≡ true → nameLength (drop i s) ≡ 0
-  unfolding nameLength
-  name-stop w = rw (next-byte s i, w)
-
-pub name-end : (s : List ℕ) (i : ℕ) → length s ≤ i → nameLength (drop i s) ≡ 0
-unfolding nameLength
-name-end s i h = rw (drop-of-length-le s h)
-
-pub name-fits : (s : List ℕ) → nameLength s ≤ length s
-unfolding nameLength
-name-fits [] = omega arith
-name-fits (b ∷ r) = go (operatorNameEnd b) (name-fits r)
-  where
-    go : (t : Bool) → nameLength r ≤ length r → pick t 0 (1 + nameLength r) ≤ suc (length r)
-    go true h = omega arith
-    go false h = omega arith
+  name-stop w = leading-stop inName s i h (rw w)
 
 -- ---- the first byte
 

@@ -9,11 +9,12 @@ use native.Mathlib.Omega.{arith}
 use lib.ListN.{length, drop, take, length-drop}
 use lib.Seq.{drop-drop, take-take, take-nil}
 use Rattle.ascii.specs.Choice.{pick}
+use Rattle.ascii.specs.Classes.{white}
 use Rattle.ascii.specs.Trim.{trimStart, trimEnds, leadingWhite}
 use Rattle.ascii.proofs.TrimLaws.{leading-fits, start-is, ends-are}
-use Rattle.operators.specs.Operators.{starts, nameLength, nameOf, afterName, unsigned}
+use Rattle.operators.specs.Operators.{starts, nameLength, nameOf, afterName, unsigned, inName}
 use Rattle.operators.specs.Places.{signWidth, textEnd, bodyPlace, afterAt, namePlace, namePast, isNamed, argumentPlace}
-use Rattle.operators.proofs.NameLaws.{name-fits, starts-some}
+use Rattle.operators.proofs.NameLaws.{starts-some}
 
 -- ---- `!`
 
@@ -21,14 +22,14 @@ pub unsigned-is : (t : List ℕ) → unsigned t ≡ drop (signWidth t) t
 unsigned-is t = go (starts 33 t)
   where
     go : (b : Bool) → pick b (trimStart (drop 1 t)) t ≡ drop (pick b (1 + leadingWhite (drop 1 t)) 0) t
-    go true = start-is (drop 1 t) ∙ drop-drop (leadingWhite (drop 1 t)) 1 t
+    go true = start-is white (drop 1 t) ∙ drop-drop (leadingWhite (drop 1 t)) 1 t
     go false = refl
 
 pub sign-fits : (t : List ℕ) → signWidth t ≤ length t
 sign-fits t = go (starts 33 t) refl
   where
     go : (b : Bool) → starts 33 t ≡ b → pick b (1 + leadingWhite (drop 1 t)) 0 ≤ length t
-    go true e = omega (arith, starts-some 33 t e, leading-fits (drop 1 t), length-drop 1 t)
+    go true e = omega (arith, starts-some 33 t e, leading-fits white (drop 1 t), length-drop 1 t)
     go false e = omega arith
 
 -- ---- rests of the trimmed text
@@ -50,7 +51,7 @@ module _ (s : List ℕ) where
   pub cut : (at end k : ℕ) → at ≡ leadingWhite s + k → end ≡ textEnd s → take (end - at) (drop at s) ≡ drop k (trimEnds s)
   cut at end k e f =
       let n : length (trimEnds s) - k ≡ end - at = omega arith in
-      sym (ap (drop k) (sym (ends-are s)) ∙ drop-take k (length (trimEnds s)) (drop (leadingWhite s) s)
+      sym (ap (drop k) (sym (ends-are white s)) ∙ drop-take k (length (trimEnds s)) (drop (leadingWhite s) s)
       ∙ ap (take (length (trimEnds s) - k)) (drop-drop k (leadingWhite s) s)
       ∙ ap (λ m. take m (drop (leadingWhite s + k) s)) n ∙ ap (λ m. take (end - at) (drop m s)) (sym e))
 
@@ -66,7 +67,7 @@ module _ (s : List ℕ) where
   -- and the name's and the argument's places come in order
   pub past-fits : isNamed s ≡ true → namePast s ≤ textEnd s
   past-fits e =
-      omega (arith, at-fits e, name-fits (afterAt s), ap length after-is, length-drop (signWidth (trimEnds s) + 1) (trimEnds s))
+      omega (arith, at-fits e, leading-fits inName (afterAt s), ap length after-is, length-drop (signWidth (trimEnds s) + 1) (trimEnds s))
 
   -- the name
   pub name-stands : take (nameLength (afterAt s)) (drop (namePlace s) s) ≡ nameOf (afterAt s)
@@ -74,7 +75,7 @@ module _ (s : List ℕ) where
       let w = signWidth (trimEnds s) in
       let n = nameLength (afterAt s) in
       let c = cut (namePlace s) (textEnd s) (w + 1) (omega arith) refl ∙ sym after-is in
-      let h : n ≤ textEnd s - namePlace s = omega (arith, name-fits (afterAt s), ap length after-is, length-drop (w + 1) (trimEnds s)) in
+      let h : n ≤ textEnd s - namePlace s = omega (arith, leading-fits inName (afterAt s), ap length after-is, length-drop (w + 1) (trimEnds s)) in
       sym (take-take n (textEnd s - namePlace s) (drop (namePlace s) s) h) ∙ ap (take n) c
 
   -- past the name, and past the whitespace after it
@@ -95,7 +96,7 @@ module _ (s : List ℕ) where
       let k = signWidth (trimEnds s) + 1 + nameLength (afterAt s) in
       let g = leadingWhite (afterName (afterAt s)) in
       cut (namePast s + g) (textEnd s) (k + g) (omega arith) refl
-      ∙ sym (start-is (afterName (afterAt s)) ∙ ap (drop g) tail-is ∙ drop-drop g k (trimEnds s))
+      ∙ sym (start-is white (afterName (afterAt s)) ∙ ap (drop g) tail-is ∙ drop-drop g k (trimEnds s))
 
   pub argument-stands : take (textEnd s - argumentPlace s) (drop (argumentPlace s) s) ≡ argumentText (isNamed s)
   argument-stands = argument-cut (isNamed s)
@@ -107,4 +108,4 @@ module _ (s : List ℕ) where
       go false e = omega (arith, sign-fits (trimEnds s))
       go true e =
           let k = signWidth (trimEnds s) + 1 + nameLength (afterAt s) in
-          omega (arith, past-fits e, leading-fits (afterName (afterAt s)), ap length tail-is, length-drop k (trimEnds s))
+          omega (arith, past-fits e, leading-fits white (afterName (afterAt s)), ap length tail-is, length-drop k (trimEnds s))

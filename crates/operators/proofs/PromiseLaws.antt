@@ -20,13 +20,13 @@ use Rattle.lent.proofs.OutcomeLaws.{numberOf, Later, past-row, number-1, number
 use Rattle.names.specs.Operators.{operatorCode}
 use Rattle.names.specs.declared.Lookup.{Lookup}
 use Rattle.names.specs.declared.Lookup.the-variants as Lookup
-use Rattle.operators.specs.Operators.{Spec, Reading, accepted, unknown, starts, nameLength, nameOf, afterName, unsigned, operator}
+use Rattle.ascii.proofs.TrimLaws.{leading-fits}
+use Rattle.operators.specs.Operators.{Spec, Reading, accepted, unknown, starts, nameLength, nameOf, afterName, unsigned, operator, inName}
 use Rattle.operators.specs.Places.{afterAt, namePlace, isNamed, argumentPlace, textEnd}
 use Rattle.operators.specs.Promises.{answerGiven, outcomeOf, operatorOutcome, givenBy, argumentBy, partPlace, ParseOperator, OperatorArgument}
 use Rattle.operators.specs.Calls.{Missing, Meant, unwritten, written}
 use Rattle.operators.specs.declared.Answer.{Answer}
 use Rattle.operators.specs.declared.Answer.the-variants as Answer
-use Rattle.operators.proofs.NameLaws.{name-fits}
 use Rattle.operators.proofs.PlaceLaws.{name-stands, argumentText, argument-stands}
 use Rattle.operators.proofs.FoundLaws.{plain, known, missed}
 use Rattle.operators.proofs.AnswerLaws.{gate-argument}
@@ -92,7 +92,7 @@ module _ (s : List ℕ) where
   -- The unknown name stands in the input, at the place given with it.
   pub unknown-stands : Missing s → take (length (nameOf (afterAt s))) (drop (namePlace s) s) ≡ nameOf (afterAt s)
   unknown-stands m =
-      ap (λ (k : ℕ). take k (drop (namePlace s) s)) (length-take-le (nameLength (afterAt s)) (afterAt s) (name-fits (afterAt s))) ∙ name-stands s
+      ap (λ (k : ℕ). take k (drop (namePlace s) s)) (length-take-le (nameLength (afterAt s)) (afterAt s) (leading-fits inName (afterAt s))) ∙ name-stands s
 
 -- ---- parse_operator
 

@@ -7,24 +7,24 @@ use mathlib.Core.List.{[]}
 use Rattle.ascii.specs.Text.{bytes}
 use Rattle.ascii.specs.Classes.{white, operatorNameEnd}
 use Rattle.ascii.specs.Fold.{lower, same}
-use Rattle.ascii.specs.Trim.{trimStart, trimEnd, leadingWhite}
+use Rattle.ascii.specs.Trim.{stripStart, stripEnd, leading}
 use Rattle.names.specs.Tables.{find}
 use Rattle.names.specs.Operators.{operators, operatorCode}
-use Rattle.operators.specs.Operators.{Reading, spec, unknown, nameLength, operator}
+use Rattle.operators.specs.Operators.{Reading, spec, unknown, operator}
 use Rattle.operators.specs.Places.{namePlace, argumentPlace}
 
 -- A text's operator. To unfold it is to unfold every definition that a text is read by.
 unfoldable pub Reads : String → Reading → Type 0
-unfolding bytes white operatorNameEnd lower same trimStart trimEnd leadingWhite find operators operatorCode nameLength operator
+unfolding bytes white operatorNameEnd lower same stripStart stripEnd leading find operators operatorCode operator
 Reads s r = operator (bytes s) ≡ r
 
 -- The place of an unknown name, and that of an argument.
 unfoldable pub NamePlace : String → ℕ → Type 0
-unfolding bytes white trimStart trimEnd leadingWhite
+unfolding bytes white stripStart stripEnd leading
 NamePlace s p = namePlace (bytes s) ≡ p
 
 unfoldable pub ArgumentPlace : String → ℕ → Type 0
-unfolding bytes white operatorNameEnd trimStart trimEnd leadingWhite nameLength
+unfolding bytes white operatorNameEnd stripStart stripEnd leading
 ArgumentPlace s p = argumentPlace (bytes s) ≡ p
 
 -- P: one `!` only is taken off, and what follows has no `@` first

@@ -1,12 +1,12 @@
 -- The rules of parse_operator (operator.rs), over the list of the input's bytes.
-use Prim.Native.Nat.{ℕ, _+_}
-use mathlib.Core.Bool.{Bool, false}
+use Prim.Native.Nat.{ℕ}
+use mathlib.Core.Bool.{Bool, true, false}
 use mathlib.Core.List.{List, [], _∷_}
 use lib.ListN.{take, drop}
 use lib.Dec.{eqb}
 use Rattle.ascii.specs.Choice.{pick}
 use Rattle.ascii.specs.Classes.{operatorNameEnd}
-use Rattle.ascii.specs.Trim.{trimStart, trimEnds}
+use Rattle.ascii.specs.Trim.{trimStart, trimEnds, leading}
 use Rattle.names.specs.Operators.{operatorCode}
 use Rattle.names.specs.declared.Lookup.{Lookup}
 use Rattle.names.specs.declared.Lookup.the-variants as Lookup
@@ -31,9 +31,11 @@ starts b [] = false
 starts b (x ∷ r) = eqb x b
 
 -- position(is_ascii_whitespace), and the length where there is none: so a vertical tab ends no name
-unfoldable pub nameLength : List ℕ → ℕ
-nameLength [] = 0
-nameLength (b ∷ r) = pick (operatorNameEnd b) 0 (1 + nameLength r)
+abbrev pub inName : ℕ → Bool
+inName b = pick (operatorNameEnd b) false true
+
+abbrev pub nameLength : List ℕ → ℕ
+nameLength = leading inName
 
 -- the rest past the `@`, cut there: rest[..pos] and rest[pos..]
 abbrev pub nameOf : List ℕ → List ℕ

@@ -5,6 +5,7 @@ use native.Mathlib.Omega.{arith}
 use borrow.Author.Needs.{needs}
 use borrow.Author.Tests.{not-true, not-false}
 use denote.Ref.{now}
+use Rattle.ascii.specs.Classes.{white}
 use Rattle.ascii.specs.Trim.{trimEnds, leadingWhite}
 use Rattle.ascii.specs.declared.trimming.Part.{Part}
 use Rattle.ascii.proofs.TrimLaws.{ends-fit}
@@ -31,7 +32,7 @@ part-text-start : tie.Need-part-text-start
 part-text-start c = omega (arith, first-is c, past-is c)
 
 part-text-end : tie.Need-part-text-end
-part-text-end c = omega (arith, past-is c, ends-fit (now (c .before .before .args .s)))
+part-text-end c = omega (arith, past-is c, ends-fit white (now (c .before .before .args .s)))
 
 starts-with-requires : tie.Need-starts-with-requires
 starts-with-requires c κs = search needs

@@ -5,8 +5,9 @@ use native.Mathlib.Omega.{arith}
 use borrow.Author.Needs.{needs}
 use denote.Ref.{now}
 use lib.ListN.{length, drop}
-use Rattle.operators.specs.Operators.{nameLength}
-use Rattle.operators.proofs.NameLaws.{name-more, name-stop, name-end}
+use Rattle.ascii.proofs.TrimLaws.{leading-end}
+use Rattle.operators.specs.Operators.{nameLength, inName}
+use Rattle.operators.proofs.NameLaws.{name-more, name-stop}
 use Rattle.operators.proofs.finding.name_length.Statement.{statement}
 use Rattle.operators.proofs.finding.name_length.Tie as tie
 
@@ -43,7 +44,7 @@ loop-again c =
     omega (arith, name-more (now (c .before .before .before .before .before .before .args .s)) (c .before .before .before .before .loop .i) (c .before .before .before .loop-test .taken) w)
 
 returns-2 : tie.Need-returns-2 Inv-loop μ-loop
-returns-2 c = omega (arith, name-end (now (c .before .before .before .args .s)) (c .before .loop .i) (c .loop-test .left))
+returns-2 c = omega (arith, leading-end inName (now (c .before .before .before .args .s)) (c .before .loop .i) (c .loop-test .left))
 
 pub name-length-spec : {M : Type 1} → statement M
 name-length-spec =

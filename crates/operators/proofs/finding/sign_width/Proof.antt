@@ -6,6 +6,7 @@ use borrow.Author.Needs.{needs}
 use borrow.Author.Tests.{not-true, not-false}
 use denote.Ref.{now}
 use lib.ListN.{drop, length-drop}
+use Rattle.ascii.specs.Classes.{white}
 use Rattle.ascii.specs.Trim.{leadingWhite}
 use Rattle.ascii.proofs.ListLaws.{rest-is}
 use Rattle.ascii.proofs.TrimLaws.{leading-fits}
@@ -43,7 +44,7 @@ white-is c = c .leading-white .ensures ∙ ap leadingWhite (rest-is (now (c .bef
 add-result : tie.Need-add-result
 add-result c =
     let s = (now (c .before .before .before .before .before .args .s)) in
-    omega (arith, white-is c, leading-fits (drop 1 s), length-drop 1 s, starts-some 33 s (signed (c .before .before)))
+    omega (arith, white-is c, leading-fits white (drop 1 s), length-drop 1 s, starts-some 33 s (signed (c .before .before)))
 
 returns-2 : tie.Need-returns-2
 returns-2 c = rw (signed (c .before .before), white-is c)
