@@ -2,6 +2,7 @@
 use crate::hexes;
 use crate::lexing;
 use crate::operating;
+use crate::selecting;
 use ascii::Number;
 use names::Lookup;
 
@@ -70,6 +71,7 @@ pub fn answer(letter: u8, body: &[u8]) {
         b'T' => lexing::print_tokens(body),
         b'S' => lexing::print_step(body),
         b'p' => operating::print_operator(body),
+        b'x' => selecting::print_xml(body),
         b'c' => print_flags(hexes::word(body)),
         _ => {
             io::write_all(1, b"?");

@@ -5,6 +5,7 @@ mod hexes;
 mod lexing;
 mod lines;
 mod operating;
+mod selecting;
 mod words;
 
 use lines::Line;

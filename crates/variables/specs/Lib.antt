@@ -2,4 +2,5 @@ pub mod Parts
 pub mod Variables
 pub mod Layout
 pub mod Promises
+pub mod Xml
 pub mod Cases

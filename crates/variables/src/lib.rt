@@ -1,4 +1,8 @@
-// Variables and update targets (document 01, module 5): types, until their parsers land.
+// Variables and update targets (document 01, module 5): what an XML selection asks for, and types until the parsers land.
+mod xml;
+
+pub use xml::XmlTarget;
+pub use xml::xml_target;
 
 // What a list of variables or of update targets answers.
 pub enum Answer {

@@ -1,0 +1,29 @@
+-- Each arm of the match is the test that it stands for.
+use mathlib.Core.Path.{_∙_, ap, sym}
+use borrow.Author.Tests.{ne-eqb}
+use Rattle.variables.specs.Xml.{keyTarget, xmlTarget}
+use borrow.Author.Needs.{needs}
+use Rattle.variables.proofs.xml.xml_target.Statement.{statement}
+use Rattle.variables.proofs.xml.xml_target.Tie as tie
+
+trim-requires : tie.Need-trim-requires
+trim-requires c κs = search needs
+
+key-target-requires : tie.Need-key-target-requires
+key-target-requires c κs = search needs
+
+returns : tie.Need-returns
+unfolding xmlTarget
+returns c = rw (c .match .keys1)
+
+returns-2 : tie.Need-returns-2
+unfolding xmlTarget
+returns-2 c = rw (c .before .before .match .keys2) (c .key-target .ensures ∙ ap keyTarget (c .before .trim .ensures))
+
+returns-3 : tie.Need-returns-3
+unfolding xmlTarget
+returns-3 c = let n = c .before .before .args .selection in simp (ne-eqb n 0 (c .match .rest .0 .1), ne-eqb n 1 (c .match .rest .1))
+
+pub xml-target-spec : {M : Type 1} → statement M
+xml-target-spec =
+    tie.close (tie.spec trim-requires key-target-requires returns returns-2 returns-3)
