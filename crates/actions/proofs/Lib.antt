@@ -13,4 +13,17 @@ pub mod TableLaws
 pub mod OutcomeLaws
 pub mod NormalLoop
 pub mod TrimmedLaws
+pub mod WritingLaws
+pub mod FinishLaws
+pub mod GoingLaws
+pub mod PromiseLaws
 pub mod CountLaws
+pub mod MacroLaws
+pub mod QuoteLaws
+pub mod MarkPlaceLaws
+pub mod NamingLaws
+pub mod CutLaws
+pub mod SettingLaws
+pub mod PlainLaws
+pub mod NormalActLaws
+pub mod JudgedLaws

@@ -38,6 +38,7 @@ module _ (s : List ℕ) (n k m : ℕ) where
   unfolding actionsOutcome
   outcome-by g o e f = rw (e, f)
 
+module _ (s : List ℕ) (n m : ℕ) where
   pub setvar-by : (g : Gate) → gateOf s n (length s + 3) ≡ g → setvarOutcome s n m ≡ pastGate g (roomed m (reads (setvarAlone s)))
   unfolding setvarOutcome
   setvar-by g e = rw e

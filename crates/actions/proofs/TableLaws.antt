@@ -1,30 +1,25 @@
 -- The rows of the table by their places: the first row of a name decides, whichever way the code finds it.
-use mathlib.Core.Path.{_≡_, refl, ap}
+use mathlib.Core.Path.{_≡_, refl}
 use mathlib.Core.List.{List, [], _∷_}
 use Prim.Native.Nat.{ℕ, zero, suc, _<_, zero-le, suc-le-suc}
 use native.Mathlib.Nat.{not-suc-le-zero, le-of-suc-le-suc}
-use native.Mathlib.Omega.{arith}
-use lib.ListN.{length, getD, length-map}
-use lib.Dec.{leb}
-use borrow.Author.Tests.{leb-true}
-use Rattle.ascii.specs.Text.{bytes}
-use Rattle.ascii.specs.Fold.{lower, lowered}
-use Rattle.names.proofs.Tests.{every, at}
+use lib.ListN.{length, getD}
+use Rattle.ascii.specs.Fold.{lowered}
 use Rattle.names.proofs.TableLaws.{same-refl, same-false}
 use Rattle.actions.specs.Table.{plain, Row, row, rows, found, missing, find}
 
--- the row at a place
-abbrev pub rowAt : List Row → ℕ → Row
-rowAt rs k = getD rs k (row "" 0 plain)
+-- the row at a place of any table
+abbrev pub rowIn : List Row → ℕ → Row
+rowIn rs k = getD rs k (row "" 0 plain)
 
 -- its name as it is sought
 abbrev pub soughtAt : List Row → ℕ → List ℕ
-soughtAt rs k = lowered (rowAt rs k .name)
+soughtAt rs k = lowered (rowIn rs k .name)
 
 pub find-at : (rs : List Row) (name : List ℕ) (r : ℕ) → r < length rs
     → ((k : ℕ) → k < r → soughtAt rs k ≡ name → ⊥)
     → soughtAt rs r ≡ name
-    → find rs name ≡ found (rowAt rs r)
+    → find rs name ≡ found (rowIn rs r)
 unfolding find
 find-at [] name r h n e = absurd (not-suc-le-zero h)
 find-at (t ∷ rs) name zero h n e = rw (e, same-refl name)
@@ -41,13 +36,3 @@ find-none (t ∷ rs) name n =
 pub rows-count : length rows ≡ 41
 unfolding rows
 rows-count = refl
-
--- no name of the table has more than 15 bytes
-pub too-long : (name : List ℕ) → 15 < length name → find rows name ≡ missing
-unfolding every rows bytes
-too-long name h = find-none rows name other
-  where
-    other : (k : ℕ) → k < length rows → soughtAt rows k ≡ name → ⊥
-    other k l e =
-        let f = leb-true (length (rowAt rows k .name)) 15 (at (λ k. leb (length (rowAt rows k .name)) 15) (length rows) refl k l) in
-        omega (arith, f, length-map (rowAt rows k .name) lower, ap length e)

@@ -1,5 +1,6 @@
 -- One action of a list: parse_single_action.
 use Prim.Native.Nat.{ℕ}
+use mathlib.Core.Bool.{Bool}
 use mathlib.Core.List.{List, []}
 use lib.ListN.{take, drop}
 use Rattle.ascii.specs.Choice.{pick}
@@ -153,6 +154,10 @@ abbrev pub splitBy : Split → Single
 splitBy (whole n) = named (lowered n) absent
 splitBy (halves n t) = named (lowered n) (present t)
 
--- parse_single_action on a piece, which is trimmed: `t:` is tested first, lower case only.
+-- `t:` stands first, in small letters: the first test of parse_single_action.
+abbrev pub transforms : List ℕ → Bool
+transforms s = same (take 2 s) (bytes "t:")
+
+-- parse_single_action on a piece, which is trimmed.
 unfoldable pub single : List ℕ → Single
-single s = pick (same (take 2 s) (bytes "t:")) (done (worded 32 (drop 2 s))) (splitBy (split 58 s))
+single s = pick (transforms s) (done (worded 32 (drop 2 s))) (splitBy (split 58 s))

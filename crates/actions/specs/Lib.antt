@@ -8,5 +8,8 @@ pub mod Actions
 pub mod Lists
 pub mod Layout
 pub mod Promises
+pub mod Steps
+pub mod Plans
+pub mod Listing
 pub mod Cases
 pub mod CallCases

@@ -5,8 +5,8 @@ use mathlib.Core.List.{List, [], _∷_, _++_}
 use lib.Dec.{eqb}
 use Rattle.ascii.specs.Choice.{pick}
 use Rattle.ascii.specs.Classes.{white}
-pub use Rattle.actions.specs.declared.Mode.{Mode}
-pub use Rattle.actions.specs.declared.Mode.the-variants.{Plain as plain, Held as held, AfterCr as afterCr, Margin as margin}
+pub use Rattle.actions.specs.declared.normalising.Mode.{Mode}
+pub use Rattle.actions.specs.declared.normalising.Mode.the-variants.{Plain as plain, Held as held, AfterCr as afterCr, Margin as margin}
 
 -- The modes are the source's: plain; a backslash held back; behind backslash-CR; in the whitespace behind an escaped line end.
 

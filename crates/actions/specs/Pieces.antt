@@ -6,9 +6,12 @@ use lib.Dec.{eqb}
 use Rattle.ascii.specs.Choice.{pick, and}
 use Rattle.ascii.specs.Trim.{trimEnds}
 use Rattle.actions.specs.Marks.{quotation}
-pub use Rattle.actions.specs.declared.Nest.{Nest}
 
 -- The open quotation mark, 0 for none, and the bracket depth: in_quotes with quote_char, and paren_depth.
+pub record Nest : Type 0 where
+  pub mark : ℕ
+  pub depth : ℕ
+
 abbrev pub nest : ℕ → ℕ → Nest
 nest m d = record { mark = m; depth = d }
 

@@ -1,21 +1,15 @@
 -- The action names and their rules: the arms of parse_single_action as rows.
-use Prim.Native.Nat.{ℕ}
+use mathlib.Core.Path.{_≡_}
+use Prim.Native.Nat.{ℕ, _≤_, _<_}
 use Prim.Native.String.{String}
 use mathlib.Core.List.{List, [], _∷_}
+use lib.ListN.{length, getD}
+use lib.Dec.{eqb}
 use Rattle.ascii.specs.Choice.{pick}
 use Rattle.ascii.specs.Text.{bytes}
-use Rattle.ascii.specs.Fold.{sameLowered}
-
--- What parse_single_action does with the argument.
-pub data Rule : Type 0 where
-  plain : Rule  -- nothing
-  wanted : Rule  -- it is the text, and must be there
-  unmarked : Rule  -- it is the text without the marks at both ends, empty where absent
-  upTo : ℕ → Rule  -- a number up to this, the largest of its width
-  severity : Rule  -- a number or a severity word, without the marks at both ends
-  equation : Rule  -- two texts, split at the first `=`
-  expiry : Rule  -- a text and seconds, split at the first `=`
-  setting : Rule  -- a setvar specification
+use Rattle.ascii.specs.Fold.{lowered, sameLowered}
+pub use Rattle.actions.specs.declared.naming.Rule.{Rule}
+pub use Rattle.actions.specs.declared.naming.Rule.the-variants.{Plain as plain, Wanted as wanted, Unmarked as unmarked, UpTo as upTo, Severity as severity, Equation as equation, Expiry as expiry, Setting as setting}
 
 -- A name as the Rust spells it in an error, the action's code, and its rule.
 pub record Row : Type 0 where
@@ -82,3 +76,29 @@ pub data Found : Type 0 where
 unfoldable pub find : List Row → List ℕ → Found
 find [] name = missing
 find (r ∷ rs) name = pick (sameLowered (r .name) name) (found r) (find rs name)
+
+-- ---- by places
+
+-- The row at a place.
+abbrev pub rowAt : ℕ → Row
+rowAt k = getD rows k (row "" 0 plain)
+
+-- r is the place of a name's row, or the number of rows where it has none.
+pub record Placed (name : List ℕ) (r : ℕ) : Type 0 where
+  pub within : r ≤ 41
+  pub there : r < 41 → find rows (lowered name) ≡ found (rowAt r)
+  pub none : 41 ≤ r → find rows (lowered name) ≡ missing
+
+-- The rules by number, as the code's table holds them.
+unfoldable pub ruleOf : ℕ → Rule
+ruleOf n =
+    pick (eqb n 1) wanted
+    (pick (eqb n 2) unmarked
+    (pick (eqb n 3) (upTo 255)
+    (pick (eqb n 4) (upTo 65535)
+    (pick (eqb n 5) (upTo 4294967295)
+    (pick (eqb n 6) (upTo 18446744073709551615)
+    (pick (eqb n 7) severity
+    (pick (eqb n 8) equation
+    (pick (eqb n 9) expiry
+    (pick (eqb n 10) setting plain)))))))))

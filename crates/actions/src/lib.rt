@@ -1,4 +1,17 @@
-// Action lists (document 01, module 4): types, until parse_actions and parse_setvar land.
+// Action lists (document 01, module 4): normalising, cutting, one action by its row, setvar, and the list.
+mod cutting;
+mod lists;
+mod marking;
+mod naming;
+mod normalising;
+mod plans;
+mod searching;
+mod settings;
+mod singles;
+mod writing;
+
+pub use lists::parse_actions;
+pub use lists::parse_setvar;
 
 // The paper's numbers, by name; `name` is the length of the name that the text buffer starts with.
 pub enum Answer {
@@ -16,18 +29,4 @@ pub enum Answer {
     BadArgument { piece: usize, name: usize },
     // 4: the records needed
     NoRoom(usize),
-}
-
-// Normalising: plainly; a backslash held back; behind backslash-CR; in the whitespace behind an escaped line end.
-pub enum Mode {
-    Plain,
-    Held,
-    AfterCr,
-    Margin,
-}
-
-// Cutting: the quotation mark that is open, 0 where none is, and how many round brackets are.
-pub struct Nest {
-    pub mark: u8,
-    pub depth: usize,
 }

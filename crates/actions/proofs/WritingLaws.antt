@@ -1,0 +1,135 @@
+-- Texts and records stored one after another, and zeros beyond them.
+use mathlib.Core.Path.{_≡_, refl, sym, ap, _∙_}
+use mathlib.Core.Bool.{Bool, true, false}
+use mathlib.Core.List.{List, [], _∷_, _++_, append-assoc}
+use Prim.Native.Nat.{ℕ, zero, suc, _+_, _-_, _≤_}
+use native.Mathlib.Nat.{sub-zero, zero-sub, suc-sub-suc, zero-add}
+use native.Mathlib.Omega.{arith}
+use lib.ListN.{length, take, drop, length-append, length-drop, length-map, length-replicate, take-append-drop}
+use lib.Seq.{length-take-le}
+use lib.Dec.{leb}
+use Rattle.ascii.specs.Choice.{pick}
+use Rattle.ascii.specs.Fold.{lower, lowered}
+use Rattle.lent.specs.Sizes.{spanWord}
+use Rattle.lent.specs.Buffers.{zeros, padded, placed, stored}
+use Rattle.lent.proofs.BufferLaws.{Written, stored-fits, stored-length, written-stored, taken-stored, written-all}
+use Rattle.actions.specs.Layout.{slotWord, actionText, actionRecord}
+use Rattle.actions.specs.Plans.{cut, originSlot, originText, originWord, Lies, planAction, Put}
+use Rattle.actions.specs.declared.plans.Plan.{Plan}
+use Rattle.actions.specs.declared.plans.Origin.{Origin}
+use Rattle.actions.specs.declared.plans.Origin.the-variants.{Absent, Copied, Lowered, Tx, One}
+
+-- nothing stored changes nothing
+pub stored-none : (old : List ℕ) (i : ℕ) → old ≡ stored old i []
+unfolding stored
+stored-none old i = go (leb (i + 0) (length old))
+  where
+    e : i + 0 ≡ i
+    e = omega arith
+
+    go : (t : Bool) → old ≡ pick t (placed old i []) old
+    go true = rw e (sym (take-append-drop i old))
+    go false = refl
+
+-- one run behind another is both as one
+module _ (old : List ℕ) (i : ℕ) (xs ys : List ℕ) (h : i + length xs + length ys ≤ length old) where
+  start : Written old old i
+  start = record { fits = omega arith; long = refl; beyond = refl }
+
+  once : Written old (stored old i xs) (i + length xs)
+  once = written-stored start xs (omega arith)
+
+  both : take (i + length xs + length ys) (stored (stored old i xs) (i + length xs) ys) ≡ take i old ++ (xs ++ ys)
+  both = taken-stored once ys h ∙ ap (λ (l : List ℕ). l ++ ys) (taken-stored start xs (omega arith)) ∙ append-assoc (take i old) xs ys
+
+  together : i + length (xs ++ ys) ≤ length old
+  together = omega (arith, length-append xs ys)
+
+  pub stored-twice : stored (stored old i xs) (i + length xs) ys ≡ stored old i (xs ++ ys)
+  stored-twice =
+      written-all (written-stored once ys h) both
+      ∙ sym (written-all (written-stored start (xs ++ ys) together) (taken-stored start (xs ++ ys) together))
+
+-- a name in a buffer that was cleared
+drop-zeros : (i n : ℕ) → drop i (zeros n) ≡ zeros (n - i)
+drop-zeros zero n = rw sub-zero
+drop-zeros (suc i) zero = rw zero-sub
+drop-zeros (suc i) (suc n) = rw suc-sub-suc (drop-zeros i n)
+
+pub stored-cleared : (n : ℕ) (w : List ℕ) → length w ≤ n → stored (zeros n) 0 w ≡ padded n w
+stored-cleared n w h = stored-fits (zeros n) 0 w (rw length-replicate (omega arith)) ∙ rw (zero-add, drop-zeros)
+
+-- ---- one text
+
+-- a part that lies in the text is as long as its places say
+pub cut-length : (s : List ℕ) (first past : ℕ) → first ≤ past → past ≤ length s → length (cut s first past) ≡ past - first
+cut-length s first past h k = length-take-le (past - first) (drop first s) (rw length-drop (omega arith))
+
+-- the two kinds of text that come from s
+module _ (s : List ℕ) (o : Origin) (first past : ℕ) (l : Lies s o) where
+  module _ (e : o ≡ Copied first past) where
+    pub copied-lies : (first ≤ past) × (past ≤ length s)
+    copied-lies = rw e at l
+
+    pub copied-long : length (originText s o) ≡ past - first
+    copied-long = rw e (cut-length s first past (copied-lies .0) (copied-lies .1))
+
+    pub copied-put : (old : List ℕ) (at : ℕ) {new : List ℕ} → new ≡ stored old at (cut s first past)
+        → (new ≡ stored old at (originText s o)) × (at + (past - first) ≡ at + length (originText s o))
+    copied-put old at f = (rw e f, omega (arith, copied-long))
+
+  module _ (e : o ≡ Lowered first past) where
+    pub lowered-lies : (first ≤ past) × (past ≤ length s)
+    lowered-lies = rw e at l
+
+    pub lowered-long : length (originText s o) ≡ past - first
+    lowered-long = rw e (length-map (cut s first past) lower ∙ cut-length s first past (lowered-lies .0) (lowered-lies .1))
+
+    pub lowered-put : (old : List ℕ) (at : ℕ) {new : List ℕ} → new ≡ stored old at (lowered (cut s first past))
+        → (new ≡ stored old at (originText s o)) × (at + (past - first) ≡ at + length (originText s o))
+    lowered-put old at f = (rw e f, omega (arith, lowered-long))
+
+-- the span word of a text, from where it starts up to where it ends
+pub word-is : (s : List ℕ) (o : Origin) (at end : ℕ) → end ≡ at + length (originText s o) → originWord o at end ≡ slotWord at (originSlot s o)
+word-is s Absent at end e = refl
+word-is s (Copied first past) at end e = ap (spanWord at) (omega arith)
+word-is s (Lowered first past) at end e = ap (spanWord at) (omega arith)
+word-is s Tx at end e = ap (spanWord at) (omega arith)
+word-is s One at end e = ap (spanWord at) (omega arith)
+
+-- ---- one action
+
+module _ (s : List ℕ) (p : Plan) where
+  pub plan-length : length (actionText (planAction s p)) ≡ length (originText s (p .a)) + (length (originText s (p .b)) + length (originText s (p .c)))
+  unfolding actionText
+  plan-length = rw (length-append, length-append)
+
+  module _ (text : List ℕ) (used : ℕ) (h : used + length (actionText (planAction s p)) ≤ length text) {t1 t2 t3 : List ℕ} {b c end : ℕ}
+      (e1 : t1 ≡ stored text used (originText s (p .a))) (b-is : b ≡ used + length (originText s (p .a)))
+      (e2 : t2 ≡ stored t1 b (originText s (p .b))) (c-is : c ≡ b + length (originText s (p .b)))
+      (e3 : t3 ≡ stored t2 c (originText s (p .c))) (end-is : end ≡ c + length (originText s (p .c)))
+    where
+      pub put-texts : t3 ≡ stored text used (actionText (planAction s p))
+      unfolding actionText
+      put-texts =
+          let f : b + length (originText s (p .b)) + length (originText s (p .c)) ≤ length t1 =
+          rw (e1, stored-length) (omega (arith, h, plan-length, b-is)) in
+          e3
+          ∙ ap (λ (l : List ℕ). stored l c (originText s (p .c))) e2
+          ∙ ap (λ (n : ℕ). stored (stored t1 b (originText s (p .b))) n (originText s (p .c))) c-is
+          ∙ stored-twice t1 b (originText s (p .b)) (originText s (p .c)) f
+          ∙ ap (λ (l : List ℕ). stored l b (originText s (p .b) ++ originText s (p .c))) e1
+          ∙ ap (λ (n : ℕ). stored (stored text used (originText s (p .a))) n (originText s (p .b) ++ originText s (p .c))) b-is
+          ∙ stored-twice text used (originText s (p .a)) (originText s (p .b) ++ originText s (p .c)) (rw length-append (omega (arith, h, plan-length)))
+
+      pub put-all : (records : List ℕ) (at : ℕ) {records′ : List ℕ} {wa wb wc : ℕ}
+          → wa ≡ originWord (p .a) used b → wb ≡ originWord (p .b) b c → wc ≡ originWord (p .c) c end
+          → records′ ≡ stored records at (p .code ∷ p .number ∷ wa ∷ wb ∷ p .kind ∷ wc ∷ [])
+          → Put (planAction s p) used at text t3 records records′ end
+      unfolding actionRecord
+      put-all records at fa fb fc r = record {
+        texts = put-texts;
+        words =
+            r ∙ rw (fa, fb, fc, word-is s (p .a) used b b-is, word-is s (p .b) b c c-is, word-is s (p .c) c end end-is, c-is, b-is);
+        end = omega (arith, plan-length, end-is, c-is, b-is);
+      }

@@ -1,0 +1,241 @@
+// The table of actions: the arms of parse_single_action as rows.
+ghost use mathlib.Core.Path.{_≡_};
+ghost use Prim.Native.Nat.{_≤_, _<_};
+ghost use lib.ListN.{length};
+ghost use Rattle.ascii.specs.Fold.{lowered, sameLowered};
+ghost use Rattle.lent.specs.Buffers.{stored};
+ghost use Rattle.actions.specs.Table.{rows, rowAt, Placed, ruleOf};
+
+// What is done with an argument.
+pub enum Rule {
+    // nothing
+    Plain,
+    // it is the text, and must be there
+    Wanted,
+    // it is the text without the marks at both ends, empty where absent
+    Unmarked,
+    // a number up to this, the largest of its width
+    UpTo(u64),
+    // a number or a severity word, without the marks at both ends
+    Severity,
+    // two texts, split at the first `=`
+    Equation,
+    // a text and seconds, split at the first `=`
+    Expiry,
+    // a setvar specification
+    Setting,
+}
+
+// Names as the Rust's errors spell them, 16 bytes each, zero-filled.
+const NAMES: [u8; 656] =
+    *b"deny\0\0\0\0\0\0\0\0\0\0\0\0block\0\0\0\0\0\0\0\0\0\0\0pass\0\0\0\0\0\0\0\0\0\0\0\0allow\0\0\0\0\0\0\0\0\0\0\0drop\0\0\0\0\0\0\0\0\0\0\0\0redirect\0\0\0\0\0\0\0\0chain\0\0\0\0\0\0\0\0\0\0\0skip\0\0\0\0\0\0\0\0\0\0\0\0skipAfter\0\0\0\0\0\0\0id\0\0\0\0\0\0\0\0\0\0\0\0\0\0phase\0\0\0\0\0\0\0\0\0\0\0severity\0\0\0\0\0\0\0\0msg\0\0\0\0\0\0\0\0\0\0\0\0\0tag\0\0\0\0\0\0\0\0\0\0\0\0\0rev\0\0\0\0\0\0\0\0\0\0\0\0\0ver\0\0\0\0\0\0\0\0\0\0\0\0\0maturity\0\0\0\0\0\0\0\0accuracy\0\0\0\0\0\0\0\0logdata\0\0\0\0\0\0\0\0\0status\0\0\0\0\0\0\0\0\0\0setvar\0\0\0\0\0\0\0\0\0\0capture\0\0\0\0\0\0\0\0\0log\0\0\0\0\0\0\0\0\0\0\0\0\0nolog\0\0\0\0\0\0\0\0\0\0\0auditlog\0\0\0\0\0\0\0\0noauditlog\0\0\0\0\0\0sanitisematched\0sanitizematched\0ctl\0\0\0\0\0\0\0\0\0\0\0\0\0initcol\0\0\0\0\0\0\0\0\0setsid\0\0\0\0\0\0\0\0\0\0setuid\0\0\0\0\0\0\0\0\0\0deprecatevar\0\0\0\0expirevar\0\0\0\0\0\0\0multimatch\0\0\0\0\0\0exec\0\0\0\0\0\0\0\0\0\0\0\0append\0\0\0\0\0\0\0\0\0\0prepend\0\0\0\0\0\0\0\0\0proxy\0\0\0\0\0\0\0\0\0\0\0pause\0\0\0\0\0\0\0\0\0\0\0xmlns\0\0\0\0\0\0\0\0\0\0\0";
+
+// Their lengths, the actions' codes, and their rules by number, row by row.
+const LENGTHS: [u8; 41] = [
+    4,
+    5,
+    4,
+    5,
+    4,
+    8,
+    5,
+    4,
+    9,
+    2,
+    5,
+    8,
+    3,
+    3,
+    3,
+    3,
+    8,
+    8,
+    7,
+    6,
+    6,
+    7,
+    3,
+    5,
+    8,
+    10,
+    15,
+    15,
+    3,
+    7,
+    6,
+    6,
+    12,
+    9,
+    10,
+    4,
+    6,
+    7,
+    5,
+    5,
+    5,
+];
+
+const CODES: [u8; 41] = [
+    1,
+    2,
+    3,
+    4,
+    5,
+    6,
+    7,
+    8,
+    9,
+    11,
+    12,
+    13,
+    14,
+    15,
+    16,
+    17,
+    18,
+    19,
+    20,
+    21,
+    22,
+    23,
+    26,
+    27,
+    28,
+    29,
+    30,
+    30,
+    31,
+    24,
+    29,
+    29,
+    29,
+    25,
+    10,
+    29,
+    29,
+    29,
+    29,
+    29,
+    29,
+];
+
+const RULES: [u8; 41] = [
+    0,
+    0,
+    0,
+    0,
+    0,
+    1,
+    0,
+    5,
+    1,
+    6,
+    3,
+    7,
+    2,
+    2,
+    2,
+    2,
+    3,
+    3,
+    2,
+    4,
+    10,
+    0,
+    0,
+    0,
+    0,
+    0,
+    0,
+    0,
+    8,
+    8,
+    0,
+    0,
+    0,
+    9,
+    0,
+    0,
+    0,
+    0,
+    0,
+    0,
+    0,
+];
+
+// Whether two names of one length are the same in small letters.
+fn is_named(row: &[u8], name: &[u8]) -> bool
+    requires { ⌜ length (now row) ≡ length (now name) ⌝ }
+    ensures { λ r. ⌜ r ≡ sameLowered (now (row .entry)) (lowered (now (name .entry))) ⌝ }
+{
+    let mut i = 0;
+    while i < name.len() {
+        if ascii::to_lower(row[i]) != ascii::to_lower(name[i]) {
+            return false;
+        }
+        i += 1;
+    }
+    true
+}
+
+// The row of a name in any letter case, 41 where there is none. The lengths are compared first.
+pub fn row_of(name: &[u8]) -> usize
+    ensures { λ r. ⌜ Placed (now (name .entry)) r ⌝ }
+{
+    let n = name.len();
+    let mut i: usize = 0;
+    while i < 41 {
+        if LENGTHS[i] as usize == n {
+            let at = 16 * i;
+            if is_named(&NAMES[at..at + n], name) {
+                return i;
+            }
+        }
+        i += 1;
+    }
+    i
+}
+
+// A row's name at the front of `out`, where it fits, and its length.
+pub fn put_name(row: usize, out: &mut [u8]) -> usize
+    requires { ⌜ row < 41 ⌝ }
+    ensures { λ r. ⌜ (now (out .exit) ≡ stored (now (out .entry)) 0 (rowAt row .name)) × (r ≡ length (rowAt row .name)) ⌝ }
+{
+    let n = LENGTHS[row] as usize;
+    let at = 16 * row;
+    lent::store_bytes(out, 0, &NAMES[at..at + n]);
+    n
+}
+
+pub fn code_of(row: usize) -> u64
+    requires { ⌜ row < 41 ⌝ }
+    ensures { λ r. ⌜ r ≡ rowAt row .code ⌝ }
+{
+    CODES[row] as u64
+}
+
+// The rule by its number in the table.
+fn numbered_rule(number: u8) -> Rule
+    ensures { λ r. ⌜ r ≡ ruleOf number ⌝ }
+{
+    match number {
+        1 => Rule::Wanted,
+        2 => Rule::Unmarked,
+        3 => Rule::UpTo(255),
+        4 => Rule::UpTo(65535),
+        5 => Rule::UpTo(4294967295),
+        6 => Rule::UpTo(18446744073709551615),
+        7 => Rule::Severity,
+        8 => Rule::Equation,
+        9 => Rule::Expiry,
+        10 => Rule::Setting,
+        _ => Rule::Plain,
+    }
+}
+
+pub fn rule_of(row: usize) -> Rule
+    requires { ⌜ row < 41 ⌝ }
+    ensures { λ r. ⌜ r ≡ rowAt row .rule ⌝ }
+{
+    numbered_rule(RULES[row])
+}
