@@ -32,135 +32,135 @@ const NAMES: [u8; 656] =
 
 // Their lengths, the actions' codes, and their rules by number, row by row.
 const LENGTHS: [u8; 41] = [
-    4,
-    5,
-    4,
-    5,
-    4,
-    8,
-    5,
-    4,
-    9,
-    2,
-    5,
-    8,
-    3,
-    3,
-    3,
-    3,
-    8,
-    8,
-    7,
-    6,
-    6,
-    7,
-    3,
-    5,
-    8,
-    10,
-    15,
-    15,
-    3,
-    7,
-    6,
-    6,
-    12,
-    9,
-    10,
-    4,
-    6,
-    7,
-    5,
-    5,
-    5,
+    4, // deny
+    5, // block
+    4, // pass
+    5, // allow
+    4, // drop
+    8, // redirect
+    5, // chain
+    4, // skip
+    9, // skipAfter
+    2, // id
+    5, // phase
+    8, // severity
+    3, // msg
+    3, // tag
+    3, // rev
+    3, // ver
+    8, // maturity
+    8, // accuracy
+    7, // logdata
+    6, // status
+    6, // setvar
+    7, // capture
+    3, // log
+    5, // nolog
+    8, // auditlog
+    10, // noauditlog
+    15, // sanitisematched
+    15, // sanitizematched
+    3, // ctl
+    7, // initcol
+    6, // setsid
+    6, // setuid
+    12, // deprecatevar
+    9, // expirevar
+    10, // multimatch
+    4, // exec
+    6, // append
+    7, // prepend
+    5, // proxy
+    5, // pause
+    5, // xmlns
 ];
 
 const CODES: [u8; 41] = [
-    1,
-    2,
-    3,
-    4,
-    5,
-    6,
-    7,
-    8,
-    9,
-    11,
-    12,
-    13,
-    14,
-    15,
-    16,
-    17,
-    18,
-    19,
-    20,
-    21,
-    22,
-    23,
-    26,
-    27,
-    28,
-    29,
-    30,
-    30,
-    31,
-    24,
-    29,
-    29,
-    29,
-    25,
-    10,
-    29,
-    29,
-    29,
-    29,
-    29,
-    29,
+    1, // deny
+    2, // block
+    3, // pass
+    4, // allow
+    5, // drop
+    6, // redirect
+    7, // chain
+    8, // skip
+    9, // skipAfter
+    11, // id
+    12, // phase
+    13, // severity
+    14, // msg
+    15, // tag
+    16, // rev
+    17, // ver
+    18, // maturity
+    19, // accuracy
+    20, // logdata
+    21, // status
+    22, // setvar
+    23, // capture
+    26, // log
+    27, // nolog
+    28, // auditlog
+    29, // noauditlog
+    30, // sanitisematched
+    30, // sanitizematched
+    31, // ctl
+    24, // initcol
+    29, // setsid
+    29, // setuid
+    29, // deprecatevar
+    25, // expirevar
+    10, // multimatch
+    29, // exec
+    29, // append
+    29, // prepend
+    29, // proxy
+    29, // pause
+    29, // xmlns
 ];
 
 const RULES: [u8; 41] = [
-    0,
-    0,
-    0,
-    0,
-    0,
-    1,
-    0,
-    5,
-    1,
-    6,
-    3,
-    7,
-    2,
-    2,
-    2,
-    2,
-    3,
-    3,
-    2,
-    4,
-    10,
-    0,
-    0,
-    0,
-    0,
-    0,
-    0,
-    0,
-    8,
-    8,
-    0,
-    0,
-    0,
-    9,
-    0,
-    0,
-    0,
-    0,
-    0,
-    0,
-    0,
+    0, // deny
+    0, // block
+    0, // pass
+    0, // allow
+    0, // drop
+    1, // redirect
+    0, // chain
+    5, // skip
+    1, // skipAfter
+    6, // id
+    3, // phase
+    7, // severity
+    2, // msg
+    2, // tag
+    2, // rev
+    2, // ver
+    3, // maturity
+    3, // accuracy
+    2, // logdata
+    4, // status
+    10, // setvar
+    0, // capture
+    0, // log
+    0, // nolog
+    0, // auditlog
+    0, // noauditlog
+    0, // sanitisematched
+    0, // sanitizematched
+    8, // ctl
+    8, // initcol
+    0, // setsid
+    0, // setuid
+    0, // deprecatevar
+    9, // expirevar
+    0, // multimatch
+    0, // exec
+    0, // append
+    0, // prepend
+    0, // proxy
+    0, // pause
+    0, // xmlns
 ];
 
 // Whether two names of one length are the same in small letters.
