@@ -33,18 +33,27 @@ variableRecord o v = 1 ∷ v .code ∷ bit (v .counts) ∷ selectionCode (v .cho
 abbrev pub exclusionRecord : ℕ → List ℕ → List ℕ
 exclusionRecord o e = 2 ∷ 0 ∷ 0 ∷ 0 ∷ spanWord o (length e) ∷ []
 
-unfoldable pub exclusionWords : ℕ → List (List ℕ) → List ℕ
-exclusionWords o [] = []
-exclusionWords o (e ∷ es) = exclusionRecord o e ++ exclusionWords (o + length e) es
+-- The texts of a list, one after another; and its records, each with the offset that its text has then.
+unfoldable pub textsOf : {A : Type 0} → (A → List ℕ) → List A → List ℕ
+textsOf text [] = []
+textsOf text (x ∷ xs) = text x ++ textsOf text xs
 
-unfoldable pub wordsFrom : ℕ → List Variable → List (List ℕ) → List ℕ
-wordsFrom o [] es = exclusionWords o es
-wordsFrom o (v ∷ vs) es = variableRecord o v ++ wordsFrom (o + length (selectionText (v .chosen))) vs es
+unfoldable pub wordsOf : {A : Type 0} → (ℕ → A → List ℕ) → (A → List ℕ) → ℕ → List A → List ℕ
+wordsOf words text o [] = []
+wordsOf words text o (x ∷ xs) = words o x ++ wordsOf words text (o + length (text x)) xs
 
-unfoldable pub exclusionTexts : List (List ℕ) → List ℕ
-exclusionTexts [] = []
-exclusionTexts (e ∷ es) = e ++ exclusionTexts es
+-- A variable's text is its selection's, and an exclusion's is itself.
+abbrev pub chosenText : Variable → List ℕ
+chosenText v = selectionText (v .chosen)
 
-unfoldable pub texts : List Variable → List (List ℕ) → List ℕ
-texts [] es = exclusionTexts es
-texts (v ∷ vs) es = selectionText (v .chosen) ++ texts vs es
+abbrev pub itself : List ℕ → List ℕ
+itself e = e
+
+abbrev pub selectionTexts : List Variable → List ℕ
+selectionTexts vs = textsOf chosenText vs
+
+abbrev pub texts : List Variable → List (List ℕ) → List ℕ
+texts vs es = selectionTexts vs ++ textsOf itself es
+
+abbrev pub wordsFrom : ℕ → List Variable → List (List ℕ) → List ℕ
+wordsFrom o vs es = wordsOf variableRecord chosenText o vs ++ wordsOf exclusionRecord itself (o + length (selectionTexts vs)) es

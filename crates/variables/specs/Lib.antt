@@ -2,5 +2,6 @@ pub mod Parts
 pub mod Variables
 pub mod Layout
 pub mod Promises
+pub mod Steps
 pub mod Xml
 pub mod Cases

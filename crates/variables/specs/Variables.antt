@@ -31,9 +31,11 @@ pub data Selection : Type 0 where
   regex : List ℕ → Selection
 
 -- A selection is a regex where it starts and ends with `/` and is longer than two bytes.
+abbrev pub isRegex : List ℕ → Bool
+isRegex s = and (eqb (getD s 0 0) 47) (and (eqb (getD s (length s - 1) 0) 47) (ltb 2 (length s)))
+
 unfoldable pub selection : List ℕ → Selection
-selection s =
-    pick (and (eqb (getD s 0 0) 47) (and (eqb (getD s (length s - 1) 0) 47) (ltb 2 (length s)))) (regex (take (length s - 2) (drop 1 s))) (key s)
+selection s = pick (isRegex s) (regex (take (length s - 2) (drop 1 s))) (key s)
 
 -- The Rust's VariableSpec, without exclusions, which hold for every variable of a list.
 pub record Variable : Type 0 where

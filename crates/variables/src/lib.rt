@@ -1,6 +1,12 @@
-// Variables and update targets (document 01, module 5): what an XML selection asks for, and types until the parsers land.
+// Variables and update targets (document 01, module 5), and what an XML selection asks for.
+mod finding;
+mod parsing;
+mod singles;
+mod writing;
 mod xml;
 
+pub use parsing::parse_update_targets;
+pub use parsing::parse_variables;
 pub use xml::XmlTarget;
 pub use xml::xml_target;
 

@@ -1,0 +1,291 @@
+-- The two loops over a list: the pieces read so far and those still to come make the whole, and what was read is written.
+use mathlib.Core.Path.{_≡_, _∙_, refl, sym, ap, ap₂}
+use mathlib.Core.List.{List, [], _∷_, _++_, append-assoc, append-nil}
+use Prim.Native.Nat.{ℕ, suc, _+_, _-_, _*_, _≤_, _<_}
+use native.Mathlib.Omega.{arith}
+use mathlib.Core.Bool.{true, false}
+use lib.ListN.{length, take, drop, getD, length-append, length-drop}
+use lib.Seq.{getD-take, getD-drop}
+use borrow.Author.Tests.{eq-eqb, ne-eqb}
+use Rattle.ascii.proofs.ListLaws.{rest-is}
+use Rattle.lent.specs.Sizes.{limit, variableWords}
+use Rattle.lent.specs.Buffers.{stored}
+use Rattle.variables.specs.Parts.{pieces}
+use Rattle.variables.specs.Variables.{Variable, variable, Targets, targets, refused, withVariable, withExclusion, piece, readAll}
+use Rattle.variables.specs.Layout.{textsOf, chosenText, itself, selectionTexts, texts, variableRecord, exclusionRecord}
+use Rattle.variables.specs.Steps.{part, NextPiece, Nexts, excludingOf, entryWords, Held, behindMark, excludedOf, IsVariable, IsExclusion, IsUnknown, Narrow, WroteVariables, WroteExclusions, AllRead, Stopped, Added, keptOf}
+use Rattle.variables.specs.declared.singles.Exclusions.{Exclusions}
+use Rattle.variables.specs.declared.singles.Entry.{Entry}
+use Rattle.variables.proofs.PlaceLaws.{part-length, part-part}
+use Rattle.variables.proofs.SingleLaws.{plain-mark, has-mark}
+use Rattle.variables.proofs.LayoutLaws.{texts-more, count-more, wrote-none, wrote-more}
+
+-- ---- before what is still to come
+
+abbrev ahead : List Variable → List (List ℕ) → ℕ → Targets → Targets
+ahead vs es i (targets us ds) = targets (vs ++ us) (es ++ ds)
+ahead vs es i (refused j name) = refused (i + j) name
+
+ahead-none : (ts : Targets) → ts ≡ ahead [] [] 0 ts
+ahead-none (targets vs es) = refl
+ahead-none (refused j name) = let e : 0 + j ≡ j = omega arith in rw e
+
+module _ (vs : List Variable) (es : List (List ℕ)) (i : ℕ) where
+  ahead-variable : (v : Variable) (ts : Targets) → ahead vs es i (withVariable (variable v) ts) ≡ ahead (vs ++ (v ∷ [])) es (i + 1) ts
+  ahead-variable v (targets us ds) = ap (λ (l : List Variable). targets l (es ++ ds)) (sym (append-assoc vs (v ∷ []) us))
+  ahead-variable v (refused j name) = let e : i + suc j ≡ i + 1 + j = omega arith in rw e
+
+  ahead-exclusion : (x : List ℕ) (ts : Targets) → ahead vs es i (withExclusion x ts) ≡ ahead vs (es ++ (x ∷ [])) (i + 1) ts
+  ahead-exclusion x (targets us ds) = ap (targets (vs ++ us)) (sym (append-assoc es (x ∷ []) ds))
+  ahead-exclusion x (refused j name) = let e : i + suc j ≡ i + 1 + j = omega arith in rw e
+
+-- ---- the first loop
+
+pub record Sofar (n : Exclusions) (s text₀ records₀ text records : List ℕ) (at variables excluded used : ℕ) : Type 0 where
+  pub vs : List Variable
+  pub es : List (List ℕ)
+  pub read : readAll (excludingOf n) (pieces s) ≡ ahead vs es (variables + excluded) (readAll (excludingOf n) (pieces (drop at s)))
+  pub marked : excludedOf (pieces s) ≡ es ++ excludedOf (pieces (drop at s))
+  pub excluded-are : excluded ≡ length es
+  pub wrote : WroteVariables text₀ text records₀ records vs used variables
+  pub low : used + length (textsOf itself es) + (variables + excluded) ≤ at
+  pub inside : at ≤ length s + 1
+  pub fits : used + length (textsOf itself es) ≤ length s
+  pub few : variables + excluded ≤ length s
+
+pub begun : (n : Exclusions) (s text records : List ℕ) → Sofar n s text records text records 0 0 0 0
+unfolding textsOf
+begun n s text records = record {
+  vs = [];
+  es = [];
+  read = ahead-none (readAll (excludingOf n) (pieces s));
+  marked = refl;
+  excluded-are = refl;
+  wrote = wrote-none variableRecord chosenText 0 0 text records;
+  low = omega arith;
+  inside = omega arith;
+  fits = omega arith;
+  few = omega arith;
+}
+
+pub wide-variable : (o : ℕ) (v : Variable) → length (variableRecord o v) ≡ variableWords
+wide-variable o v = refl
+
+pub wide-exclusion : (o : ℕ) (e : List ℕ) → length (exclusionRecord o e) ≡ variableWords
+wide-exclusion o e = refl
+
+module _ {n : Exclusions} {s text₀ records₀ text records : List ℕ} {at variables excluded used : ℕ} (x : Sofar n s text₀ records₀ text records at variables excluded used)
+    (short : length s ≤ limit) where
+  pub used-low : used ≤ limit + limit
+  used-low = omega (arith, x .low, x .inside)
+
+  pub some-low : variables + excluded ≤ limit + 1
+  some-low = omega (arith, x .low, x .inside)
+
+  -- nothing is left
+  left-is : pieces (drop at s) ≡ [] → readAll (excludingOf n) (pieces s) ≡ targets (x .vs) (x .es)
+  unfolding readAll
+  left-is e =
+      x .read ∙ ap (λ (l : List (List ℕ)). ahead (x .vs) (x .es) (variables + excluded) (readAll (excludingOf n) l)) e
+      ∙ ap₂ targets (append-nil (x .vs)) (append-nil (x .es))
+
+  unmarked-left : pieces (drop at s) ≡ [] → excludedOf (pieces s) ≡ x .es
+  unfolding excludedOf
+  unmarked-left e = x .marked ∙ ap (λ (l : List (List ℕ)). x .es ++ excludedOf l) e ∙ append-nil (x .es)
+
+  pub ended : pieces (drop at s) ≡ [] → AllRead n s text₀ text records₀ records variables excluded used
+  ended e =
+      let m = unmarked-left e in
+      record {
+        vs = x .vs;
+        read = left-is e ∙ ap (targets (x .vs)) (sym m);
+        excluded-are = x .excluded-are ∙ ap length (sym m);
+        fits = rw m (omega (arith, length-append (selectionTexts (x .vs)) (textsOf itself (x .es)), x .wrote .used-is, x .fits));
+        few = omega (arith, x .few);
+        wrote = x .wrote;
+      }
+
+  module _ (first past next : ℕ) (p : NextPiece s at first past next) where
+    abbrev this : List ℕ
+    this = part s first past
+
+    abbrev later : Targets
+    later = readAll (excludingOf n) (pieces (drop next s))
+
+    pub this-long : length this ≡ past - first
+    this-long = part-length s first past (omega (arith, p .before, p .inside))
+
+    pub this-some : 0 < length this
+    this-some = omega (arith, this-long, p .some)
+
+    all-is : readAll (excludingOf n) (pieces s) ≡ ahead (x .vs) (x .es) (variables + excluded) (piece (excludingOf n) this later)
+    unfolding readAll
+    all-is = x .read ∙ ap (λ (l : List (List ℕ)). ahead (x .vs) (x .es) (variables + excluded) (readAll (excludingOf n) l)) (p .list)
+
+    mark-is : excludedOf (pieces s) ≡ x .es ++ behindMark this (excludedOf (pieces (drop next s)))
+    unfolding excludedOf
+    mark-is = x .marked ∙ ap (λ (l : List (List ℕ)). x .es ++ excludedOf l) (p .list)
+
+    -- a name that is none
+    pub stopped : (begin end : ℕ) → IsUnknown (excludingOf n) this begin end → Stopped n s (variables + excluded) (first + begin) (first + end)
+    stopped begin end u =
+        let k : end ≤ past - first = omega (arith, this-long, u .inside) in
+        let z : variables + excluded + 0 ≡ variables + excluded = omega arith in
+        record {
+          read = all-is ∙ ap (ahead (x .vs) (x .es) (variables + excluded)) (u .is later) ∙ rw z
+              (ap (refused (variables + excluded)) (part-part s first past begin end (omega (arith, p .some)) (omega (arith, p .before, p .inside)) (u .ordered) k));
+          ordered = omega (arith, u .ordered);
+          inside = omega (arith, k, p .some, p .before, p .inside);
+        }
+
+    -- an exclusion
+    pub passed : IsExclusion (excludingOf n) this → Sofar n s text₀ records₀ text records next variables (excluded + 1) used
+    passed u =
+        let t = texts-more itself (x .es) (drop 1 this) in
+        let grown : used + length (textsOf itself (x .es ++ (drop 1 this ∷ []))) + (variables + (excluded + 1)) ≤ next =
+        omega (arith, x .low, ap length t, length-append (textsOf itself (x .es)) (drop 1 this), length-drop 1 this, this-long, this-some, p .begun, p .some, p .before) in
+        record {
+          vs = x .vs;
+          es = x .es ++ (drop 1 this ∷ []);
+          read = all-is ∙ ap (ahead (x .vs) (x .es) (variables + excluded)) (u .is later)
+              ∙ ahead-exclusion (x .vs) (x .es) (variables + excluded) (drop 1 this) later
+              ∙ ap (λ (i : ℕ). ahead (x .vs) (x .es ++ (drop 1 this ∷ [])) i later) (omega arith);
+          marked = mark-is ∙ ap (λ (l : List (List ℕ)). x .es ++ l) (u .mark (excludedOf (pieces (drop next s))))
+              ∙ sym (append-assoc (x .es) (drop 1 this ∷ []) (excludedOf (pieces (drop next s))));
+          excluded-are = omega (arith, x .excluded-are, count-more (x .es) (drop 1 this));
+          wrote = x .wrote;
+          low = grown;
+          inside = p .inside;
+          fits = omega (arith, grown, p .inside);
+          few = omega (arith, x .low, this-long, p .begun, p .some, p .before, p .inside);
+        }
+
+    -- a variable
+    module _ (e : Entry) (u : IsVariable (excludingOf n) this e) where
+      pub entry-narrow : Narrow e used
+      entry-narrow = let t = u .held .text in record {
+        ordered = t .ordered;
+        near = omega (arith, t .inside, this-long, p .before, p .inside);
+        offset-low = used-low;
+      }
+
+      pub entry-inside : e .past ≤ length this
+      entry-inside = u .held .text .inside
+
+      pub turned : (text′ records′ : List ℕ) → text′ ≡ stored text used (part this (e .first) (e .past))
+          → records′ ≡ stored records (variables * variableWords) (entryWords used e)
+          → Sofar n s text₀ records₀ text′ records′ next (variables + 1) excluded (used + (e .past - e .first))
+      turned text′ records′ a b =
+          let t = u .held .text in
+          let l = part-length this (e .first) (e .past) (t .inside) in
+          let grown : used + (e .past - e .first) + length (textsOf itself (x .es)) + (variables + 1 + excluded) ≤ next = omega (arith, x .low, t .short, t .ordered, this-long, p .begun, p .some, p .before) in
+          record {
+            vs = x .vs ++ (u .v ∷ []);
+            es = x .es;
+            read = all-is ∙ ap (ahead (x .vs) (x .es) (variables + excluded)) (u .is later)
+                ∙ ahead-variable (x .vs) (x .es) (variables + excluded) (u .v) later
+                ∙ ap (λ (i : ℕ). ahead (x .vs ++ (u .v ∷ [])) (x .es) i later) (omega arith);
+            marked = mark-is ∙ ap (λ (l : List (List ℕ)). x .es ++ l) (u .plain (excludedOf (pieces (drop next s))));
+            excluded-are = x .excluded-are;
+            wrote = wrote-more (x .wrote) wide-variable (u .v) text′ records′ (part this (e .first) (e .past)) (entryWords used e) (used + (e .past - e .first))
+                (t .is) (u .held .words used) (omega (arith, l)) a b;
+            low = grown;
+            inside = p .inside;
+            fits = omega (arith, grown, p .inside);
+            few = omega (arith, x .low, this-long, p .begun, p .some, p .before, p .inside);
+          }
+
+-- ---- the second loop
+
+pub record Adding (s : List ℕ) (offset place : ℕ) (text₀ records₀ text records : List ℕ) (at used count : ℕ) : Type 0 where
+  pub es : List (List ℕ)
+  pub marked : excludedOf (pieces s) ≡ es ++ excludedOf (pieces (drop at s))
+  pub wrote : WroteExclusions offset place text₀ text records₀ records es used count
+  pub used-low : used ≤ offset + at
+  pub count-low : count ≤ place + at
+  pub inside : at ≤ length s + 1
+
+pub add-begun : (s text records : List ℕ) (offset place : ℕ) → Adding s offset place text records text records 0 offset place
+add-begun s text records offset place = record {
+  es = [];
+  marked = refl;
+  wrote = wrote-none exclusionRecord itself offset place text records;
+  used-low = omega arith;
+  count-low = omega arith;
+  inside = omega arith;
+}
+
+-- the entry of an exclusion whose piece has that length
+abbrev pub exclusionEntry : ℕ → Entry
+exclusionEntry n = record { kind = 2; code = 0; counts = false; selection = 0; spanned = true; first = 1; past = n }
+
+module _ {s : List ℕ} {offset place : ℕ} {text₀ records₀ text records : List ℕ} {at used count : ℕ} (x : Adding s offset place text₀ records₀ text records at used count) where
+  pub add-ended : pieces (drop at s) ≡ [] → Added (excludedOf (pieces s)) offset place text₀ text records₀ records used
+  unfolding excludedOf
+  add-ended e =
+      let m : excludedOf (pieces s) ≡ x .es = x .marked ∙ ap (λ (l : List (List ℕ)). x .es ++ excludedOf l) e ∙ append-nil (x .es) in
+      rw (m, ← x .wrote .count-is) (x .wrote)
+
+  module _ (first past next : ℕ) (p : NextPiece s at first past next) where
+    pub piece-long : length (part s first past) ≡ past - first
+    piece-long = part-length s first past (omega (arith, p .before, p .inside))
+
+    piece-some : 0 < length (part s first past)
+    piece-some = omega (arith, piece-long, p .some)
+
+    first-byte : getD (part s first past) 0 0 ≡ getD s first 0
+    first-byte =
+        let z : first + 0 ≡ first = omega arith in
+        getD-take (past - first) (drop first s) 0 0 (omega (arith, p .some)) ∙ getD-drop first s 0 0 ∙ ap (λ (i : ℕ). getD s i 0) z
+
+    mark-at : excludedOf (pieces s) ≡ x .es ++ behindMark (part s first past) (excludedOf (pieces (drop next s)))
+    unfolding excludedOf
+    mark-at = x .marked ∙ ap (λ (l : List (List ℕ)). x .es ++ excludedOf l) (p .list)
+
+    -- no exclusion
+    pub add-passed : (getD s first 0 ≡ 33 → ⊥) → Adding s offset place text₀ records₀ text records next used count
+    add-passed h = record {
+      es = x .es;
+      marked = mark-at ∙ ap (λ (l : List (List ℕ)). x .es ++ l) (plain-mark (part s first past) (λ e. h (sym first-byte ∙ e)) (excludedOf (pieces (drop next s))));
+      wrote = x .wrote;
+      used-low = omega (arith, x .used-low, p .begun, p .some, p .before);
+      count-low = omega (arith, x .count-low, p .begun, p .some, p .before);
+      inside = p .inside;
+    }
+
+    pub add-narrow : length s ≤ limit → offset ≤ limit → Narrow (exclusionEntry (past - first)) used
+    add-narrow h k = record {
+      ordered = omega (arith, p .some);
+      near = omega (arith, p .before, p .inside);
+      offset-low = omega (arith, x .used-low, p .begun, p .some, p .before, p .inside);
+    }
+
+    -- an exclusion
+    pub add-turned : getD s first 0 ≡ 33 → (text′ records′ : List ℕ) → text′ ≡ stored text used (part (part s first past) 1 (past - first))
+        → records′ ≡ stored records (count * variableWords) (entryWords used (exclusionEntry (past - first)))
+        → Adding s offset place text₀ records₀ text′ records′ next (used + (past - first - 1)) (count + 1)
+    add-turned h text′ records′ a b =
+        let q = part s first past in
+        let t : part q 1 (past - first) ≡ drop 1 q = ap (λ (k : ℕ). take (k - 1) (drop 1 q)) (sym piece-long) ∙ rest-is q 1 in
+        let l : length (drop 1 q) ≡ past - first - 1 = length-drop 1 q ∙ ap (λ (k : ℕ). k - 1) piece-long in
+        let r : entryWords used (exclusionEntry (past - first)) ≡ exclusionRecord used (drop 1 q) = rw l in
+        record {
+          es = x .es ++ (drop 1 q ∷ []);
+          marked = mark-at ∙ ap (λ (l : List (List ℕ)). x .es ++ l) (has-mark q piece-some (first-byte ∙ h) (excludedOf (pieces (drop next s))))
+              ∙ sym (append-assoc (x .es) (drop 1 q ∷ []) (excludedOf (pieces (drop next s))));
+          wrote = wrote-more (x .wrote) wide-exclusion (drop 1 q) text′ records′ (part q 1 (past - first)) (entryWords used (exclusionEntry (past - first))) (used + (past - first - 1))
+              t r (omega (arith, ap length t, l)) a b;
+          used-low = omega (arith, x .used-low, p .begun, p .some, p .before);
+          count-low = omega (arith, x .count-low, p .begun, p .some, p .before);
+          inside = p .inside;
+        }
+
+-- none are kept
+pub add-none : (kept : ℕ) (es : List (List ℕ)) (offset place : ℕ) (text records : List ℕ) → kept ≡ 0 → Added (keptOf kept es) offset place text text records records offset
+add-none kept es offset place text records e =
+    let z : place + 0 ≡ place = omega arith in
+    rw (eq-eqb kept 0 e, z) (wrote-none exclusionRecord itself offset place text records)
+
+pub add-some : (kept : ℕ) (es : List (List ℕ)) (offset place : ℕ) (text text′ records records′ : List ℕ) (r : ℕ) → (kept ≡ 0 → ⊥)
+    → Added es offset place text text′ records records′ r → Added (keptOf kept es) offset place text text′ records records′ r
+add-some kept es offset place text text′ records records′ r h x = rw (ne-eqb kept 0 h) x

@@ -1,0 +1,63 @@
+-- By the gate's answer.
+use mathlib.Core.Path.{_∙_, sym}
+use denote.Ref.{now}
+use Rattle.lent.proofs.GateLaws.{open-is}
+use Rattle.variables.proofs.AnswerLaws.{gate-too-long, gate-not-ascii, gate-short, gate-open}
+use borrow.Author.Needs.{needs}
+use Rattle.variables.proofs.parsing.parse.Statement.{statement}
+use Rattle.variables.proofs.parsing.parse.Tie as tie
+
+admit-requires : tie.Need-admit-requires
+admit-requires c κs = search needs
+
+enum-told : tie.Need-enum-told
+enum-told c = search needs
+
+enum-known-place : tie.Need-enum-known-place
+enum-known-place c = search needs
+
+enum-told-2 : tie.Need-enum-told-2
+enum-told-2 c = search needs
+
+enum-told-3 : tie.Need-enum-told-3
+enum-told-3 c = search needs
+
+read-requires : tie.Need-read-requires
+read-requires c κs =
+    let o = open-is (now ((c .before .before .before .before .before .before .before .before .args) .input)) _ _ .0 (sym ((c .before .before .before .before .admit) .ensures) ∙ (c .before .before .enum-told3) .given .1) in
+    (o .within, o .room)
+
+returns : tie.Need-returns
+returns c = gate-too-long ((c .before .before .before .before .before .before .args) .exclusions) (now ((c .before .before .before .before .before .before .args) .input)) (now ((c .before .before .before .before .before .before .args) .text)) (now ((c .before .before .before .before .before .before .args) .records)) _ ((c .before .before .admit) .ensures) ((c .enum-told) .given .1)
+
+returns-2 : tie.Need-returns-2
+returns-2 c = gate-not-ascii ((c .before .before .before .before .before .before .before .args) .exclusions) (now ((c .before .before .before .before .before .before .before .args) .input)) (now ((c .before .before .before .before .before .before .before .args) .text)) (now ((c .before .before .before .before .before .before .before .args) .records)) _ ((c .before .before .before .admit) .ensures) _ ((c .before .place) .given .1)
+
+returns-3 : tie.Need-returns-3
+returns-3 c = gate-short ((c .before .before .before .before .before .before .args) .exclusions) (now ((c .before .before .before .before .before .before .args) .input)) (now ((c .before .before .before .before .before .before .args) .text)) (now ((c .before .before .before .before .before .before .args) .records)) _ ((c .before .before .admit) .ensures) ((c .enum-told2) .given .1)
+
+same-length : tie.Need-same-length
+same-length c = search needs
+
+same-length-2 : tie.Need-same-length-2
+same-length-2 c = search needs
+
+returns-4 : tie.Need-returns-4
+returns-4 c = gate-open ((c .before .before .before .before .before .before .before .before .before .before .before .before .before .args) .exclusions) (now ((c .before .before .before .before .before .before .before .before .before .before .before .before .before .args) .input)) (now ((c .before .before .before .before .before .before .before .before .before .before .before .before .before .args) .text)) (now ((c .before .before .before .before .before .before .before .before .before .before .before .before .before .args) .records)) _ ((c .before .before .before .before .before .before .before .before .before .admit) .ensures) ((c .before .before .before .before .before .before .before .enum-told3) .given .1) ((c .before .before .before .before .read) .ensures)
+
+pub parse-spec : {M : Type 1} → statement M
+parse-spec =
+    tie.close
+    (tie.spec
+    admit-requires
+    enum-told
+    enum-known-place
+    enum-told-2
+    enum-told-3
+    read-requires
+    returns
+    returns-2
+    returns-3
+    same-length
+    same-length-2
+    returns-4)

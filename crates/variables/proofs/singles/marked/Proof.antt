@@ -1,0 +1,77 @@
+-- As written it is an exclusion at once; looked up, by what the lookup finds.
+use native.Mathlib.Omega.{arith}
+use denote.Ref.{now}
+use mathlib.Core.Bool.{false}
+use Rattle.variables.proofs.SingleLaws.{colon-fits, marked-written, marked-known, marked-unknown}
+use borrow.Author.Needs.{needs}
+use Rattle.variables.proofs.singles.marked.Statement.{statement}
+use Rattle.variables.proofs.singles.marked.Tie as tie
+
+enum-told : tie.Need-enum-told
+enum-told c = search needs
+
+enum-told-2 : tie.Need-enum-told-2
+enum-told-2 c = search needs
+
+sub-length-before : tie.Need-sub-length-before
+sub-length-before c = search needs
+
+part-length-before-start : tie.Need-part-length-before-start
+part-length-before-start c = search needs
+
+part-length-before-end : tie.Need-part-length-before-end
+part-length-before-end c = search needs
+
+length-before-requires : tie.Need-length-before-requires
+length-before-requires c κs = search needs
+
+add-end : tie.Need-add-end
+add-end c = omega (arith, colon-fits (now ((c .before .before .before .before .before .args) .p)) 1 _ false (omega arith) ((c .length-before) .ensures))
+
+sub-variable-code : tie.Need-sub-variable-code
+sub-variable-code c = search needs
+
+part-variable-code-start : tie.Need-part-variable-code-start
+part-variable-code-start c = search needs
+
+part-variable-code-end : tie.Need-part-variable-code-end
+part-variable-code-end c = colon-fits (now ((c .before .before .before .before .before .args) .p)) 1 _ false (omega arith) ((c .length-before) .ensures)
+
+variable-code-requires : tie.Need-variable-code-requires
+variable-code-requires c κs = search needs
+
+enum-told-3 : tie.Need-enum-told-3
+enum-told-3 c = search needs
+
+enum-told-4 : tie.Need-enum-told-4
+enum-told-4 c = search needs
+
+returns : tie.Need-returns
+returns c = rw ((c .enum-told) .given .1) (marked-written (now ((c .before .before .before .args) .p)) ((c .before .before .before .pre) .0) ((c .before .before .before .pre) .1))
+
+returns-2 : tie.Need-returns-2
+returns-2 c = rw ((c .before .before .before .before .before .before .enum-told2) .given .1) (marked-known (now ((c .before .before .before .before .before .before .before .before .before .args) .p)) ((c .before .before .before .before .before .before .before .before .before .pre) .0) ((c .before .before .before .before .before .before .before .before .before .pre) .1) _ ((c .before .before .before .before .length-before) .ensures) _ ((c .before .before .variable-code) .ensures) _ ((c .enum-told3) .given .1))
+
+returns-3 : tie.Need-returns-3
+returns-3 c = rw ((c .before .before .before .before .before .before .enum-told2) .given .1) (marked-unknown (now ((c .before .before .before .before .before .before .before .before .before .args) .p)) ((c .before .before .before .before .before .before .before .before .before .pre) .0) ((c .before .before .before .before .before .before .before .before .before .pre) .1) _ ((c .before .before .before .before .length-before) .ensures) _ ((c .before .before .variable-code) .ensures) ((c .enum-told4) .given .1))
+
+pub marked-spec : {M : Type 1} → statement M
+marked-spec =
+    tie.close
+    (tie.spec
+    enum-told
+    enum-told-2
+    sub-length-before
+    part-length-before-start
+    part-length-before-end
+    length-before-requires
+    add-end
+    sub-variable-code
+    part-variable-code-start
+    part-variable-code-end
+    variable-code-requires
+    enum-told-3
+    enum-told-4
+    returns
+    returns-2
+    returns-3)

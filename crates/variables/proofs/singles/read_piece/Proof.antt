@@ -1,0 +1,41 @@
+-- By the first byte; each way out is one law.
+use native.Mathlib.Omega.{arith}
+use denote.Ref.{now}
+use Rattle.variables.specs.Steps.{excludingOf}
+use Rattle.variables.proofs.SingleLaws.{pieced-counts, pieced-plain}
+use borrow.Author.Needs.{needs}
+use Rattle.variables.proofs.singles.read_piece.Statement.{statement}
+use Rattle.variables.proofs.singles.read_piece.Tie as tie
+
+shared-slice-read-b : tie.Need-shared-slice-read-b
+shared-slice-read-b c = search needs
+
+marked-requires : tie.Need-marked-requires
+marked-requires c κs = ((c .before .before .before .pre), (c .if1) .taken)
+
+returns : tie.Need-returns
+returns c = (c .marked) .ensures
+
+named-requires : tie.Need-named-requires
+named-requires c κs = search needs
+
+returns-2 : tie.Need-returns-2
+returns-2 c = pieced-counts (excludingOf ((c .before .before .before .before .before .args) .exclusions)) (now ((c .before .before .before .before .before .args) .p)) (c .before .before .before .before .before .pre) ((c .before .before .if1) .left) ((c .before .if2) .taken) ((c .named) .result) ((c .named) .ensures)
+
+named-requires-2 : tie.Need-named-requires-2
+named-requires-2 c κs = search needs
+
+returns-3 : tie.Need-returns-3
+returns-3 c = pieced-plain (excludingOf ((c .before .before .before .before .before .args) .exclusions)) (now ((c .before .before .before .before .before .args) .p)) (c .before .before .before .before .before .pre) ((c .before .before .if1) .left) ((c .before .if2) .left) ((c .named2) .result) ((c .named2) .ensures)
+
+pub read-piece-spec : {M : Type 1} → statement M
+read-piece-spec =
+    tie.close
+    (tie.spec
+    shared-slice-read-b
+    marked-requires
+    returns
+    named-requires
+    returns-2
+    named-requires-2
+    returns-3)

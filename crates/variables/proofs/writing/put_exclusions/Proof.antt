@@ -1,0 +1,106 @@
+-- The loop keeps that the exclusions passed are written; each need is one law of ScanLaws.
+use borrow.Author.Needs.{needs}
+use Prim.Native.Nat.{_+_, _-_}
+use native.Mathlib.Omega.{arith}
+use denote.Ref.{now}
+use lib.ListN.{length}
+use Rattle.variables.proofs.ScanLaws.{Adding, add-begun, add-ended, add-passed, add-narrow, add-turned, piece-long}
+use Rattle.variables.proofs.writing.put_exclusions.Statement.{statement}
+use Rattle.variables.proofs.writing.put_exclusions.Tie as tie
+
+abbrev Inv-loop : tie.InvT-loop
+Inv-loop s text₀ offset records₀ place at₀ used₀ count₀ text records at used count = Adding s offset place text₀ records₀ text records at used count
+
+abbrev μ-loop : tie.MeasureT-loop
+μ-loop s text₀ offset records₀ place at₀ used₀ count₀ text records at used count = length s + 1 - at
+
+loop-holds : tie.Need-loop-holds Inv-loop μ-loop
+loop-holds c = add-begun (now ((c .before .before .before .args) .s)) (now ((c .before .before .before .args) .text)) (now ((c .before .before .before .args) .records)) ((c .before .before .before .args) .offset) ((c .before .before .before .args) .place)
+
+next-piece-requires : tie.Need-next-piece-requires Inv-loop μ-loop
+next-piece-requires c κs = search needs
+
+enum-known-first : tie.Need-enum-known-first Inv-loop μ-loop
+enum-known-first c = search needs
+
+enum-told : tie.Need-enum-told Inv-loop μ-loop
+enum-told c = search needs
+
+same-length : tie.Need-same-length Inv-loop μ-loop
+same-length c = ((c .before .before .before .loop) .inv) .wrote .text-laid .long
+
+same-length-2 : tie.Need-same-length-2 Inv-loop μ-loop
+same-length-2 c = ((c .before .before .before .loop) .inv) .wrote .words-laid .long
+
+returns : tie.Need-returns Inv-loop μ-loop
+returns c = add-ended ((c .before .before .before .loop) .inv) (rw ((c .enum-told) .given .1) at ((c .before .before .next-piece) .ensures))
+
+shared-slice-read-if1 : tie.Need-shared-slice-read-if1 Inv-loop μ-loop
+shared-slice-read-if1 c = let p = (rw ((c .before .before .first) .given .1) at ((c .before .before .before .before .next-piece) .ensures)) in omega (arith, p .some, p .before, p .inside)
+
+sub-put : tie.Need-sub-put Inv-loop μ-loop
+sub-put c = let p = (rw ((c .before .before .before .first) .given .1) at ((c .before .before .before .before .before .next-piece) .ensures)) in omega (arith, p .some)
+
+sub-put-2 : tie.Need-sub-put-2 Inv-loop μ-loop
+sub-put-2 c = let p = (rw ((c .before .before .before .first) .given .1) at ((c .before .before .before .before .before .next-piece) .ensures)) in omega (arith, p .some)
+
+part-put-start : tie.Need-part-put-start Inv-loop μ-loop
+part-put-start c = let p = (rw ((c .before .before .before .first) .given .1) at ((c .before .before .before .before .before .next-piece) .ensures)) in omega (arith, p .some)
+
+part-put-end : tie.Need-part-put-end Inv-loop μ-loop
+part-put-end c = let p = (rw ((c .before .before .before .first) .given .1) at ((c .before .before .before .before .before .next-piece) .ensures)) in omega (arith, p .before, p .inside)
+
+put-requires : tie.Need-put-requires Inv-loop μ-loop
+put-requires c κs = let p = (rw ((c .before .before .before .before .before .before .first) .given .1) at ((c .before .before .before .before .before .before .before .before .next-piece) .ensures)) in (add-narrow ((c .before .before .before .before .before .before .before .before .before .loop) .inv) _ _ _ p ((c .before .before .before .before .before .before .before .before .before .before .before .before .before .pre) .0) ((c .before .before .before .before .before .before .before .before .before .before .before .before .before .pre) .1 .0), (omega (arith, piece-long ((c .before .before .before .before .before .before .before .before .before .loop) .inv) _ _ _ p), omega (arith, ((c .before .before .before .before .before .before .before .before .before .loop) .inv) .count-low, p .begun, p .some, p .before, p .inside, (c .before .before .before .before .before .before .before .before .before .before .before .before .before .pre))))
+
+sub-used : tie.Need-sub-used Inv-loop μ-loop
+sub-used c = let p = (rw ((c .before .before .before .before .before .before .before .before .before .before .before .first) .given .1) at ((c .before .before .before .before .before .before .before .before .before .before .before .before .before .next-piece) .ensures)) in omega (arith, p .some)
+
+sub-used-2 : tie.Need-sub-used-2 Inv-loop μ-loop
+sub-used-2 c = let p = (rw ((c .before .before .before .before .before .before .before .before .before .before .before .first) .given .1) at ((c .before .before .before .before .before .before .before .before .before .before .before .before .before .next-piece) .ensures)) in omega (arith, p .some)
+
+add-used : tie.Need-add-used Inv-loop μ-loop
+add-used c = let p = (rw ((c .before .before .before .before .before .before .before .before .before .before .before .first) .given .1) at ((c .before .before .before .before .before .before .before .before .before .before .before .before .before .next-piece) .ensures)) in omega (arith, ((c .before .before .before .before .before .before .before .before .before .before .before .before .before .before .loop) .inv) .used-low, p .begun, p .some, p .before, p .inside, (c .before .before .before .before .before .before .before .before .before .before .before .before .before .before .before .before .before .before .pre))
+
+add-count : tie.Need-add-count Inv-loop μ-loop
+add-count c = let p = (rw ((c .before .before .before .before .before .before .before .before .before .before .before .first) .given .1) at ((c .before .before .before .before .before .before .before .before .before .before .before .before .before .next-piece) .ensures)) in omega (arith, ((c .before .before .before .before .before .before .before .before .before .before .before .before .before .before .loop) .inv) .count-low, p .begun, p .some, p .before, p .inside, (c .before .before .before .before .before .before .before .before .before .before .before .before .before .before .before .before .before .before .pre))
+
+loop-less : tie.Need-loop-less Inv-loop μ-loop
+loop-less c = let p = (rw ((c .before .before .before .before .before .before .before .before .before .before .before .first) .given .1) at ((c .before .before .before .before .before .before .before .before .before .before .before .before .before .next-piece) .ensures)) in omega (arith, p .begun, p .some, p .before, p .inside)
+
+loop-again : tie.Need-loop-again Inv-loop μ-loop
+loop-again c = add-turned ((c .before .before .before .before .before .before .before .before .before .before .before .before .before .before .loop) .inv) _ _ _ (rw ((c .before .before .before .before .before .before .before .before .before .before .before .first) .given .1) at ((c .before .before .before .before .before .before .before .before .before .before .before .before .before .next-piece) .ensures)) ((c .before .before .before .before .before .before .before .before .if1) .taken) _ _ ((c .before .before .before .before .put) .ensures .0) ((c .before .before .before .before .put) .ensures .1)
+
+loop-less-2 : tie.Need-loop-less-2 Inv-loop μ-loop
+loop-less-2 c = let p = (rw ((c .before .before .before .first) .given .1) at ((c .before .before .before .before .before .next-piece) .ensures)) in omega (arith, p .begun, p .some, p .before, p .inside)
+
+loop-again-2 : tie.Need-loop-again-2 Inv-loop μ-loop
+loop-again-2 c = add-passed ((c .before .before .before .before .before .before .loop) .inv) _ _ _ (rw ((c .before .before .before .first) .given .1) at ((c .before .before .before .before .before .next-piece) .ensures)) ((c .if1) .left)
+
+pub put-exclusions-spec : {M : Type 1} → statement M
+put-exclusions-spec =
+    tie.close
+    (tie.spec
+    Inv-loop
+    μ-loop
+    loop-holds
+    next-piece-requires
+    enum-known-first
+    enum-told
+    same-length
+    same-length-2
+    returns
+    shared-slice-read-if1
+    sub-put
+    sub-put-2
+    part-put-start
+    part-put-end
+    put-requires
+    sub-used
+    sub-used-2
+    add-used
+    add-count
+    loop-less
+    loop-again
+    loop-less-2
+    loop-again-2)

@@ -1,0 +1,140 @@
+-- The loop keeps that what was read is written and decides the rest; each need is one law of ScanLaws.
+use borrow.Author.Needs.{needs}
+use Prim.Native.Nat.{_+_, _-_}
+use native.Mathlib.Omega.{arith}
+use denote.Ref.{now}
+use lib.ListN.{length}
+use Rattle.variables.proofs.ScanLaws.{Sofar, begun, ended, used-low, some-low, this-long, this-some, stopped, passed, entry-narrow, entry-inside, turned}
+use Rattle.variables.proofs.writing.scan.Statement.{statement}
+use Rattle.variables.proofs.writing.scan.Tie as tie
+
+abbrev Inv-loop : tie.InvT-loop
+Inv-loop s exclusions text₀ records₀ at₀ variables₀ excluded₀ used₀ text records at variables excluded used =
+    Sofar exclusions s text₀ records₀ text records at variables excluded used
+
+abbrev μ-loop : tie.MeasureT-loop
+μ-loop s exclusions text₀ records₀ at₀ variables₀ excluded₀ used₀ text records at variables excluded used =
+    length s + 1 - at
+
+loop-holds : tie.Need-loop-holds Inv-loop μ-loop
+loop-holds c = begun ((c .before .before .before .args) .exclusions) (now ((c .before .before .before .args) .s)) (now ((c .before .before .before .args) .text)) (now ((c .before .before .before .args) .records))
+
+next-piece-requires : tie.Need-next-piece-requires Inv-loop μ-loop
+next-piece-requires c κs = search needs
+
+enum-known-first : tie.Need-enum-known-first Inv-loop μ-loop
+enum-known-first c = search needs
+
+enum-told : tie.Need-enum-told Inv-loop μ-loop
+enum-told c = search needs
+
+same-length : tie.Need-same-length Inv-loop μ-loop
+same-length c = ((c .before .before .before .loop) .inv) .wrote .text-laid .long
+
+same-length-2 : tie.Need-same-length-2 Inv-loop μ-loop
+same-length-2 c = ((c .before .before .before .loop) .inv) .wrote .words-laid .long
+
+returns : tie.Need-returns Inv-loop μ-loop
+returns c = ended ((c .before .before .before .loop) .inv) (c .before .before .before .before .before .before .before .pre) (rw ((c .enum-told) .given .1) at ((c .before .before .next-piece) .ensures))
+
+sub-p : tie.Need-sub-p Inv-loop μ-loop
+sub-p c = let p = (rw ((c .before .first) .given .1) at ((c .before .before .before .next-piece) .ensures)) in omega (arith, p .some)
+
+part-p-start : tie.Need-part-p-start Inv-loop μ-loop
+part-p-start c = let p = (rw ((c .before .first) .given .1) at ((c .before .before .before .next-piece) .ensures)) in omega (arith, p .some)
+
+part-p-end : tie.Need-part-p-end Inv-loop μ-loop
+part-p-end c = let p = (rw ((c .before .first) .given .1) at ((c .before .before .before .next-piece) .ensures)) in omega (arith, p .before, p .inside)
+
+read-piece-requires : tie.Need-read-piece-requires Inv-loop μ-loop
+read-piece-requires c κs = this-some ((c .before .before .before .before .before .loop) .inv) (c .before .before .before .before .before .before .before .before .before .pre) _ _ _ (rw ((c .before .before .first) .given .1) at ((c .before .before .before .before .next-piece) .ensures))
+
+enum-known-begin : tie.Need-enum-known-begin Inv-loop μ-loop
+enum-known-begin c = search needs
+
+add-t21 : tie.Need-add-t21 Inv-loop μ-loop
+add-t21 c = omega (arith, some-low ((c .before .before .before .before .before .before .before .before .before .loop) .inv) (c .before .before .before .before .before .before .before .before .before .before .before .before .before .pre))
+
+add-t22 : tie.Need-add-t22 Inv-loop μ-loop
+add-t22 c = omega (arith, stopped ((c .before .before .before .before .before .before .before .before .before .loop) .inv) (c .before .before .before .before .before .before .before .before .before .before .before .before .before .pre) _ _ _ (rw ((c .before .before .before .before .before .before .first) .given .1) at ((c .before .before .before .before .before .before .before .before .next-piece) .ensures)) _ _ (rw ((c .before .begin) .given .1) at ((c .before .before .before .read-piece) .ensures)), (c .before .before .before .before .before .before .before .before .before .before .before .before .before .pre))
+
+add-t23 : tie.Need-add-t23 Inv-loop μ-loop
+add-t23 c = omega (arith, stopped ((c .before .before .before .before .before .before .before .before .before .loop) .inv) (c .before .before .before .before .before .before .before .before .before .before .before .before .before .pre) _ _ _ (rw ((c .before .before .before .before .before .before .first) .given .1) at ((c .before .before .before .before .before .before .before .before .next-piece) .ensures)) _ _ (rw ((c .before .begin) .given .1) at ((c .before .before .before .read-piece) .ensures)), (c .before .before .before .before .before .before .before .before .before .before .before .before .before .pre))
+
+same-length-3 : tie.Need-same-length-3 Inv-loop μ-loop
+same-length-3 c = ((c .before .before .before .before .before .before .before .before .before .loop) .inv) .wrote .text-laid .long
+
+same-length-4 : tie.Need-same-length-4 Inv-loop μ-loop
+same-length-4 c = ((c .before .before .before .before .before .before .before .before .before .loop) .inv) .wrote .words-laid .long
+
+returns-2 : tie.Need-returns-2 Inv-loop μ-loop
+returns-2 c = stopped ((c .before .before .before .before .before .before .before .before .before .loop) .inv) (c .before .before .before .before .before .before .before .before .before .before .before .before .before .pre) _ _ _ (rw ((c .before .before .before .before .before .before .first) .given .1) at ((c .before .before .before .before .before .before .before .before .next-piece) .ensures)) _ _ (rw ((c .before .begin) .given .1) at ((c .before .before .before .read-piece) .ensures))
+
+enum-told-2 : tie.Need-enum-told-2 Inv-loop μ-loop
+enum-told-2 c = search needs
+
+add-excluded : tie.Need-add-excluded Inv-loop μ-loop
+add-excluded c = omega (arith, some-low ((c .before .before .before .before .before .before .before .before .loop) .inv) (c .before .before .before .before .before .before .before .before .before .before .before .before .pre))
+
+loop-less : tie.Need-loop-less Inv-loop μ-loop
+loop-less c = let p = (rw ((c .before .before .before .before .before .first) .given .1) at ((c .before .before .before .before .before .before .before .next-piece) .ensures)) in omega (arith, p .begun, p .some, p .before, p .inside)
+
+loop-again : tie.Need-loop-again Inv-loop μ-loop
+loop-again c = passed ((c .before .before .before .before .before .before .before .before .loop) .inv) (c .before .before .before .before .before .before .before .before .before .before .before .before .pre) _ _ _ (rw ((c .before .before .before .before .before .first) .given .1) at ((c .before .before .before .before .before .before .before .next-piece) .ensures)) (rw ((c .enum-told2) .given .1) at ((c .before .before .read-piece) .ensures))
+
+enum-known-e : tie.Need-enum-known-e Inv-loop μ-loop
+enum-known-e c = search needs
+
+put-requires : tie.Need-put-requires Inv-loop μ-loop
+put-requires c κs = (entry-narrow ((c .before .before .before .before .before .before .before .before .before .before .before .loop) .inv) (c .before .before .before .before .before .before .before .before .before .before .before .before .before .before .before .pre) _ _ _ (rw ((c .before .before .before .before .before .before .before .before .first) .given .1) at ((c .before .before .before .before .before .before .before .before .before .before .next-piece) .ensures)) _ (rw ((c .before .before .before .e) .given .1) at ((c .before .before .before .before .before .read-piece) .ensures)), (entry-inside ((c .before .before .before .before .before .before .before .before .before .before .before .loop) .inv) (c .before .before .before .before .before .before .before .before .before .before .before .before .before .before .before .pre) _ _ _ (rw ((c .before .before .before .before .before .before .before .before .first) .given .1) at ((c .before .before .before .before .before .before .before .before .before .before .next-piece) .ensures)) _ (rw ((c .before .before .before .e) .given .1) at ((c .before .before .before .before .before .read-piece) .ensures)), omega (arith, some-low ((c .before .before .before .before .before .before .before .before .before .before .before .loop) .inv) (c .before .before .before .before .before .before .before .before .before .before .before .before .before .before .before .pre))))
+
+sub-used : tie.Need-sub-used Inv-loop μ-loop
+sub-used c = entry-narrow ((c .before .before .before .before .before .before .before .before .before .before .before .before .before .before .before .before .before .loop) .inv) (c .before .before .before .before .before .before .before .before .before .before .before .before .before .before .before .before .before .before .before .before .before .pre) _ _ _ (rw ((c .before .before .before .before .before .before .before .before .before .before .before .before .before .before .first) .given .1) at ((c .before .before .before .before .before .before .before .before .before .before .before .before .before .before .before .before .next-piece) .ensures)) _ (rw ((c .before .before .before .before .before .before .before .before .before .e) .given .1) at ((c .before .before .before .before .before .before .before .before .before .before .before .read-piece) .ensures)) .ordered
+
+add-used : tie.Need-add-used Inv-loop μ-loop
+add-used c = omega (arith, entry-narrow ((c .before .before .before .before .before .before .before .before .before .before .before .before .before .before .before .before .before .loop) .inv) (c .before .before .before .before .before .before .before .before .before .before .before .before .before .before .before .before .before .before .before .before .before .pre) _ _ _ (rw ((c .before .before .before .before .before .before .before .before .before .before .before .before .before .before .first) .given .1) at ((c .before .before .before .before .before .before .before .before .before .before .before .before .before .before .before .before .next-piece) .ensures)) _ (rw ((c .before .before .before .before .before .before .before .before .before .e) .given .1) at ((c .before .before .before .before .before .before .before .before .before .before .before .read-piece) .ensures)))
+
+add-variables : tie.Need-add-variables Inv-loop μ-loop
+add-variables c = omega (arith, some-low ((c .before .before .before .before .before .before .before .before .before .before .before .before .before .before .before .before .before .loop) .inv) (c .before .before .before .before .before .before .before .before .before .before .before .before .before .before .before .before .before .before .before .before .before .pre))
+
+loop-less-2 : tie.Need-loop-less-2 Inv-loop μ-loop
+loop-less-2 c = let p = (rw ((c .before .before .before .before .before .before .before .before .before .before .before .before .before .before .first) .given .1) at ((c .before .before .before .before .before .before .before .before .before .before .before .before .before .before .before .before .next-piece) .ensures)) in omega (arith, p .begun, p .some, p .before, p .inside)
+
+loop-again-2 : tie.Need-loop-again-2 Inv-loop μ-loop
+loop-again-2 c = turned ((c .before .before .before .before .before .before .before .before .before .before .before .before .before .before .before .before .before .loop) .inv) (c .before .before .before .before .before .before .before .before .before .before .before .before .before .before .before .before .before .before .before .before .before .pre) _ _ _ (rw ((c .before .before .before .before .before .before .before .before .before .before .before .before .before .before .first) .given .1) at ((c .before .before .before .before .before .before .before .before .before .before .before .before .before .before .before .before .next-piece) .ensures)) _ (rw ((c .before .before .before .before .before .before .before .before .before .e) .given .1) at ((c .before .before .before .before .before .before .before .before .before .before .before .read-piece) .ensures)) _ _ ((c .before .before .before .before .before .put) .ensures .0) ((c .before .before .before .before .before .put) .ensures .1)
+
+pub scan-spec : {M : Type 1} → statement M
+scan-spec =
+    tie.close
+    (tie.spec
+    Inv-loop
+    μ-loop
+    loop-holds
+    next-piece-requires
+    enum-known-first
+    enum-told
+    same-length
+    same-length-2
+    returns
+    sub-p
+    part-p-start
+    part-p-end
+    read-piece-requires
+    enum-known-begin
+    add-t21
+    add-t22
+    add-t23
+    same-length-3
+    same-length-4
+    returns-2
+    enum-told-2
+    add-excluded
+    loop-less
+    loop-again
+    enum-known-e
+    put-requires
+    sub-used
+    add-used
+    add-variables
+    loop-less-2
+    loop-again-2)

@@ -1,0 +1,205 @@
+-- What the functions below the two parsers promise.
+use mathlib.Core.Path.{_≡_}
+use Prim.Native.Nat.{ℕ, _+_, _-_, _*_, _≤_, _<_}
+use mathlib.Core.Bool.{Bool, true, false}
+use mathlib.Core.List.{List, [], _∷_}
+use lib.ListN.{length, take, drop}
+use lib.Dec.{eqb}
+use Rattle.ascii.specs.Choice.{pick}
+use Rattle.ascii.specs.Trim.{leading}
+use Rattle.lent.specs.Sizes.{limit, spanWord, variableWords}
+use Rattle.lent.specs.Buffers.{placed}
+use Rattle.lent.specs.Gates.{gateOf}
+use Rattle.lent.specs.Table.{Outcome, pastGate, Filled}
+use Rattle.variables.specs.Parts.{pieces}
+use Rattle.variables.specs.Variables.{Selection, none, selection, Variable, Single, variable, unknown, Targets, targets, refused, withVariable, withExclusion, Excluding, asWritten, lookedUp, piece, readAll}
+use Rattle.variables.specs.Layout.{bit, selectionCode, selectionText, selectionSpan, variableRecord, exclusionRecord, textsOf, wordsOf, chosenText, itself, texts}
+use Rattle.variables.specs.Promises.{updated}
+use Rattle.variables.specs.declared.finding.Next.{Next}
+use Rattle.variables.specs.declared.finding.Next.the-variants as Next
+use Rattle.variables.specs.declared.singles.Exclusions.{Exclusions}
+use Rattle.variables.specs.declared.singles.Exclusions.the-variants.{AsWritten, LookedUp}
+use Rattle.variables.specs.declared.singles.Entry.{Entry}
+use Rattle.variables.specs.declared.singles.Chosen.{Chosen}
+use Rattle.variables.specs.declared.singles.Reading.{Reading}
+use Rattle.variables.specs.declared.singles.Reading.the-variants as Reading
+use Rattle.variables.specs.declared.writing.Tally.{Tally}
+use Rattle.variables.specs.declared.writing.Tally.the-variants as Tally
+
+-- ---- places
+
+-- from one place up to another
+abbrev pub part : List ℕ → ℕ → ℕ → List ℕ
+part s from past = take (past - from) (drop from s)
+
+-- how many bytes stand before the first b
+abbrev pub other : ℕ → ℕ → Bool
+other b x = pick (eqb x b) false true
+
+abbrev pub upTo : ℕ → List ℕ → ℕ
+upTo b = leading (other b)
+
+-- the next piece from `at` on, and where the parts after it start
+pub record NextPiece (s : List ℕ) (at first past next : ℕ) : Type 0 where
+  pub list : pieces (drop at s) ≡ part s first past ∷ pieces (drop next s)
+  pub begun : at ≤ first
+  pub some : first < past
+  pub before : past < next
+  pub inside : next ≤ length s + 1
+
+abbrev pub Nexts : List ℕ → ℕ → Next → Type 0
+Nexts s at (Next.Piece first past next) = NextPiece s at first past next
+Nexts s at Next.End = pieces (drop at s) ≡ []
+
+-- ---- one piece
+
+abbrev pub excludingOf : Exclusions → Excluding
+excludingOf AsWritten = asWritten
+excludingOf LookedUp = lookedUp
+
+-- what is chosen by the text from a name's end on
+abbrev pub selectionAfter : List ℕ → Selection
+selectionAfter [] = none
+selectionAfter (b ∷ r) = selection r
+
+-- the text of a record, as a part of its piece p, which is longer
+pub record Shown (p : List ℕ) (first past : ℕ) (text : List ℕ) : Type 0 where
+  pub is : part p first past ≡ text
+  pub ordered : first ≤ past
+  pub inside : past ≤ length p
+  pub short : past < length p + first
+
+pub record Chose (p : List ℕ) (c : Selection) (r : Chosen) : Type 0 where
+  pub number : r .selection ≡ selectionCode c
+  pub span : (o : ℕ) → pick (r .spanned) (spanWord o (r .past - r .first)) 0 ≡ selectionSpan o c
+  pub text : Shown p (r .first) (r .past) (selectionText c)
+
+-- the words of an entry whose text starts at the offset o
+abbrev pub entrySpan : ℕ → Entry → ℕ
+entrySpan o e = pick (e .spanned) (spanWord o (e .past - e .first)) 0
+
+abbrev pub entryWords : ℕ → Entry → List ℕ
+entryWords o e = e .kind ∷ e .code ∷ bit (e .counts) ∷ e .selection ∷ entrySpan o e ∷ []
+
+-- an entry of the piece p for a variable
+pub record Held (p : List ℕ) (e : Entry) (v : Variable) : Type 0 where
+  pub words : (o : ℕ) → entryWords o e ≡ variableRecord o v
+  pub text : Shown p (e .first) (e .past) (selectionText (v .chosen))
+
+pub record Found (p : List ℕ) (x : Single) (e : Entry) : Type 0 where
+  pub v : Variable
+  pub is : x ≡ variable v
+  pub held : Held p e v
+
+pub record Missed (p : List ℕ) (x : Single) (begin end : ℕ) : Type 0 where
+  pub is : x ≡ unknown (part p begin end)
+  pub ordered : begin ≤ end
+  pub inside : end ≤ length p
+
+-- a variable as it was read from a piece that has no mark
+abbrev pub Singles : List ℕ → Single → Reading → Type 0
+Singles p x (Reading.Variable e) = Found p x e
+Singles p x Reading.Exclusion = ⊥
+Singles p x (Reading.Unknown begin end) = Missed p x begin end
+
+-- the texts behind `!`
+abbrev pub behindMark : List ℕ → List (List ℕ) → List (List ℕ)
+behindMark [] es = es
+behindMark (b ∷ r) es = pick (eqb b 33) (r ∷ es) es
+
+unfoldable pub excludedOf : List (List ℕ) → List (List ℕ)
+excludedOf [] = []
+excludedOf (p ∷ ps) = behindMark p (excludedOf ps)
+
+-- a piece, whatever stands behind it
+pub record IsVariable (ex : Excluding) (p : List ℕ) (e : Entry) : Type 0 where
+  pub v : Variable
+  pub is : (ts : Targets) → piece ex p ts ≡ withVariable (variable v) ts
+  pub plain : (es : List (List ℕ)) → behindMark p es ≡ es
+  pub held : Held p e v
+
+pub record IsExclusion (ex : Excluding) (p : List ℕ) : Type 0 where
+  pub is : (ts : Targets) → piece ex p ts ≡ withExclusion (drop 1 p) ts
+  pub mark : (es : List (List ℕ)) → behindMark p es ≡ drop 1 p ∷ es
+
+pub record IsUnknown (ex : Excluding) (p : List ℕ) (begin end : ℕ) : Type 0 where
+  pub is : (ts : Targets) → piece ex p ts ≡ refused 0 (part p begin end)
+  pub ordered : begin ≤ end
+  pub inside : end ≤ length p
+
+abbrev pub Pieced : Excluding → List ℕ → Reading → Type 0
+Pieced ex p (Reading.Variable e) = IsVariable ex p e
+Pieced ex p Reading.Exclusion = IsExclusion ex p
+Pieced ex p (Reading.Unknown begin end) = IsUnknown ex p begin end
+
+-- ---- a list
+
+-- numbers that a span word takes
+pub record Narrow (e : Entry) (offset : ℕ) : Type 0 where
+  pub ordered : e .first ≤ e .past
+  pub near : e .past ≤ limit
+  pub offset-low : offset ≤ limit + limit
+
+-- xs are written from i on, where they fit whole
+pub record Laid (old new : List ℕ) (i : ℕ) (xs : List ℕ) : Type 0 where
+  pub long : length new ≡ length old
+  pub there : i + length xs ≤ length old → new ≡ placed old i xs
+
+-- a list's texts are written from `offset` on and its records from the place `place` on, up to `used` and to `count`
+pub record Wrote {A : Type 0} (words : ℕ → A → List ℕ) (text-of : A → List ℕ) (offset place : ℕ) (text text′ records records′ : List ℕ)
+    (xs : List A) (used count : ℕ) : Type 0 where
+  pub used-is : used ≡ offset + length (textsOf text-of xs)
+  pub count-is : count ≡ place + length xs
+  pub text-laid : Laid text text′ offset (textsOf text-of xs)
+  pub words-laid : Laid records records′ (place * variableWords) (wordsOf words text-of offset xs)
+
+abbrev pub WroteVariables : List ℕ → List ℕ → List ℕ → List ℕ → List Variable → ℕ → ℕ → Type 0
+WroteVariables = Wrote variableRecord chosenText 0 0
+
+abbrev pub WroteExclusions : ℕ → ℕ → List ℕ → List ℕ → List ℕ → List ℕ → List (List ℕ) → ℕ → ℕ → Type 0
+WroteExclusions = Wrote exclusionRecord itself
+
+-- every piece was read, and the variables are written
+pub record AllRead (n : Exclusions) (s text text′ records records′ : List ℕ) (variables excluded used : ℕ) : Type 0 where
+  pub vs : List Variable
+  pub read : readAll (excludingOf n) (pieces s) ≡ targets vs (excludedOf (pieces s))
+  pub excluded-are : excluded ≡ length (excludedOf (pieces s))
+  pub fits : length (texts vs (excludedOf (pieces s))) ≤ length s
+  pub few : variables + excluded ≤ limit
+  pub wrote : WroteVariables text text′ records records′ vs used variables
+
+-- or a name was none
+pub record Stopped (n : Exclusions) (s : List ℕ) (piece first past : ℕ) : Type 0 where
+  pub read : readAll (excludingOf n) (pieces s) ≡ refused piece (part s first past)
+  pub ordered : first ≤ past
+  pub inside : past ≤ length s
+
+abbrev pub Scanned : Exclusions → List ℕ → List ℕ → List ℕ → List ℕ → List ℕ → Tally → Type 0
+Scanned n s text text′ records records′ (Tally.Targets variables excluded used) = AllRead n s text text′ records records′ variables excluded used
+Scanned n s text text′ records records′ (Tally.Unknown piece first past) = Stopped n s piece first past
+
+-- exclusions are written
+abbrev pub Added : List (List ℕ) → ℕ → ℕ → List ℕ → List ℕ → List ℕ → List ℕ → ℕ → Type 0
+Added es offset place text text′ records records′ r = WroteExclusions offset place text text′ records records′ es r (place + length es)
+
+-- ---- what a call comes to, for both parsers
+
+-- how many exclusions are kept, and which
+abbrev pub keptCount : Exclusions → ℕ → ℕ → ℕ
+keptCount AsWritten variables excluded = pick (eqb variables 0) 0 excluded
+keptCount LookedUp variables excluded = excluded
+
+abbrev pub keptOf : ℕ → List (List ℕ) → List (List ℕ)
+keptOf kept es = pick (eqb kept 0) [] es
+
+abbrev pub hanging : Exclusions → Targets → Targets
+hanging AsWritten (targets [] es) = targets [] []
+hanging AsWritten (targets (v ∷ vs) es) = targets (v ∷ vs) es
+hanging AsWritten (refused i name) = refused i name
+hanging LookedUp ts = ts
+
+unfoldable pub readOutcome : Exclusions → List ℕ → ℕ → Outcome Filled
+readOutcome n s m = updated m (hanging n (readAll (excludingOf n) (pieces s)))
+
+unfoldable pub outcomeOf : Exclusions → List ℕ → ℕ → ℕ → Outcome Filled
+outcomeOf n s k m = pastGate (gateOf s k (length s)) (readOutcome n s m)
