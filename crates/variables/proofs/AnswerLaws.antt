@@ -36,13 +36,13 @@ kept-all : (es : List (List ℕ)) → keptOf (length es) es ≡ es
 kept-all [] = refl
 kept-all (e ∷ es) = rw (ne-eqb (length (e ∷ es)) 0 (omega arith))
 
-hanging-kept : (n : Exclusions) (vs : List Variable) (es : List (List ℕ))
+pub hanging-kept : (n : Exclusions) (vs : List Variable) (es : List (List ℕ))
     → hanging n (targets vs es) ≡ targets vs (keptOf (keptCount n (length vs) (length es)) es)
 hanging-kept AsWritten [] es = refl
 hanging-kept AsWritten (v ∷ vs) es = rw (ne-eqb (length (v ∷ vs)) 0 (omega arith)) (ap (targets (v ∷ vs)) (sym (kept-all es)))
 hanging-kept LookedUp vs es = ap (targets vs) (sym (kept-all es))
 
-kept-long : (n : Exclusions) (variables : ℕ) (es : List (List ℕ))
+pub kept-long : (n : Exclusions) (variables : ℕ) (es : List (List ℕ))
     → keptCount n variables (length es) ≡ length (keptOf (keptCount n variables (length es)) es)
 kept-long LookedUp variables es = ap length (sym (kept-all es))
 kept-long AsWritten variables es = go (eqb variables 0)
@@ -85,22 +85,23 @@ zeros-stored n xs h =
     let k : length xs ≤ length (zeros n) = omega arith in
     written-all (written-first (zeros n) xs k) (taken-first (zeros n) xs k) ∙ ap (λ (r : List ℕ). xs ++ r) (zeros-rest (length xs) n)
 
-module _ (n : Exclusions) (s text records : List ℕ) where
-  refused-is : (i : ℕ) (name : List ℕ) → readAll (excludingOf n) (pieces s) ≡ refused i name → readOutcome n s (length records) ≡ refuses (unknownVariable i name)
-  unfolding readOutcome
-  refused-is i name e = ap (λ (ts : Targets). updated (length records) (hanging n ts)) e ∙ go n
-    where
-      go : (n : Exclusions) → updated (length records) (hanging n (refused i name)) ≡ refuses (unknownVariable i name)
-      go AsWritten = refl
-      go LookedUp = refl
+pub refused-is : (n : Exclusions) (s : List ℕ) (m i : ℕ) (name : List ℕ) → readAll (excludingOf n) (pieces s) ≡ refused i name
+    → readOutcome n s m ≡ refuses (unknownVariable i name)
+unfolding readOutcome
+refused-is n s m i name e = ap (λ (ts : Targets). updated m (hanging n ts)) e ∙ go n
+  where
+    go : (n : Exclusions) → updated m (hanging n (refused i name)) ≡ refuses (unknownVariable i name)
+    go AsWritten = refl
+    go LookedUp = refl
 
+module _ (n : Exclusions) (s text records : List ℕ) where
   -- a name that is none: its bytes stand at the front of the text, and all else is zero
   pub read-unknown : {piece first past : ℕ} → Stopped n s piece first past → (text₁ records₁ text₂ text₃ records₂ : List ℕ)
       → length text₁ ≡ length text → length records₁ ≡ length records → length s ≤ length text
       → text₂ ≡ zeros (length text₁) → records₂ ≡ zeros (length records₁) → text₃ ≡ stored text₂ 0 (part s first past)
       → Meets (readOutcome n s (length records)) text text₃ records records₂ (Answer.Unknown piece (past - first))
   read-unknown {piece} {first} {past} x text₁ records₁ text₂ text₃ records₂ l m h a b d =
-      let e = refused-is piece (part s first past) (x .read) in
+      let e = refused-is n s (length records) piece (part s first past) (x .read) in
       let k = part-length s first past (x .inside) in
       record {
         answer = rw (e, k);

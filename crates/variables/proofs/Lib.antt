@@ -4,3 +4,6 @@ pub mod LayoutLaws
 pub mod SingleLaws
 pub mod ScanLaws
 pub mod AnswerLaws
+pub mod GivenLaws
+pub mod MeantLaws
+pub mod PromiseLaws

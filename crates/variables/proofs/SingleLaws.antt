@@ -186,7 +186,7 @@ unfolding single
 single-plain [] l h = absurd (omega arith)
 single-plain (b ∷ r) l h = rw (ne-eqb b 38 h)
 
-unknown-first : (x : Single) (n : List ℕ) → x ≡ unknown n → (ts : Targets) → withVariable x ts ≡ refused 0 n
+pub unknown-first : (x : Single) (n : List ℕ) → x ≡ unknown n → (ts : Targets) → withVariable x ts ≡ refused 0 n
 unknown-first x n e ts = ap (λ (y : Single). withVariable y ts) e ∙ go ts
   where
     go : (ts : Targets) → withVariable (unknown n) ts ≡ refused 0 n

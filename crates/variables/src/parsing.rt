@@ -3,6 +3,7 @@ ghost use mathlib.Core.Path.{_≡_};
 ghost use Prim.Native.Nat.{_≤_};
 ghost use lib.ListN.{length};
 ghost use Rattle.lent.specs.Sizes.{limit};
+ghost use Rattle.lent.specs.Buffers.{zeros};
 ghost use Rattle.variables.specs.Promises.{Meets, ParseVariables, ParseUpdateTargets};
 ghost use Rattle.variables.specs.Steps.{keptCount, readOutcome, outcomeOf};
 use crate::Answer;
@@ -27,6 +28,15 @@ fn kept(exclusions: Exclusions, variables: usize, excluded: usize) -> usize
     }
 }
 
+// Both buffers, on a refusal.
+fn clear(text: &mut [u8], records: &mut [u64])
+    ensures { λ r. ⌜ now (text .exit) ≡ zeros (length (now (text .entry))) ⌝ }
+    ensures { λ r. ⌜ now (records .exit) ≡ zeros (length (now (records .entry))) ⌝ }
+{
+    lent::clear_bytes(text);
+    lent::clear_words(records);
+}
+
 // A list past the checks 1, 2 and 3.
 fn read(s: &[u8], exclusions: Exclusions, text: &mut [u8], records: &mut [u64]) -> Answer
     requires { ⌜ length (now s) ≤ limit ⌝ }
@@ -35,8 +45,7 @@ fn read(s: &[u8], exclusions: Exclusions, text: &mut [u8], records: &mut [u64]) 
 {
     match scan(s, exclusions, text, records) {
         Tally::Unknown { piece, first, past } => {
-            lent::clear_bytes(text);
-            lent::clear_words(records);
+            clear(text, records);
             lent::store_bytes(text, 0, &s[first..past]);
             Answer::Unknown {
                 piece,
@@ -51,8 +60,7 @@ fn read(s: &[u8], exclusions: Exclusions, text: &mut [u8], records: &mut [u64]) 
             let kept = kept(exclusions, variables, excluded);
             let count = variables + kept;
             if lent::room(records.len(), lent::VARIABLE_WORDS) < count {
-                lent::clear_bytes(text);
-                lent::clear_words(records);
+                clear(text, records);
                 return Answer::NoRoom(count);
             }
             let past = add_exclusions(s, kept, text, used, records, variables);

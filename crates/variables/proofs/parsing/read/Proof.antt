@@ -13,26 +13,23 @@ scan-requires c κs = search needs
 enum-known-piece : tie.Need-enum-known-piece
 enum-known-piece c = search needs
 
-clear-bytes-requires : tie.Need-clear-bytes-requires
-clear-bytes-requires c κs = search needs
-
-clear-words-requires : tie.Need-clear-words-requires
-clear-words-requires c κs = search needs
+clear-requires : tie.Need-clear-requires
+clear-requires c κs = search needs
 
 sub-store-bytes : tie.Need-sub-store-bytes
-sub-store-bytes c = let x = (rw ((c .before .before .before .before .before .before .before .before .before .before .piece) .given .1) at ((c .before .before .before .before .before .before .before .before .before .before .before .before .before .before .before .before .scan) .ensures)) in x .ordered
+sub-store-bytes c = let x = (rw ((c .before .before .before .before .before .before .before .before .before .piece) .given .1) at ((c .before .before .before .before .before .before .before .before .before .before .before .before .before .before .before .scan) .ensures)) in x .ordered
 
 part-store-bytes-start : tie.Need-part-store-bytes-start
-part-store-bytes-start c = let x = (rw ((c .before .before .before .before .before .before .before .before .before .before .piece) .given .1) at ((c .before .before .before .before .before .before .before .before .before .before .before .before .before .before .before .before .scan) .ensures)) in x .ordered
+part-store-bytes-start c = let x = (rw ((c .before .before .before .before .before .before .before .before .before .piece) .given .1) at ((c .before .before .before .before .before .before .before .before .before .before .before .before .before .before .before .scan) .ensures)) in x .ordered
 
 part-store-bytes-end : tie.Need-part-store-bytes-end
-part-store-bytes-end c = let x = (rw ((c .before .before .before .before .before .before .before .before .before .before .piece) .given .1) at ((c .before .before .before .before .before .before .before .before .before .before .before .before .before .before .before .before .scan) .ensures)) in x .inside
+part-store-bytes-end c = let x = (rw ((c .before .before .before .before .before .before .before .before .before .piece) .given .1) at ((c .before .before .before .before .before .before .before .before .before .before .before .before .before .before .before .scan) .ensures)) in x .inside
 
 store-bytes-requires : tie.Need-store-bytes-requires
 store-bytes-requires c κs = search needs
 
 sub-t29 : tie.Need-sub-t29
-sub-t29 c = let x = (rw ((c .before .before .before .before .before .before .before .before .before .before .before .before .before .before .piece) .given .1) at ((c .before .before .before .before .before .before .before .before .before .before .before .before .before .before .before .before .before .before .before .before .scan) .ensures)) in x .ordered
+sub-t29 c = let x = (rw ((c .before .before .before .before .before .before .before .before .before .before .before .before .before .piece) .given .1) at ((c .before .before .before .before .before .before .before .before .before .before .before .before .before .before .before .before .before .before .before .scan) .ensures)) in x .ordered
 
 enum-known-variables : tie.Need-enum-known-variables
 enum-known-variables c = search needs
@@ -46,11 +43,8 @@ add-count c = let x = (rw ((c .before .before .variables) .given .1) at ((c .bef
 room-requires : tie.Need-room-requires
 room-requires c κs = search needs
 
-clear-bytes-requires-2 : tie.Need-clear-bytes-requires-2
-clear-bytes-requires-2 c κs = search needs
-
-clear-words-requires-2 : tie.Need-clear-words-requires-2
-clear-words-requires-2 c κs = search needs
+clear-requires-2 : tie.Need-clear-requires-2
+clear-requires-2 c κs = search needs
 
 same-length : tie.Need-same-length
 same-length c = search needs
@@ -59,7 +53,7 @@ same-length-2 : tie.Need-same-length-2
 same-length-2 c = search needs
 
 returns : tie.Need-returns
-returns c = read-no-room ((c .before .before .before .before .before .before .before .before .before .before .before .before .before .before .before .before .before .before .before .before .before .before .before .before .args) .exclusions) (now ((c .before .before .before .before .before .before .before .before .before .before .before .before .before .before .before .before .before .before .before .before .before .before .before .before .args) .s)) (now ((c .before .before .before .before .before .before .before .before .before .before .before .before .before .before .before .before .before .before .before .before .before .before .before .before .args) .text)) (now ((c .before .before .before .before .before .before .before .before .before .before .before .before .before .before .before .before .before .before .before .before .before .before .before .before .args) .records)) (rw ((c .before .before .before .before .before .before .before .before .before .before .before .before .variables) .given .1) at ((c .before .before .before .before .before .before .before .before .before .before .before .before .before .before .before .before .before .before .scan) .ensures)) _ ((c .before .before .before .before .before .before .before .before .before .before .kept) .ensures) _ ((c .before .before .before .before .before .before .before .before .before .room) .ensures) _ _ ((c .before .before .before .before .before .before .before .before .if1) .taken) ((c .before .before .before .before .before .before .clear-bytes2) .ensures) ((c .before .before .clear-words2) .ensures)
+returns c = read-no-room ((c .before .before .before .before .before .before .before .before .before .before .before .before .before .before .before .before .before .before .before .before .before .before .before .args) .exclusions) (now ((c .before .before .before .before .before .before .before .before .before .before .before .before .before .before .before .before .before .before .before .before .before .before .before .args) .s)) (now ((c .before .before .before .before .before .before .before .before .before .before .before .before .before .before .before .before .before .before .before .before .before .before .before .args) .text)) (now ((c .before .before .before .before .before .before .before .before .before .before .before .before .before .before .before .before .before .before .before .before .before .before .before .args) .records)) (rw ((c .before .before .before .before .before .before .before .before .before .before .before .variables) .given .1) at ((c .before .before .before .before .before .before .before .before .before .before .before .before .before .before .before .before .before .scan) .ensures)) _ ((c .before .before .before .before .before .before .before .before .before .kept) .ensures) _ ((c .before .before .before .before .before .before .before .before .room) .ensures) _ _ ((c .before .before .before .before .before .before .before .if1) .taken) ((c .before .before .before .before .clear2) .ensures .0) ((c .before .before .before .before .clear2) .ensures .1)
 
 add-exclusions-requires : tie.Need-add-exclusions-requires
 add-exclusions-requires c κs = let x = (rw ((c .before .before .before .before .before .before .variables) .given .1) at ((c .before .before .before .before .before .before .before .before .before .before .before .before .scan) .ensures)) in ((c .before .before .before .before .before .before .before .before .before .before .before .before .before .before .before .before .before .before .pre) .0, (omega (arith, used-fits x, (c .before .before .before .before .before .before .before .before .before .before .before .before .before .before .before .before .before .before .pre) .0), omega (arith, x .few)))
@@ -73,8 +67,8 @@ part-clear-bytes-start c = past-fits ((c .before .before .before .before .before
 part-clear-bytes-end : tie.Need-part-clear-bytes-end
 part-clear-bytes-end c = search needs
 
-clear-bytes-requires-3 : tie.Need-clear-bytes-requires-3
-clear-bytes-requires-3 c κs = search needs
+clear-bytes-requires : tie.Need-clear-bytes-requires
+clear-bytes-requires c κs = search needs
 
 mul-words : tie.Need-mul-words
 mul-words c = omega (arith, count-fits ((c .before .before .before .before .before .before .before .before .before .before .before .before .before .before .before .before .before .before .before .before .before .before .before .before .before .before .before .args) .exclusions) (now ((c .before .before .before .before .before .before .before .before .before .before .before .before .before .before .before .before .before .before .before .before .before .before .before .before .before .before .before .args) .s)) (now ((c .before .before .before .before .before .before .before .before .before .before .before .before .before .before .before .before .before .before .before .before .before .before .before .before .before .before .before .args) .text)) (now ((c .before .before .before .before .before .before .before .before .before .before .before .before .before .before .before .before .before .before .before .before .before .before .before .before .before .before .before .args) .records)) (rw ((c .before .before .before .before .before .before .before .before .before .before .before .before .before .before .before .variables) .given .1) at ((c .before .before .before .before .before .before .before .before .before .before .before .before .before .before .before .before .before .before .before .before .before .scan) .ensures)) _ ((c .before .before .before .before .before .before .before .before .before .before .before .before .before .kept) .ensures) _ ((c .before .before .before .before .before .before .before .before .before .before .before .before .room) .ensures) ((c .before .before .before .before .before .before .before .before .before .before .before .if1) .left) ((c .before .before .before .before .before .before .before .before .before .before .before .before .before .before .before .before .before .before .before .before .before .before .before .before .before .before .before .pre) .1) ((c .before .before .before .before .before .before .before .before .add-exclusions) .ensures), (c .before .before .before .before .before .before .before .before .before .before .before .before .before .before .before .before .before .before .before .before .before .before .before .before .before .before .before .good))
@@ -91,8 +85,8 @@ part-clear-words-start c = count-fits-still ((c .before .before .before .before 
 part-clear-words-end : tie.Need-part-clear-words-end
 part-clear-words-end c = search needs
 
-clear-words-requires-3 : tie.Need-clear-words-requires-3
-clear-words-requires-3 c κs = search needs
+clear-words-requires : tie.Need-clear-words-requires
+clear-words-requires c κs = search needs
 
 same-length-3 : tie.Need-same-length-3
 same-length-3 c = search needs
@@ -101,7 +95,7 @@ same-length-4 : tie.Need-same-length-4
 same-length-4 c = search needs
 
 returns-2 : tie.Need-returns-2
-returns-2 c = read-unknown ((c .before .before .before .before .before .before .before .before .before .before .before .before .before .before .before .before .before .before .before .before .before .before .before .before .before .before .args) .exclusions) (now ((c .before .before .before .before .before .before .before .before .before .before .before .before .before .before .before .before .before .before .before .before .before .before .before .before .before .before .args) .s)) (now ((c .before .before .before .before .before .before .before .before .before .before .before .before .before .before .before .before .before .before .before .before .before .before .before .before .before .before .args) .text)) (now ((c .before .before .before .before .before .before .before .before .before .before .before .before .before .before .before .before .before .before .before .before .before .before .before .before .before .before .args) .records)) (rw ((c .before .before .before .before .before .before .before .before .before .before .before .before .before .before .piece) .given .1) at ((c .before .before .before .before .before .before .before .before .before .before .before .before .before .before .before .before .before .before .before .before .scan) .ensures)) ((c .before .before .before .before .before .before .before .before .before .before .before .before .before .before .before .before .before .before .before .before .scan) .last .1 .1 .0) ((c .before .before .before .before .before .before .before .before .before .before .before .before .before .before .before .before .before .before .before .before .scan) .last .1 .1 .1 .0) _ _ _ ((c .before .before .before .before .before .before .before .before .before .before .before .before .before .before .before .before .before .before .before .before .scan) .kept .1 .1 .0) ((c .before .before .before .before .before .before .before .before .before .before .before .before .before .before .before .before .before .before .before .before .scan) .kept .1 .1 .1 .0) ((c .before .before .before .before .before .before .before .before .before .before .before .before .before .before .before .before .before .before .before .before .before .before .before .before .before .before .pre) .1) ((c .before .before .before .before .before .before .before .before .before .before .before .clear-bytes) .ensures) ((c .before .before .before .before .before .before .before .clear-words) .ensures) ((c .before .before .store-bytes) .ensures)
+returns-2 c = read-unknown ((c .before .before .before .before .before .before .before .before .before .before .before .before .before .before .before .before .before .before .before .before .before .before .before .before .before .args) .exclusions) (now ((c .before .before .before .before .before .before .before .before .before .before .before .before .before .before .before .before .before .before .before .before .before .before .before .before .before .args) .s)) (now ((c .before .before .before .before .before .before .before .before .before .before .before .before .before .before .before .before .before .before .before .before .before .before .before .before .before .args) .text)) (now ((c .before .before .before .before .before .before .before .before .before .before .before .before .before .before .before .before .before .before .before .before .before .before .before .before .before .args) .records)) (rw ((c .before .before .before .before .before .before .before .before .before .before .before .before .before .piece) .given .1) at ((c .before .before .before .before .before .before .before .before .before .before .before .before .before .before .before .before .before .before .before .scan) .ensures)) ((c .before .before .before .before .before .before .before .before .before .before .before .before .before .before .before .before .before .before .before .scan) .last .1 .1 .0) ((c .before .before .before .before .before .before .before .before .before .before .before .before .before .before .before .before .before .before .before .scan) .last .1 .1 .1 .0) _ _ _ ((c .before .before .before .before .before .before .before .before .before .before .before .before .before .before .before .before .before .before .before .scan) .kept .1 .1 .0) ((c .before .before .before .before .before .before .before .before .before .before .before .before .before .before .before .before .before .before .before .scan) .kept .1 .1 .1 .0) ((c .before .before .before .before .before .before .before .before .before .before .before .before .before .before .before .before .before .before .before .before .before .before .before .before .before .pre) .1) ((c .before .before .before .before .before .before .before .before .before .clear) .ensures .0) ((c .before .before .before .before .before .before .before .before .before .clear) .ensures .1) ((c .before .before .store-bytes) .ensures)
 
 same-length-5 : tie.Need-same-length-5
 same-length-5 c = search needs
@@ -110,7 +104,7 @@ same-length-6 : tie.Need-same-length-6
 same-length-6 c = search needs
 
 returns-3 : tie.Need-returns-3
-returns-3 c = read-all ((c .before .before .before .before .before .before .before .before .before .before .before .before .before .before .before .before .before .before .before .before .before .before .before .before .before .before .before .before .before .before .before .args) .exclusions) (now ((c .before .before .before .before .before .before .before .before .before .before .before .before .before .before .before .before .before .before .before .before .before .before .before .before .before .before .before .before .before .before .before .args) .s)) (now ((c .before .before .before .before .before .before .before .before .before .before .before .before .before .before .before .before .before .before .before .before .before .before .before .before .before .before .before .before .before .before .before .args) .text)) (now ((c .before .before .before .before .before .before .before .before .before .before .before .before .before .before .before .before .before .before .before .before .before .before .before .before .before .before .before .before .before .before .before .args) .records)) (rw ((c .before .before .before .before .before .before .before .before .before .before .before .before .before .before .before .before .before .before .before .variables) .given .1) at ((c .before .before .before .before .before .before .before .before .before .before .before .before .before .before .before .before .before .before .before .before .before .before .before .before .before .scan) .ensures)) _ ((c .before .before .before .before .before .before .before .before .before .before .before .before .before .before .before .before .before .kept) .ensures) _ ((c .before .before .before .before .before .before .before .before .before .before .before .before .before .before .before .before .room) .ensures) ((c .before .before .before .before .before .before .before .before .before .before .before .before .before .before .before .if1) .left) ((c .before .before .before .before .before .before .before .before .before .before .before .before .before .before .before .before .before .before .before .before .before .before .before .before .before .before .before .before .before .before .before .pre) .1) ((c .before .before .before .before .before .before .before .before .before .before .before .before .add-exclusions) .ensures) _ _ ((c .before .before .before .before .before .before .clear-bytes3) .ensures) ((c .before .before .clear-words3) .ensures)
+returns-3 c = read-all ((c .before .before .before .before .before .before .before .before .before .before .before .before .before .before .before .before .before .before .before .before .before .before .before .before .before .before .before .before .before .before .before .args) .exclusions) (now ((c .before .before .before .before .before .before .before .before .before .before .before .before .before .before .before .before .before .before .before .before .before .before .before .before .before .before .before .before .before .before .before .args) .s)) (now ((c .before .before .before .before .before .before .before .before .before .before .before .before .before .before .before .before .before .before .before .before .before .before .before .before .before .before .before .before .before .before .before .args) .text)) (now ((c .before .before .before .before .before .before .before .before .before .before .before .before .before .before .before .before .before .before .before .before .before .before .before .before .before .before .before .before .before .before .before .args) .records)) (rw ((c .before .before .before .before .before .before .before .before .before .before .before .before .before .before .before .before .before .before .before .variables) .given .1) at ((c .before .before .before .before .before .before .before .before .before .before .before .before .before .before .before .before .before .before .before .before .before .before .before .before .before .scan) .ensures)) _ ((c .before .before .before .before .before .before .before .before .before .before .before .before .before .before .before .before .before .kept) .ensures) _ ((c .before .before .before .before .before .before .before .before .before .before .before .before .before .before .before .before .room) .ensures) ((c .before .before .before .before .before .before .before .before .before .before .before .before .before .before .before .if1) .left) ((c .before .before .before .before .before .before .before .before .before .before .before .before .before .before .before .before .before .before .before .before .before .before .before .before .before .before .before .before .before .before .before .pre) .1) ((c .before .before .before .before .before .before .before .before .before .before .before .before .add-exclusions) .ensures) _ _ ((c .before .before .before .before .before .before .clear-bytes) .ensures) ((c .before .before .clear-words) .ensures)
 
 pub read-spec : {M : Type 1} → statement M
 read-spec =
@@ -118,8 +112,7 @@ read-spec =
     (tie.spec
     scan-requires
     enum-known-piece
-    clear-bytes-requires
-    clear-words-requires
+    clear-requires
     sub-store-bytes
     part-store-bytes-start
     part-store-bytes-end
@@ -129,8 +122,7 @@ read-spec =
     kept-requires
     add-count
     room-requires
-    clear-bytes-requires-2
-    clear-words-requires-2
+    clear-requires-2
     same-length
     same-length-2
     returns
@@ -138,13 +130,13 @@ read-spec =
     sub-clear-bytes
     part-clear-bytes-start
     part-clear-bytes-end
-    clear-bytes-requires-3
+    clear-bytes-requires
     mul-words
     mul-clear-words
     sub-clear-words
     part-clear-words-start
     part-clear-words-end
-    clear-words-requires-3
+    clear-words-requires
     same-length-3
     same-length-4
     returns-2
