@@ -3,6 +3,7 @@ use crate::hexes;
 use crate::lexing;
 use crate::operating;
 use crate::selecting;
+use crate::targeting;
 use ascii::Number;
 use names::Lookup;
 
@@ -72,6 +73,8 @@ pub fn answer(letter: u8, body: &[u8]) {
         b'S' => lexing::print_step(body),
         b'p' => operating::print_operator(body),
         b'x' => selecting::print_xml(body),
+        b'l' => targeting::print_variables(body),
+        b'u' => targeting::print_update(body),
         b'c' => print_flags(hexes::word(body)),
         _ => {
             io::write_all(1, b"?");

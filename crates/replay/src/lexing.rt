@@ -1,6 +1,7 @@
 // The lexer's answers: a whole text, and one step.
 use crate::hexes;
 use crate::words::print_number;
+use crate::words::print_records;
 use crate::words::print_refusal;
 use crate::words::print_text;
 use lexer::Answer;
@@ -10,18 +11,6 @@ use lexer::Kind;
 use lexer::Lexeme;
 use lexer::Line;
 use lexer::Step;
-
-// The words of the first `count` records.
-fn print_records(records: &[u64], count: usize) {
-    let mut i = 0;
-    while i < records.len() {
-        if count <= i / 5 {
-            return;
-        }
-        print_number(records[i]);
-        i += 1;
-    }
-}
 
 // Records needed, where the buffer of this program is too small for them.
 pub fn print_tokens(input: &[u8]) {

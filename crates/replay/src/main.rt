@@ -6,6 +6,7 @@ mod lexing;
 mod lines;
 mod operating;
 mod selecting;
+mod targeting;
 mod words;
 
 use lines::Line;

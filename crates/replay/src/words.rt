@@ -1,4 +1,4 @@
-// What the answers of the readers are made of: numbers, a text, a refusal.
+// What the answers of the readers are made of: numbers, a text, records, a refusal.
 use crate::hexes;
 
 pub fn print_number(n: u64) {
@@ -12,6 +12,18 @@ pub fn print_text(text: &[u8], len: usize) {
         io::write_all(1, b"-");
     } else {
         hexes::print_front(text, len);
+    }
+}
+
+// The words of the first `count` records, of five words each.
+pub fn print_records(records: &[u64], count: usize) {
+    let mut i = 0;
+    while i < records.len() {
+        if count <= i / 5 {
+            return;
+        }
+        print_number(records[i]);
+        i += 1;
     }
 }
 

@@ -1,6 +1,6 @@
 -- The loop counts up to the length.
-use Rattle.replay.proofs.lexing.print_records.Statement.{statement}
-use Rattle.replay.proofs.lexing.print_records.Tie as tie
+use Rattle.replay.proofs.words.print_records.Statement.{statement}
+use Rattle.replay.proofs.words.print_records.Tie as tie
 use Prim.Native.Nat.{_≤_, _-_}
 use borrow.Author.Needs.{needs}
 use lib.ListN.{length}

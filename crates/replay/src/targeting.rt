@@ -1,0 +1,42 @@
+// The answers of the two parsers of lists, each with buffers of its own.
+use crate::words::print_number;
+use crate::words::print_records;
+use crate::words::print_refusal;
+use crate::words::print_text;
+use variables::Answer;
+
+fn print_answer(answer: Answer, text: &[u8], records: &[u64]) {
+    match answer {
+        Answer::Read { count, text: used } => {
+            print_number(0);
+            print_number(count as u64);
+            print_number(used as u64);
+            print_records(records, count);
+            print_text(text, used);
+        }
+        Answer::TooLong => print_refusal(1, 16384),
+        Answer::NotAscii(place) => print_refusal(2, place),
+        Answer::Short => print_refusal(3, 0),
+        Answer::Unknown { piece, name } => {
+            print_number(7);
+            print_number(piece as u64);
+            print_number(name as u64);
+            print_text(text, name);
+        }
+        Answer::NoRoom(needed) => print_refusal(4, needed),
+    }
+}
+
+pub fn print_variables(input: &[u8]) {
+    let mut text = [0u8; 16384];
+    let mut records = [0u64; 20480];
+    let answer = variables::parse_variables(input, &mut text, &mut records);
+    print_answer(answer, &text, &records);
+}
+
+pub fn print_update(input: &[u8]) {
+    let mut text = [0u8; 16384];
+    let mut records = [0u64; 20480];
+    let answer = variables::parse_update_targets(input, &mut text, &mut records);
+    print_answer(answer, &text, &records);
+}
