@@ -24,17 +24,30 @@ enum-told-3 c = search needs
 
 read-requires : tie.Need-read-requires
 read-requires c κs =
-    let o = open-is (now ((c .before .before .before .before .before .before .before .before .args) .input)) _ _ .0 (sym ((c .before .before .before .before .admit) .ensures) ∙ (c .before .before .enum-told3) .given .1) in
+    let at-enum-told3 = c .before .before in
+    let at-admit = at-enum-told3 .before .before in
+    let start = at-admit .before .before .before .before in
+    let o = open-is (now (start .args .input)) _ _ .0 (sym (at-admit .admit .ensures) ∙ at-enum-told3 .enum-told3 .given .1) in
     (o .within, o .room)
 
 returns : tie.Need-returns
-returns c = gate-too-long ((c .before .before .before .before .before .before .args) .exclusions) (now ((c .before .before .before .before .before .before .args) .input)) (now ((c .before .before .before .before .before .before .args) .text)) (now ((c .before .before .before .before .before .before .args) .records)) _ ((c .before .before .admit) .ensures) ((c .enum-told) .given .1)
+returns c =
+    let at-admit = c .before .before in
+    let start = at-admit .before .before .before .before in
+    gate-too-long (start .args .exclusions) (now (start .args .input)) (now (start .args .text)) (now (start .args .records)) _ (at-admit .admit .ensures) (c .enum-told .given .1)
 
 returns-2 : tie.Need-returns-2
-returns-2 c = gate-not-ascii ((c .before .before .before .before .before .before .before .args) .exclusions) (now ((c .before .before .before .before .before .before .before .args) .input)) (now ((c .before .before .before .before .before .before .before .args) .text)) (now ((c .before .before .before .before .before .before .before .args) .records)) _ ((c .before .before .before .admit) .ensures) _ ((c .before .place) .given .1)
+returns-2 c =
+    let at-place = c .before in
+    let at-admit = at-place .before .before in
+    let start = at-admit .before .before .before .before in
+    gate-not-ascii (start .args .exclusions) (now (start .args .input)) (now (start .args .text)) (now (start .args .records)) _ (at-admit .admit .ensures) _ (at-place .place .given .1)
 
 returns-3 : tie.Need-returns-3
-returns-3 c = gate-short ((c .before .before .before .before .before .before .args) .exclusions) (now ((c .before .before .before .before .before .before .args) .input)) (now ((c .before .before .before .before .before .before .args) .text)) (now ((c .before .before .before .before .before .before .args) .records)) _ ((c .before .before .admit) .ensures) ((c .enum-told2) .given .1)
+returns-3 c =
+    let at-admit = c .before .before in
+    let start = at-admit .before .before .before .before in
+    gate-short (start .args .exclusions) (now (start .args .input)) (now (start .args .text)) (now (start .args .records)) _ (at-admit .admit .ensures) (c .enum-told2 .given .1)
 
 same-length : tie.Need-same-length
 same-length c = search needs
@@ -43,7 +56,12 @@ same-length-2 : tie.Need-same-length-2
 same-length-2 c = search needs
 
 returns-4 : tie.Need-returns-4
-returns-4 c = gate-open ((c .before .before .before .before .before .before .before .before .before .before .before .before .before .args) .exclusions) (now ((c .before .before .before .before .before .before .before .before .before .before .before .before .before .args) .input)) (now ((c .before .before .before .before .before .before .before .before .before .before .before .before .before .args) .text)) (now ((c .before .before .before .before .before .before .before .before .before .before .before .before .before .args) .records)) _ ((c .before .before .before .before .before .before .before .before .before .admit) .ensures) ((c .before .before .before .before .before .before .before .enum-told3) .given .1) ((c .before .before .before .before .read) .ensures)
+returns-4 c =
+    let at-read = c .before .before .before .before in
+    let at-enum-told3 = at-read .before .before .before in
+    let at-admit = at-enum-told3 .before .before in
+    let start = at-admit .before .before .before .before in
+    gate-open (start .args .exclusions) (now (start .args .input)) (now (start .args .text)) (now (start .args .records)) _ (at-admit .admit .ensures) (at-enum-told3 .enum-told3 .given .1) (at-read .read .ensures)
 
 pub parse-spec : {M : Type 1} → statement M
 parse-spec =

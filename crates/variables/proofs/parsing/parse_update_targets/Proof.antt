@@ -16,7 +16,10 @@ same-length-2 : tie.Need-same-length-2
 same-length-2 c = search needs
 
 returns : tie.Need-returns
-returns c = rw (as-update (now ((c .before .before .before .before .before .before .before .before .before .before .args) .input)) (length (now ((c .before .before .before .before .before .before .before .before .before .before .args) .text))) (length (now ((c .before .before .before .before .before .before .before .before .before .before .args) .records)))) ((c .before .before .before .before .parse) .ensures)
+returns c =
+    let at-parse = c .before .before .before .before in
+    let start = at-parse .before .before .before .before .before .before in
+    rw (as-update (now (start .args .input)) (length (now (start .args .text))) (length (now (start .args .records)))) (at-parse .parse .ensures)
 
 pub parse-update-targets-spec : {M : Type 1} → statement M
 parse-update-targets-spec = tie.close (tie.spec parse-requires same-length same-length-2 returns)

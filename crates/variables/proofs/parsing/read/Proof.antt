@@ -17,19 +17,31 @@ clear-requires : tie.Need-clear-requires
 clear-requires c κs = search needs
 
 sub-store-bytes : tie.Need-sub-store-bytes
-sub-store-bytes c = let x = (rw ((c .before .before .before .before .before .before .before .before .before .piece) .given .1) at ((c .before .before .before .before .before .before .before .before .before .before .before .before .before .before .before .scan) .ensures)) in x .ordered
+sub-store-bytes c =
+    let at-piece = c .before .before .before .before .before .before .before .before .before in
+    let at-scan = at-piece .before .before .before .before .before .before in
+    let x = (rw (at-piece .piece .given .1) at (at-scan .scan .ensures)) in x .ordered
 
 part-store-bytes-start : tie.Need-part-store-bytes-start
-part-store-bytes-start c = let x = (rw ((c .before .before .before .before .before .before .before .before .before .piece) .given .1) at ((c .before .before .before .before .before .before .before .before .before .before .before .before .before .before .before .scan) .ensures)) in x .ordered
+part-store-bytes-start c =
+    let at-piece = c .before .before .before .before .before .before .before .before .before in
+    let at-scan = at-piece .before .before .before .before .before .before in
+    let x = (rw (at-piece .piece .given .1) at (at-scan .scan .ensures)) in x .ordered
 
 part-store-bytes-end : tie.Need-part-store-bytes-end
-part-store-bytes-end c = let x = (rw ((c .before .before .before .before .before .before .before .before .before .piece) .given .1) at ((c .before .before .before .before .before .before .before .before .before .before .before .before .before .before .before .scan) .ensures)) in x .inside
+part-store-bytes-end c =
+    let at-piece = c .before .before .before .before .before .before .before .before .before in
+    let at-scan = at-piece .before .before .before .before .before .before in
+    let x = (rw (at-piece .piece .given .1) at (at-scan .scan .ensures)) in x .inside
 
 store-bytes-requires : tie.Need-store-bytes-requires
 store-bytes-requires c κs = search needs
 
 sub-t29 : tie.Need-sub-t29
-sub-t29 c = let x = (rw ((c .before .before .before .before .before .before .before .before .before .before .before .before .before .piece) .given .1) at ((c .before .before .before .before .before .before .before .before .before .before .before .before .before .before .before .before .before .before .before .scan) .ensures)) in x .ordered
+sub-t29 c =
+    let at-piece = c .before .before .before .before .before .before .before .before .before .before .before .before .before in
+    let at-scan = at-piece .before .before .before .before .before .before in
+    let x = (rw (at-piece .piece .given .1) at (at-scan .scan .ensures)) in x .ordered
 
 enum-known-variables : tie.Need-enum-known-variables
 enum-known-variables c = search needs
@@ -38,7 +50,11 @@ kept-requires : tie.Need-kept-requires
 kept-requires c κs = search needs
 
 add-count : tie.Need-add-count
-add-count c = let x = (rw ((c .before .before .variables) .given .1) at ((c .before .before .before .before .before .before .before .before .scan) .ensures)) in omega (arith, x .few, kept-low ((c .before .before .before .before .before .before .before .before .before .before .before .before .before .before .args) .exclusions) _ _ _ ((c .kept) .ensures))
+add-count c =
+    let at-variables = c .before .before in
+    let at-scan = at-variables .before .before .before .before .before .before in
+    let start = at-scan .before .before .before .before .before .before in
+    let x = (rw (at-variables .variables .given .1) at (at-scan .scan .ensures)) in omega (arith, x .few, kept-low (start .args .exclusions) _ _ _ (c .kept .ensures))
 
 room-requires : tie.Need-room-requires
 room-requires c κs = search needs
@@ -53,16 +69,44 @@ same-length-2 : tie.Need-same-length-2
 same-length-2 c = search needs
 
 returns : tie.Need-returns
-returns c = read-no-room ((c .before .before .before .before .before .before .before .before .before .before .before .before .before .before .before .before .before .before .before .before .before .before .before .args) .exclusions) (now ((c .before .before .before .before .before .before .before .before .before .before .before .before .before .before .before .before .before .before .before .before .before .before .before .args) .s)) (now ((c .before .before .before .before .before .before .before .before .before .before .before .before .before .before .before .before .before .before .before .before .before .before .before .args) .text)) (now ((c .before .before .before .before .before .before .before .before .before .before .before .before .before .before .before .before .before .before .before .before .before .before .before .args) .records)) (rw ((c .before .before .before .before .before .before .before .before .before .before .before .variables) .given .1) at ((c .before .before .before .before .before .before .before .before .before .before .before .before .before .before .before .before .before .scan) .ensures)) _ ((c .before .before .before .before .before .before .before .before .before .kept) .ensures) _ ((c .before .before .before .before .before .before .before .before .room) .ensures) _ _ ((c .before .before .before .before .before .before .before .if1) .taken) ((c .before .before .before .before .clear2) .ensures .0) ((c .before .before .before .before .clear2) .ensures .1)
+returns c =
+    let at-clear2 = c .before .before .before .before in
+    let at-if1 = at-clear2 .before .before .before in
+    let at-room = at-if1 .before in
+    let at-kept = at-room .before in
+    let at-variables = at-kept .before .before in
+    let at-scan = at-variables .before .before .before .before .before .before in
+    let start = at-scan .before .before .before .before .before .before in
+    read-no-room (start .args .exclusions) (now (start .args .s)) (now (start .args .text)) (now (start .args .records)) (rw (at-variables .variables .given .1) at (at-scan .scan .ensures)) _ (at-kept .kept .ensures) _ (at-room .room .ensures) _ _ (at-if1 .if1 .taken) (at-clear2 .clear2 .ensures .0) (at-clear2 .clear2 .ensures .1)
 
 add-exclusions-requires : tie.Need-add-exclusions-requires
-add-exclusions-requires c κs = let x = (rw ((c .before .before .before .before .before .before .variables) .given .1) at ((c .before .before .before .before .before .before .before .before .before .before .before .before .scan) .ensures)) in ((c .before .before .before .before .before .before .before .before .before .before .before .before .before .before .before .before .before .before .pre) .0, (omega (arith, used-fits x, (c .before .before .before .before .before .before .before .before .before .before .before .before .before .before .before .before .before .before .pre) .0), omega (arith, x .few)))
+add-exclusions-requires c κs =
+    let at-variables = c .before .before .before .before .before .before in
+    let at-scan = at-variables .before .before .before .before .before .before in
+    let start = at-scan .before .before .before .before .before .before in
+    let x = (rw (at-variables .variables .given .1) at (at-scan .scan .ensures)) in (start .pre .0, (omega (arith, used-fits x, start .pre .0), omega (arith, x .few)))
 
 sub-clear-bytes : tie.Need-sub-clear-bytes
-sub-clear-bytes c = past-fits ((c .before .before .before .before .before .before .before .before .before .before .before .before .before .before .before .before .before .before .before .before .before .before .before .args) .exclusions) (now ((c .before .before .before .before .before .before .before .before .before .before .before .before .before .before .before .before .before .before .before .before .before .before .before .args) .s)) (now ((c .before .before .before .before .before .before .before .before .before .before .before .before .before .before .before .before .before .before .before .before .before .before .before .args) .text)) (now ((c .before .before .before .before .before .before .before .before .before .before .before .before .before .before .before .before .before .before .before .before .before .before .before .args) .records)) (rw ((c .before .before .before .before .before .before .before .before .before .before .before .variables) .given .1) at ((c .before .before .before .before .before .before .before .before .before .before .before .before .before .before .before .before .before .scan) .ensures)) _ ((c .before .before .before .before .before .before .before .before .before .kept) .ensures) _ ((c .before .before .before .before .before .before .before .before .room) .ensures) ((c .before .before .before .before .before .before .before .if1) .left) ((c .before .before .before .before .before .before .before .before .before .before .before .before .before .before .before .before .before .before .before .before .before .before .before .pre) .1) ((c .before .before .before .before .add-exclusions) .ensures)
+sub-clear-bytes c =
+    let at-add-exclusions = c .before .before .before .before in
+    let at-if1 = at-add-exclusions .before .before .before in
+    let at-room = at-if1 .before in
+    let at-kept = at-room .before in
+    let at-variables = at-kept .before .before in
+    let at-scan = at-variables .before .before .before .before .before .before in
+    let start = at-scan .before .before .before .before .before .before in
+    past-fits (start .args .exclusions) (now (start .args .s)) (now (start .args .text)) (now (start .args .records)) (rw (at-variables .variables .given .1) at (at-scan .scan .ensures)) _ (at-kept .kept .ensures) _ (at-room .room .ensures) (at-if1 .if1 .left) (start .pre .1) (at-add-exclusions .add-exclusions .ensures)
 
 part-clear-bytes-start : tie.Need-part-clear-bytes-start
-part-clear-bytes-start c = past-fits ((c .before .before .before .before .before .before .before .before .before .before .before .before .before .before .before .before .before .before .before .before .before .before .before .args) .exclusions) (now ((c .before .before .before .before .before .before .before .before .before .before .before .before .before .before .before .before .before .before .before .before .before .before .before .args) .s)) (now ((c .before .before .before .before .before .before .before .before .before .before .before .before .before .before .before .before .before .before .before .before .before .before .before .args) .text)) (now ((c .before .before .before .before .before .before .before .before .before .before .before .before .before .before .before .before .before .before .before .before .before .before .before .args) .records)) (rw ((c .before .before .before .before .before .before .before .before .before .before .before .variables) .given .1) at ((c .before .before .before .before .before .before .before .before .before .before .before .before .before .before .before .before .before .scan) .ensures)) _ ((c .before .before .before .before .before .before .before .before .before .kept) .ensures) _ ((c .before .before .before .before .before .before .before .before .room) .ensures) ((c .before .before .before .before .before .before .before .if1) .left) ((c .before .before .before .before .before .before .before .before .before .before .before .before .before .before .before .before .before .before .before .before .before .before .before .pre) .1) ((c .before .before .before .before .add-exclusions) .ensures)
+part-clear-bytes-start c =
+    let at-add-exclusions = c .before .before .before .before in
+    let at-if1 = at-add-exclusions .before .before .before in
+    let at-room = at-if1 .before in
+    let at-kept = at-room .before in
+    let at-variables = at-kept .before .before in
+    let at-scan = at-variables .before .before .before .before .before .before in
+    let start = at-scan .before .before .before .before .before .before in
+    past-fits (start .args .exclusions) (now (start .args .s)) (now (start .args .text)) (now (start .args .records)) (rw (at-variables .variables .given .1) at (at-scan .scan .ensures)) _ (at-kept .kept .ensures) _ (at-room .room .ensures) (at-if1 .if1 .left) (start .pre .1) (at-add-exclusions .add-exclusions .ensures)
 
 part-clear-bytes-end : tie.Need-part-clear-bytes-end
 part-clear-bytes-end c = search needs
@@ -71,16 +115,48 @@ clear-bytes-requires : tie.Need-clear-bytes-requires
 clear-bytes-requires c κs = search needs
 
 mul-words : tie.Need-mul-words
-mul-words c = omega (arith, count-fits ((c .before .before .before .before .before .before .before .before .before .before .before .before .before .before .before .before .before .before .before .before .before .before .before .before .before .before .before .args) .exclusions) (now ((c .before .before .before .before .before .before .before .before .before .before .before .before .before .before .before .before .before .before .before .before .before .before .before .before .before .before .before .args) .s)) (now ((c .before .before .before .before .before .before .before .before .before .before .before .before .before .before .before .before .before .before .before .before .before .before .before .before .before .before .before .args) .text)) (now ((c .before .before .before .before .before .before .before .before .before .before .before .before .before .before .before .before .before .before .before .before .before .before .before .before .before .before .before .args) .records)) (rw ((c .before .before .before .before .before .before .before .before .before .before .before .before .before .before .before .variables) .given .1) at ((c .before .before .before .before .before .before .before .before .before .before .before .before .before .before .before .before .before .before .before .before .before .scan) .ensures)) _ ((c .before .before .before .before .before .before .before .before .before .before .before .before .before .kept) .ensures) _ ((c .before .before .before .before .before .before .before .before .before .before .before .before .room) .ensures) ((c .before .before .before .before .before .before .before .before .before .before .before .if1) .left) ((c .before .before .before .before .before .before .before .before .before .before .before .before .before .before .before .before .before .before .before .before .before .before .before .before .before .before .before .pre) .1) ((c .before .before .before .before .before .before .before .before .add-exclusions) .ensures), (c .before .before .before .before .before .before .before .before .before .before .before .before .before .before .before .before .before .before .before .before .before .before .before .before .before .before .before .good))
+mul-words c =
+    let at-add-exclusions = c .before .before .before .before .before .before .before .before in
+    let at-if1 = at-add-exclusions .before .before .before in
+    let at-room = at-if1 .before in
+    let at-kept = at-room .before in
+    let at-variables = at-kept .before .before in
+    let at-scan = at-variables .before .before .before .before .before .before in
+    let start = at-scan .before .before .before .before .before .before in
+    omega (arith, count-fits (start .args .exclusions) (now (start .args .s)) (now (start .args .text)) (now (start .args .records)) (rw (at-variables .variables .given .1) at (at-scan .scan .ensures)) _ (at-kept .kept .ensures) _ (at-room .room .ensures) (at-if1 .if1 .left) (start .pre .1) (at-add-exclusions .add-exclusions .ensures), (start .good))
 
 mul-clear-words : tie.Need-mul-clear-words
-mul-clear-words c = omega (arith, count-fits ((c .before .before .before .before .before .before .before .before .before .before .before .before .before .before .before .before .before .before .before .before .before .before .before .before .before .before .before .args) .exclusions) (now ((c .before .before .before .before .before .before .before .before .before .before .before .before .before .before .before .before .before .before .before .before .before .before .before .before .before .before .before .args) .s)) (now ((c .before .before .before .before .before .before .before .before .before .before .before .before .before .before .before .before .before .before .before .before .before .before .before .before .before .before .before .args) .text)) (now ((c .before .before .before .before .before .before .before .before .before .before .before .before .before .before .before .before .before .before .before .before .before .before .before .before .before .before .before .args) .records)) (rw ((c .before .before .before .before .before .before .before .before .before .before .before .before .before .before .before .variables) .given .1) at ((c .before .before .before .before .before .before .before .before .before .before .before .before .before .before .before .before .before .before .before .before .before .scan) .ensures)) _ ((c .before .before .before .before .before .before .before .before .before .before .before .before .before .kept) .ensures) _ ((c .before .before .before .before .before .before .before .before .before .before .before .before .room) .ensures) ((c .before .before .before .before .before .before .before .before .before .before .before .if1) .left) ((c .before .before .before .before .before .before .before .before .before .before .before .before .before .before .before .before .before .before .before .before .before .before .before .before .before .before .before .pre) .1) ((c .before .before .before .before .before .before .before .before .add-exclusions) .ensures), (c .before .before .before .before .before .before .before .before .before .before .before .before .before .before .before .before .before .before .before .before .before .before .before .before .before .before .before .good))
+mul-clear-words c =
+    let at-add-exclusions = c .before .before .before .before .before .before .before .before in
+    let at-if1 = at-add-exclusions .before .before .before in
+    let at-room = at-if1 .before in
+    let at-kept = at-room .before in
+    let at-variables = at-kept .before .before in
+    let at-scan = at-variables .before .before .before .before .before .before in
+    let start = at-scan .before .before .before .before .before .before in
+    omega (arith, count-fits (start .args .exclusions) (now (start .args .s)) (now (start .args .text)) (now (start .args .records)) (rw (at-variables .variables .given .1) at (at-scan .scan .ensures)) _ (at-kept .kept .ensures) _ (at-room .room .ensures) (at-if1 .if1 .left) (start .pre .1) (at-add-exclusions .add-exclusions .ensures), (start .good))
 
 sub-clear-words : tie.Need-sub-clear-words
-sub-clear-words c = count-fits-still ((c .before .before .before .before .before .before .before .before .before .before .before .before .before .before .before .before .before .before .before .before .before .before .before .before .before .before .before .args) .exclusions) (now ((c .before .before .before .before .before .before .before .before .before .before .before .before .before .before .before .before .before .before .before .before .before .before .before .before .before .before .before .args) .s)) (now ((c .before .before .before .before .before .before .before .before .before .before .before .before .before .before .before .before .before .before .before .before .before .before .before .before .before .before .before .args) .text)) (now ((c .before .before .before .before .before .before .before .before .before .before .before .before .before .before .before .before .before .before .before .before .before .before .before .before .before .before .before .args) .records)) (rw ((c .before .before .before .before .before .before .before .before .before .before .before .before .before .before .before .variables) .given .1) at ((c .before .before .before .before .before .before .before .before .before .before .before .before .before .before .before .before .before .before .before .before .before .scan) .ensures)) _ ((c .before .before .before .before .before .before .before .before .before .before .before .before .before .kept) .ensures) _ ((c .before .before .before .before .before .before .before .before .before .before .before .before .room) .ensures) ((c .before .before .before .before .before .before .before .before .before .before .before .if1) .left) ((c .before .before .before .before .before .before .before .before .before .before .before .before .before .before .before .before .before .before .before .before .before .before .before .before .before .before .before .pre) .1) ((c .before .before .before .before .before .before .before .before .add-exclusions) .ensures)
+sub-clear-words c =
+    let at-add-exclusions = c .before .before .before .before .before .before .before .before in
+    let at-if1 = at-add-exclusions .before .before .before in
+    let at-room = at-if1 .before in
+    let at-kept = at-room .before in
+    let at-variables = at-kept .before .before in
+    let at-scan = at-variables .before .before .before .before .before .before in
+    let start = at-scan .before .before .before .before .before .before in
+    count-fits-still (start .args .exclusions) (now (start .args .s)) (now (start .args .text)) (now (start .args .records)) (rw (at-variables .variables .given .1) at (at-scan .scan .ensures)) _ (at-kept .kept .ensures) _ (at-room .room .ensures) (at-if1 .if1 .left) (start .pre .1) (at-add-exclusions .add-exclusions .ensures)
 
 part-clear-words-start : tie.Need-part-clear-words-start
-part-clear-words-start c = count-fits-still ((c .before .before .before .before .before .before .before .before .before .before .before .before .before .before .before .before .before .before .before .before .before .before .before .before .before .before .before .args) .exclusions) (now ((c .before .before .before .before .before .before .before .before .before .before .before .before .before .before .before .before .before .before .before .before .before .before .before .before .before .before .before .args) .s)) (now ((c .before .before .before .before .before .before .before .before .before .before .before .before .before .before .before .before .before .before .before .before .before .before .before .before .before .before .before .args) .text)) (now ((c .before .before .before .before .before .before .before .before .before .before .before .before .before .before .before .before .before .before .before .before .before .before .before .before .before .before .before .args) .records)) (rw ((c .before .before .before .before .before .before .before .before .before .before .before .before .before .before .before .variables) .given .1) at ((c .before .before .before .before .before .before .before .before .before .before .before .before .before .before .before .before .before .before .before .before .before .scan) .ensures)) _ ((c .before .before .before .before .before .before .before .before .before .before .before .before .before .kept) .ensures) _ ((c .before .before .before .before .before .before .before .before .before .before .before .before .room) .ensures) ((c .before .before .before .before .before .before .before .before .before .before .before .if1) .left) ((c .before .before .before .before .before .before .before .before .before .before .before .before .before .before .before .before .before .before .before .before .before .before .before .before .before .before .before .pre) .1) ((c .before .before .before .before .before .before .before .before .add-exclusions) .ensures)
+part-clear-words-start c =
+    let at-add-exclusions = c .before .before .before .before .before .before .before .before in
+    let at-if1 = at-add-exclusions .before .before .before in
+    let at-room = at-if1 .before in
+    let at-kept = at-room .before in
+    let at-variables = at-kept .before .before in
+    let at-scan = at-variables .before .before .before .before .before .before in
+    let start = at-scan .before .before .before .before .before .before in
+    count-fits-still (start .args .exclusions) (now (start .args .s)) (now (start .args .text)) (now (start .args .records)) (rw (at-variables .variables .given .1) at (at-scan .scan .ensures)) _ (at-kept .kept .ensures) _ (at-room .room .ensures) (at-if1 .if1 .left) (start .pre .1) (at-add-exclusions .add-exclusions .ensures)
 
 part-clear-words-end : tie.Need-part-clear-words-end
 part-clear-words-end c = search needs
@@ -95,7 +171,13 @@ same-length-4 : tie.Need-same-length-4
 same-length-4 c = search needs
 
 returns-2 : tie.Need-returns-2
-returns-2 c = read-unknown ((c .before .before .before .before .before .before .before .before .before .before .before .before .before .before .before .before .before .before .before .before .before .before .before .before .before .args) .exclusions) (now ((c .before .before .before .before .before .before .before .before .before .before .before .before .before .before .before .before .before .before .before .before .before .before .before .before .before .args) .s)) (now ((c .before .before .before .before .before .before .before .before .before .before .before .before .before .before .before .before .before .before .before .before .before .before .before .before .before .args) .text)) (now ((c .before .before .before .before .before .before .before .before .before .before .before .before .before .before .before .before .before .before .before .before .before .before .before .before .before .args) .records)) (rw ((c .before .before .before .before .before .before .before .before .before .before .before .before .before .piece) .given .1) at ((c .before .before .before .before .before .before .before .before .before .before .before .before .before .before .before .before .before .before .before .scan) .ensures)) ((c .before .before .before .before .before .before .before .before .before .before .before .before .before .before .before .before .before .before .before .scan) .last .1 .1 .0) ((c .before .before .before .before .before .before .before .before .before .before .before .before .before .before .before .before .before .before .before .scan) .last .1 .1 .1 .0) _ _ _ ((c .before .before .before .before .before .before .before .before .before .before .before .before .before .before .before .before .before .before .before .scan) .kept .1 .1 .0) ((c .before .before .before .before .before .before .before .before .before .before .before .before .before .before .before .before .before .before .before .scan) .kept .1 .1 .1 .0) ((c .before .before .before .before .before .before .before .before .before .before .before .before .before .before .before .before .before .before .before .before .before .before .before .before .before .pre) .1) ((c .before .before .before .before .before .before .before .before .before .clear) .ensures .0) ((c .before .before .before .before .before .before .before .before .before .clear) .ensures .1) ((c .before .before .store-bytes) .ensures)
+returns-2 c =
+    let at-store-bytes = c .before .before in
+    let at-clear = at-store-bytes .before .before .before .before .before .before .before in
+    let at-piece = at-clear .before .before .before .before in
+    let at-scan = at-piece .before .before .before .before .before .before in
+    let start = at-scan .before .before .before .before .before .before in
+    read-unknown (start .args .exclusions) (now (start .args .s)) (now (start .args .text)) (now (start .args .records)) (rw (at-piece .piece .given .1) at (at-scan .scan .ensures)) (at-scan .scan .last .1 .1 .0) (at-scan .scan .last .1 .1 .1 .0) _ _ _ (at-scan .scan .kept .1 .1 .0) (at-scan .scan .kept .1 .1 .1 .0) (start .pre .1) (at-clear .clear .ensures .0) (at-clear .clear .ensures .1) (at-store-bytes .store-bytes .ensures)
 
 same-length-5 : tie.Need-same-length-5
 same-length-5 c = search needs
@@ -104,7 +186,17 @@ same-length-6 : tie.Need-same-length-6
 same-length-6 c = search needs
 
 returns-3 : tie.Need-returns-3
-returns-3 c = read-all ((c .before .before .before .before .before .before .before .before .before .before .before .before .before .before .before .before .before .before .before .before .before .before .before .before .before .before .before .before .before .before .before .args) .exclusions) (now ((c .before .before .before .before .before .before .before .before .before .before .before .before .before .before .before .before .before .before .before .before .before .before .before .before .before .before .before .before .before .before .before .args) .s)) (now ((c .before .before .before .before .before .before .before .before .before .before .before .before .before .before .before .before .before .before .before .before .before .before .before .before .before .before .before .before .before .before .before .args) .text)) (now ((c .before .before .before .before .before .before .before .before .before .before .before .before .before .before .before .before .before .before .before .before .before .before .before .before .before .before .before .before .before .before .before .args) .records)) (rw ((c .before .before .before .before .before .before .before .before .before .before .before .before .before .before .before .before .before .before .before .variables) .given .1) at ((c .before .before .before .before .before .before .before .before .before .before .before .before .before .before .before .before .before .before .before .before .before .before .before .before .before .scan) .ensures)) _ ((c .before .before .before .before .before .before .before .before .before .before .before .before .before .before .before .before .before .kept) .ensures) _ ((c .before .before .before .before .before .before .before .before .before .before .before .before .before .before .before .before .room) .ensures) ((c .before .before .before .before .before .before .before .before .before .before .before .before .before .before .before .if1) .left) ((c .before .before .before .before .before .before .before .before .before .before .before .before .before .before .before .before .before .before .before .before .before .before .before .before .before .before .before .before .before .before .before .pre) .1) ((c .before .before .before .before .before .before .before .before .before .before .before .before .add-exclusions) .ensures) _ _ ((c .before .before .before .before .before .before .clear-bytes) .ensures) ((c .before .before .clear-words) .ensures)
+returns-3 c =
+    let at-clear-words = c .before .before in
+    let at-clear-bytes = at-clear-words .before .before .before .before in
+    let at-add-exclusions = at-clear-bytes .before .before .before .before .before .before in
+    let at-if1 = at-add-exclusions .before .before .before in
+    let at-room = at-if1 .before in
+    let at-kept = at-room .before in
+    let at-variables = at-kept .before .before in
+    let at-scan = at-variables .before .before .before .before .before .before in
+    let start = at-scan .before .before .before .before .before .before in
+    read-all (start .args .exclusions) (now (start .args .s)) (now (start .args .text)) (now (start .args .records)) (rw (at-variables .variables .given .1) at (at-scan .scan .ensures)) _ (at-kept .kept .ensures) _ (at-room .room .ensures) (at-if1 .if1 .left) (start .pre .1) (at-add-exclusions .add-exclusions .ensures) _ _ (at-clear-bytes .clear-bytes .ensures) (at-clear-words .clear-words .ensures)
 
 pub read-spec : {M : Type 1} → statement M
 read-spec =

@@ -26,7 +26,7 @@ length-before-requires : tie.Need-length-before-requires
 length-before-requires c κs = search needs
 
 add-end : tie.Need-add-end
-add-end c = omega (arith, colon-fits (now ((c .before .before .before .before .before .args) .p)) 1 _ false (omega arith) ((c .length-before) .ensures))
+add-end c = omega (arith, colon-fits (now (c .before .before .before .before .before .args .p)) 1 _ false (omega arith) (c .length-before .ensures))
 
 sub-variable-code : tie.Need-sub-variable-code
 sub-variable-code c = search needs
@@ -35,7 +35,7 @@ part-variable-code-start : tie.Need-part-variable-code-start
 part-variable-code-start c = search needs
 
 part-variable-code-end : tie.Need-part-variable-code-end
-part-variable-code-end c = colon-fits (now ((c .before .before .before .before .before .args) .p)) 1 _ false (omega arith) ((c .length-before) .ensures)
+part-variable-code-end c = colon-fits (now (c .before .before .before .before .before .args .p)) 1 _ false (omega arith) (c .length-before .ensures)
 
 variable-code-requires : tie.Need-variable-code-requires
 variable-code-requires c κs = search needs
@@ -47,13 +47,23 @@ enum-told-4 : tie.Need-enum-told-4
 enum-told-4 c = search needs
 
 returns : tie.Need-returns
-returns c = rw ((c .enum-told) .given .1) (marked-written (now ((c .before .before .before .args) .p)) ((c .before .before .before .pre) .0) ((c .before .before .before .pre) .1))
+returns c = rw (c .enum-told .given .1) (marked-written (now (c .before .before .before .args .p)) (c .before .before .before .pre .0) (c .before .before .before .pre .1))
 
 returns-2 : tie.Need-returns-2
-returns-2 c = rw ((c .before .before .before .before .before .before .enum-told2) .given .1) (marked-known (now ((c .before .before .before .before .before .before .before .before .before .args) .p)) ((c .before .before .before .before .before .before .before .before .before .pre) .0) ((c .before .before .before .before .before .before .before .before .before .pre) .1) _ ((c .before .before .before .before .length-before) .ensures) _ ((c .before .before .variable-code) .ensures) _ ((c .enum-told3) .given .1))
+returns-2 c =
+    let at-variable-code = c .before .before in
+    let at-length-before = at-variable-code .before .before in
+    let at-enum-told2 = at-length-before .before .before in
+    let start = at-enum-told2 .before .before .before in
+    rw (at-enum-told2 .enum-told2 .given .1) (marked-known (now (start .args .p)) (start .pre .0) (start .pre .1) _ (at-length-before .length-before .ensures) _ (at-variable-code .variable-code .ensures) _ (c .enum-told3 .given .1))
 
 returns-3 : tie.Need-returns-3
-returns-3 c = rw ((c .before .before .before .before .before .before .enum-told2) .given .1) (marked-unknown (now ((c .before .before .before .before .before .before .before .before .before .args) .p)) ((c .before .before .before .before .before .before .before .before .before .pre) .0) ((c .before .before .before .before .before .before .before .before .before .pre) .1) _ ((c .before .before .before .before .length-before) .ensures) _ ((c .before .before .variable-code) .ensures) ((c .enum-told4) .given .1))
+returns-3 c =
+    let at-variable-code = c .before .before in
+    let at-length-before = at-variable-code .before .before in
+    let at-enum-told2 = at-length-before .before .before in
+    let start = at-enum-told2 .before .before .before in
+    rw (at-enum-told2 .enum-told2 .given .1) (marked-unknown (now (start .args .p)) (start .pre .0) (start .pre .1) _ (at-length-before .length-before .ensures) _ (at-variable-code .variable-code .ensures) (c .enum-told4 .given .1))
 
 pub marked-spec : {M : Type 1} → statement M
 marked-spec =

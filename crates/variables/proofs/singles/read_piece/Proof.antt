@@ -11,22 +11,30 @@ shared-slice-read-b : tie.Need-shared-slice-read-b
 shared-slice-read-b c = search needs
 
 marked-requires : tie.Need-marked-requires
-marked-requires c κs = ((c .before .before .before .pre), (c .if1) .taken)
+marked-requires c κs = ((c .before .before .before .pre), c .if1 .taken)
 
 returns : tie.Need-returns
-returns c = (c .marked) .ensures
+returns c = c .marked .ensures
 
 named-requires : tie.Need-named-requires
 named-requires c κs = search needs
 
 returns-2 : tie.Need-returns-2
-returns-2 c = pieced-counts (excludingOf ((c .before .before .before .before .before .args) .exclusions)) (now ((c .before .before .before .before .before .args) .p)) (c .before .before .before .before .before .pre) ((c .before .before .if1) .left) ((c .before .if2) .taken) ((c .named) .result) ((c .named) .ensures)
+returns-2 c =
+    let at-if2 = c .before in
+    let at-if1 = at-if2 .before in
+    let start = at-if1 .before .before .before in
+    pieced-counts (excludingOf (start .args .exclusions)) (now (start .args .p)) (start .pre) (at-if1 .if1 .left) (at-if2 .if2 .taken) (c .named .result) (c .named .ensures)
 
 named-requires-2 : tie.Need-named-requires-2
 named-requires-2 c κs = search needs
 
 returns-3 : tie.Need-returns-3
-returns-3 c = pieced-plain (excludingOf ((c .before .before .before .before .before .args) .exclusions)) (now ((c .before .before .before .before .before .args) .p)) (c .before .before .before .before .before .pre) ((c .before .before .if1) .left) ((c .before .if2) .left) ((c .named2) .result) ((c .named2) .ensures)
+returns-3 c =
+    let at-if2 = c .before in
+    let at-if1 = at-if2 .before in
+    let start = at-if1 .before .before .before in
+    pieced-plain (excludingOf (start .args .exclusions)) (now (start .args .p)) (start .pre) (at-if1 .if1 .left) (at-if2 .if2 .left) (c .named2 .result) (c .named2 .ensures)
 
 pub read-piece-spec : {M : Type 1} → statement M
 read-piece-spec =

@@ -37,7 +37,12 @@ same-length-2 : tie.Need-same-length-2
 same-length-2 c = search needs
 
 returns : tie.Need-returns
-returns c = ((c .before .before .store-bytes) .ensures, rw (← (c .before .before .before .before .before .before .before .before .before .before .span-of) .ensures, ← (c .before .before .before .before .before .before .before .before .before .before .before .flag) .ensures) ((c .before .before .before .before .before .before .before .store-words) .ensures))
+returns c =
+    let at-store-bytes = c .before .before in
+    let at-store-words = at-store-bytes .before .before .before .before .before in
+    let at-span-of = at-store-words .before .before .before in
+    let at-flag = at-span-of .before in
+    (at-store-bytes .store-bytes .ensures, rw (← at-span-of .span-of .ensures, ← at-flag .flag .ensures) (at-store-words .store-words .ensures))
 
 pub put-spec : {M : Type 1} → statement M
 put-spec =

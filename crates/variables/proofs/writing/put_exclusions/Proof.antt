@@ -15,7 +15,7 @@ abbrev μ-loop : tie.MeasureT-loop
 μ-loop s text₀ offset records₀ place at₀ used₀ count₀ text records at used count = length s + 1 - at
 
 loop-holds : tie.Need-loop-holds Inv-loop μ-loop
-loop-holds c = add-begun (now ((c .before .before .before .args) .s)) (now ((c .before .before .before .args) .text)) (now ((c .before .before .before .args) .records)) ((c .before .before .before .args) .offset) ((c .before .before .before .args) .place)
+loop-holds c = add-begun (now (c .before .before .before .args .s)) (now (c .before .before .before .args .text)) (now (c .before .before .before .args .records)) (c .before .before .before .args .offset) (c .before .before .before .args .place)
 
 next-piece-requires : tie.Need-next-piece-requires Inv-loop μ-loop
 next-piece-requires c κs = search needs
@@ -27,55 +27,85 @@ enum-told : tie.Need-enum-told Inv-loop μ-loop
 enum-told c = search needs
 
 same-length : tie.Need-same-length Inv-loop μ-loop
-same-length c = ((c .before .before .before .loop) .inv) .wrote .text-laid .long
+same-length c = c .before .before .before .loop .inv .wrote .text-laid .long
 
 same-length-2 : tie.Need-same-length-2 Inv-loop μ-loop
-same-length-2 c = ((c .before .before .before .loop) .inv) .wrote .words-laid .long
+same-length-2 c = c .before .before .before .loop .inv .wrote .words-laid .long
 
 returns : tie.Need-returns Inv-loop μ-loop
-returns c = add-ended ((c .before .before .before .loop) .inv) (rw ((c .enum-told) .given .1) at ((c .before .before .next-piece) .ensures))
+returns c = add-ended (c .before .before .before .loop .inv) (rw (c .enum-told .given .1) at (c .before .before .next-piece .ensures))
 
 shared-slice-read-if1 : tie.Need-shared-slice-read-if1 Inv-loop μ-loop
-shared-slice-read-if1 c = let p = (rw ((c .before .before .first) .given .1) at ((c .before .before .before .before .next-piece) .ensures)) in omega (arith, p .some, p .before, p .inside)
+shared-slice-read-if1 c = let p = (rw (c .before .before .first .given .1) at (c .before .before .before .before .next-piece .ensures)) in omega (arith, p .some, p .before, p .inside)
 
 sub-put : tie.Need-sub-put Inv-loop μ-loop
-sub-put c = let p = (rw ((c .before .before .before .first) .given .1) at ((c .before .before .before .before .before .next-piece) .ensures)) in omega (arith, p .some)
+sub-put c = let p = (rw (c .before .before .before .first .given .1) at (c .before .before .before .before .before .next-piece .ensures)) in omega (arith, p .some)
 
 sub-put-2 : tie.Need-sub-put-2 Inv-loop μ-loop
-sub-put-2 c = let p = (rw ((c .before .before .before .first) .given .1) at ((c .before .before .before .before .before .next-piece) .ensures)) in omega (arith, p .some)
+sub-put-2 c = let p = (rw (c .before .before .before .first .given .1) at (c .before .before .before .before .before .next-piece .ensures)) in omega (arith, p .some)
 
 part-put-start : tie.Need-part-put-start Inv-loop μ-loop
-part-put-start c = let p = (rw ((c .before .before .before .first) .given .1) at ((c .before .before .before .before .before .next-piece) .ensures)) in omega (arith, p .some)
+part-put-start c = let p = (rw (c .before .before .before .first .given .1) at (c .before .before .before .before .before .next-piece .ensures)) in omega (arith, p .some)
 
 part-put-end : tie.Need-part-put-end Inv-loop μ-loop
-part-put-end c = let p = (rw ((c .before .before .before .first) .given .1) at ((c .before .before .before .before .before .next-piece) .ensures)) in omega (arith, p .before, p .inside)
+part-put-end c = let p = (rw (c .before .before .before .first .given .1) at (c .before .before .before .before .before .next-piece .ensures)) in omega (arith, p .before, p .inside)
 
 put-requires : tie.Need-put-requires Inv-loop μ-loop
-put-requires c κs = let p = (rw ((c .before .before .before .before .before .before .first) .given .1) at ((c .before .before .before .before .before .before .before .before .next-piece) .ensures)) in (add-narrow ((c .before .before .before .before .before .before .before .before .before .loop) .inv) _ _ _ p ((c .before .before .before .before .before .before .before .before .before .before .before .before .before .pre) .0) ((c .before .before .before .before .before .before .before .before .before .before .before .before .before .pre) .1 .0), (omega (arith, piece-long ((c .before .before .before .before .before .before .before .before .before .loop) .inv) _ _ _ p), omega (arith, ((c .before .before .before .before .before .before .before .before .before .loop) .inv) .count-low, p .begun, p .some, p .before, p .inside, (c .before .before .before .before .before .before .before .before .before .before .before .before .before .pre))))
+put-requires c κs =
+    let at-first = c .before .before .before .before .before .before in
+    let at-next-piece = at-first .before .before in
+    let at-loop = at-next-piece .before in
+    let start = at-loop .before .before .before .before in
+    let p = (rw (at-first .first .given .1) at (at-next-piece .next-piece .ensures)) in (add-narrow (at-loop .loop .inv) _ _ _ p (start .pre .0) (start .pre .1 .0), (omega (arith, piece-long (at-loop .loop .inv) _ _ _ p), omega (arith, at-loop .loop .inv .count-low, p .begun, p .some, p .before, p .inside, (start .pre))))
 
 sub-used : tie.Need-sub-used Inv-loop μ-loop
-sub-used c = let p = (rw ((c .before .before .before .before .before .before .before .before .before .before .before .first) .given .1) at ((c .before .before .before .before .before .before .before .before .before .before .before .before .before .next-piece) .ensures)) in omega (arith, p .some)
+sub-used c =
+    let at-first = c .before .before .before .before .before .before .before .before .before .before .before in
+    let at-next-piece = at-first .before .before in
+    let p = (rw (at-first .first .given .1) at (at-next-piece .next-piece .ensures)) in omega (arith, p .some)
 
 sub-used-2 : tie.Need-sub-used-2 Inv-loop μ-loop
-sub-used-2 c = let p = (rw ((c .before .before .before .before .before .before .before .before .before .before .before .first) .given .1) at ((c .before .before .before .before .before .before .before .before .before .before .before .before .before .next-piece) .ensures)) in omega (arith, p .some)
+sub-used-2 c =
+    let at-first = c .before .before .before .before .before .before .before .before .before .before .before in
+    let at-next-piece = at-first .before .before in
+    let p = (rw (at-first .first .given .1) at (at-next-piece .next-piece .ensures)) in omega (arith, p .some)
 
 add-used : tie.Need-add-used Inv-loop μ-loop
-add-used c = let p = (rw ((c .before .before .before .before .before .before .before .before .before .before .before .first) .given .1) at ((c .before .before .before .before .before .before .before .before .before .before .before .before .before .next-piece) .ensures)) in omega (arith, ((c .before .before .before .before .before .before .before .before .before .before .before .before .before .before .loop) .inv) .used-low, p .begun, p .some, p .before, p .inside, (c .before .before .before .before .before .before .before .before .before .before .before .before .before .before .before .before .before .before .pre))
+add-used c =
+    let at-first = c .before .before .before .before .before .before .before .before .before .before .before in
+    let at-next-piece = at-first .before .before in
+    let at-loop = at-next-piece .before in
+    let start = at-loop .before .before .before .before in
+    let p = (rw (at-first .first .given .1) at (at-next-piece .next-piece .ensures)) in omega (arith, at-loop .loop .inv .used-low, p .begun, p .some, p .before, p .inside, (start .pre))
 
 add-count : tie.Need-add-count Inv-loop μ-loop
-add-count c = let p = (rw ((c .before .before .before .before .before .before .before .before .before .before .before .first) .given .1) at ((c .before .before .before .before .before .before .before .before .before .before .before .before .before .next-piece) .ensures)) in omega (arith, ((c .before .before .before .before .before .before .before .before .before .before .before .before .before .before .loop) .inv) .count-low, p .begun, p .some, p .before, p .inside, (c .before .before .before .before .before .before .before .before .before .before .before .before .before .before .before .before .before .before .pre))
+add-count c =
+    let at-first = c .before .before .before .before .before .before .before .before .before .before .before in
+    let at-next-piece = at-first .before .before in
+    let at-loop = at-next-piece .before in
+    let start = at-loop .before .before .before .before in
+    let p = (rw (at-first .first .given .1) at (at-next-piece .next-piece .ensures)) in omega (arith, at-loop .loop .inv .count-low, p .begun, p .some, p .before, p .inside, (start .pre))
 
 loop-less : tie.Need-loop-less Inv-loop μ-loop
-loop-less c = let p = (rw ((c .before .before .before .before .before .before .before .before .before .before .before .first) .given .1) at ((c .before .before .before .before .before .before .before .before .before .before .before .before .before .next-piece) .ensures)) in omega (arith, p .begun, p .some, p .before, p .inside)
+loop-less c =
+    let at-first = c .before .before .before .before .before .before .before .before .before .before .before in
+    let at-next-piece = at-first .before .before in
+    let p = (rw (at-first .first .given .1) at (at-next-piece .next-piece .ensures)) in omega (arith, p .begun, p .some, p .before, p .inside)
 
 loop-again : tie.Need-loop-again Inv-loop μ-loop
-loop-again c = add-turned ((c .before .before .before .before .before .before .before .before .before .before .before .before .before .before .loop) .inv) _ _ _ (rw ((c .before .before .before .before .before .before .before .before .before .before .before .first) .given .1) at ((c .before .before .before .before .before .before .before .before .before .before .before .before .before .next-piece) .ensures)) ((c .before .before .before .before .before .before .before .before .if1) .taken) _ _ ((c .before .before .before .before .put) .ensures .0) ((c .before .before .before .before .put) .ensures .1)
+loop-again c =
+    let at-put = c .before .before .before .before in
+    let at-if1 = at-put .before .before .before .before in
+    let at-first = at-if1 .before .before .before in
+    let at-next-piece = at-first .before .before in
+    let at-loop = at-next-piece .before in
+    add-turned (at-loop .loop .inv) _ _ _ (rw (at-first .first .given .1) at (at-next-piece .next-piece .ensures)) (at-if1 .if1 .taken) _ _ (at-put .put .ensures .0) (at-put .put .ensures .1)
 
 loop-less-2 : tie.Need-loop-less-2 Inv-loop μ-loop
-loop-less-2 c = let p = (rw ((c .before .before .before .first) .given .1) at ((c .before .before .before .before .before .next-piece) .ensures)) in omega (arith, p .begun, p .some, p .before, p .inside)
+loop-less-2 c = let p = (rw (c .before .before .before .first .given .1) at (c .before .before .before .before .before .next-piece .ensures)) in omega (arith, p .begun, p .some, p .before, p .inside)
 
 loop-again-2 : tie.Need-loop-again-2 Inv-loop μ-loop
-loop-again-2 c = add-passed ((c .before .before .before .before .before .before .loop) .inv) _ _ _ (rw ((c .before .before .before .first) .given .1) at ((c .before .before .before .before .before .next-piece) .ensures)) ((c .if1) .left)
+loop-again-2 c = add-passed (c .before .before .before .before .before .before .loop .inv) _ _ _ (rw (c .before .before .before .first .given .1) at (c .before .before .before .before .before .next-piece .ensures)) (c .if1 .left)
 
 pub put-exclusions-spec : {M : Type 1} → statement M
 put-exclusions-spec =

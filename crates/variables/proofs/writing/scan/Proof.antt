@@ -17,7 +17,7 @@ abbrev μ-loop : tie.MeasureT-loop
     length s + 1 - at
 
 loop-holds : tie.Need-loop-holds Inv-loop μ-loop
-loop-holds c = begun ((c .before .before .before .args) .exclusions) (now ((c .before .before .before .args) .s)) (now ((c .before .before .before .args) .text)) (now ((c .before .before .before .args) .records))
+loop-holds c = begun (c .before .before .before .args .exclusions) (now (c .before .before .before .args .s)) (now (c .before .before .before .args .text)) (now (c .before .before .before .args .records))
 
 next-piece-requires : tie.Need-next-piece-requires Inv-loop μ-loop
 next-piece-requires c κs = search needs
@@ -29,79 +29,141 @@ enum-told : tie.Need-enum-told Inv-loop μ-loop
 enum-told c = search needs
 
 same-length : tie.Need-same-length Inv-loop μ-loop
-same-length c = ((c .before .before .before .loop) .inv) .wrote .text-laid .long
+same-length c = c .before .before .before .loop .inv .wrote .text-laid .long
 
 same-length-2 : tie.Need-same-length-2 Inv-loop μ-loop
-same-length-2 c = ((c .before .before .before .loop) .inv) .wrote .words-laid .long
+same-length-2 c = c .before .before .before .loop .inv .wrote .words-laid .long
 
 returns : tie.Need-returns Inv-loop μ-loop
-returns c = ended ((c .before .before .before .loop) .inv) (c .before .before .before .before .before .before .before .pre) (rw ((c .enum-told) .given .1) at ((c .before .before .next-piece) .ensures))
+returns c = ended (c .before .before .before .loop .inv) (c .before .before .before .before .before .before .before .pre) (rw (c .enum-told .given .1) at (c .before .before .next-piece .ensures))
 
 sub-p : tie.Need-sub-p Inv-loop μ-loop
-sub-p c = let p = (rw ((c .before .first) .given .1) at ((c .before .before .before .next-piece) .ensures)) in omega (arith, p .some)
+sub-p c = let p = (rw (c .before .first .given .1) at (c .before .before .before .next-piece .ensures)) in omega (arith, p .some)
 
 part-p-start : tie.Need-part-p-start Inv-loop μ-loop
-part-p-start c = let p = (rw ((c .before .first) .given .1) at ((c .before .before .before .next-piece) .ensures)) in omega (arith, p .some)
+part-p-start c = let p = (rw (c .before .first .given .1) at (c .before .before .before .next-piece .ensures)) in omega (arith, p .some)
 
 part-p-end : tie.Need-part-p-end Inv-loop μ-loop
-part-p-end c = let p = (rw ((c .before .first) .given .1) at ((c .before .before .before .next-piece) .ensures)) in omega (arith, p .before, p .inside)
+part-p-end c = let p = (rw (c .before .first .given .1) at (c .before .before .before .next-piece .ensures)) in omega (arith, p .before, p .inside)
 
 read-piece-requires : tie.Need-read-piece-requires Inv-loop μ-loop
-read-piece-requires c κs = this-some ((c .before .before .before .before .before .loop) .inv) (c .before .before .before .before .before .before .before .before .before .pre) _ _ _ (rw ((c .before .before .first) .given .1) at ((c .before .before .before .before .next-piece) .ensures))
+read-piece-requires c κs = this-some (c .before .before .before .before .before .loop .inv) (c .before .before .before .before .before .before .before .before .before .pre) _ _ _ (rw (c .before .before .first .given .1) at (c .before .before .before .before .next-piece .ensures))
 
 enum-known-begin : tie.Need-enum-known-begin Inv-loop μ-loop
 enum-known-begin c = search needs
 
 add-t21 : tie.Need-add-t21 Inv-loop μ-loop
-add-t21 c = omega (arith, some-low ((c .before .before .before .before .before .before .before .before .before .loop) .inv) (c .before .before .before .before .before .before .before .before .before .before .before .before .before .pre))
+add-t21 c = omega (arith, some-low (c .before .before .before .before .before .before .before .before .before .loop .inv) (c .before .before .before .before .before .before .before .before .before .before .before .before .before .pre))
 
 add-t22 : tie.Need-add-t22 Inv-loop μ-loop
-add-t22 c = omega (arith, stopped ((c .before .before .before .before .before .before .before .before .before .loop) .inv) (c .before .before .before .before .before .before .before .before .before .before .before .before .before .pre) _ _ _ (rw ((c .before .before .before .before .before .before .first) .given .1) at ((c .before .before .before .before .before .before .before .before .next-piece) .ensures)) _ _ (rw ((c .before .begin) .given .1) at ((c .before .before .before .read-piece) .ensures)), (c .before .before .before .before .before .before .before .before .before .before .before .before .before .pre))
+add-t22 c =
+    let at-begin = c .before in
+    let at-read-piece = at-begin .before .before in
+    let at-first = at-read-piece .before .before .before in
+    let at-next-piece = at-first .before .before in
+    let at-loop = at-next-piece .before in
+    let start = at-loop .before .before .before .before in
+    omega (arith, stopped (at-loop .loop .inv) (start .pre) _ _ _ (rw (at-first .first .given .1) at (at-next-piece .next-piece .ensures)) _ _ (rw (at-begin .begin .given .1) at (at-read-piece .read-piece .ensures)), (start .pre))
 
 add-t23 : tie.Need-add-t23 Inv-loop μ-loop
-add-t23 c = omega (arith, stopped ((c .before .before .before .before .before .before .before .before .before .loop) .inv) (c .before .before .before .before .before .before .before .before .before .before .before .before .before .pre) _ _ _ (rw ((c .before .before .before .before .before .before .first) .given .1) at ((c .before .before .before .before .before .before .before .before .next-piece) .ensures)) _ _ (rw ((c .before .begin) .given .1) at ((c .before .before .before .read-piece) .ensures)), (c .before .before .before .before .before .before .before .before .before .before .before .before .before .pre))
+add-t23 c =
+    let at-begin = c .before in
+    let at-read-piece = at-begin .before .before in
+    let at-first = at-read-piece .before .before .before in
+    let at-next-piece = at-first .before .before in
+    let at-loop = at-next-piece .before in
+    let start = at-loop .before .before .before .before in
+    omega (arith, stopped (at-loop .loop .inv) (start .pre) _ _ _ (rw (at-first .first .given .1) at (at-next-piece .next-piece .ensures)) _ _ (rw (at-begin .begin .given .1) at (at-read-piece .read-piece .ensures)), (start .pre))
 
 same-length-3 : tie.Need-same-length-3 Inv-loop μ-loop
-same-length-3 c = ((c .before .before .before .before .before .before .before .before .before .loop) .inv) .wrote .text-laid .long
+same-length-3 c = c .before .before .before .before .before .before .before .before .before .loop .inv .wrote .text-laid .long
 
 same-length-4 : tie.Need-same-length-4 Inv-loop μ-loop
-same-length-4 c = ((c .before .before .before .before .before .before .before .before .before .loop) .inv) .wrote .words-laid .long
+same-length-4 c = c .before .before .before .before .before .before .before .before .before .loop .inv .wrote .words-laid .long
 
 returns-2 : tie.Need-returns-2 Inv-loop μ-loop
-returns-2 c = stopped ((c .before .before .before .before .before .before .before .before .before .loop) .inv) (c .before .before .before .before .before .before .before .before .before .before .before .before .before .pre) _ _ _ (rw ((c .before .before .before .before .before .before .first) .given .1) at ((c .before .before .before .before .before .before .before .before .next-piece) .ensures)) _ _ (rw ((c .before .begin) .given .1) at ((c .before .before .before .read-piece) .ensures))
+returns-2 c =
+    let at-begin = c .before in
+    let at-read-piece = at-begin .before .before in
+    let at-first = at-read-piece .before .before .before in
+    let at-next-piece = at-first .before .before in
+    let at-loop = at-next-piece .before in
+    let start = at-loop .before .before .before .before in
+    stopped (at-loop .loop .inv) (start .pre) _ _ _ (rw (at-first .first .given .1) at (at-next-piece .next-piece .ensures)) _ _ (rw (at-begin .begin .given .1) at (at-read-piece .read-piece .ensures))
 
 enum-told-2 : tie.Need-enum-told-2 Inv-loop μ-loop
 enum-told-2 c = search needs
 
 add-excluded : tie.Need-add-excluded Inv-loop μ-loop
-add-excluded c = omega (arith, some-low ((c .before .before .before .before .before .before .before .before .loop) .inv) (c .before .before .before .before .before .before .before .before .before .before .before .before .pre))
+add-excluded c = omega (arith, some-low (c .before .before .before .before .before .before .before .before .loop .inv) (c .before .before .before .before .before .before .before .before .before .before .before .before .pre))
 
 loop-less : tie.Need-loop-less Inv-loop μ-loop
-loop-less c = let p = (rw ((c .before .before .before .before .before .first) .given .1) at ((c .before .before .before .before .before .before .before .next-piece) .ensures)) in omega (arith, p .begun, p .some, p .before, p .inside)
+loop-less c = let p = (rw (c .before .before .before .before .before .first .given .1) at (c .before .before .before .before .before .before .before .next-piece .ensures)) in omega (arith, p .begun, p .some, p .before, p .inside)
 
 loop-again : tie.Need-loop-again Inv-loop μ-loop
-loop-again c = passed ((c .before .before .before .before .before .before .before .before .loop) .inv) (c .before .before .before .before .before .before .before .before .before .before .before .before .pre) _ _ _ (rw ((c .before .before .before .before .before .first) .given .1) at ((c .before .before .before .before .before .before .before .next-piece) .ensures)) (rw ((c .enum-told2) .given .1) at ((c .before .before .read-piece) .ensures))
+loop-again c =
+    let at-read-piece = c .before .before in
+    let at-first = at-read-piece .before .before .before in
+    let at-next-piece = at-first .before .before in
+    let at-loop = at-next-piece .before in
+    let start = at-loop .before .before .before .before in
+    passed (at-loop .loop .inv) (start .pre) _ _ _ (rw (at-first .first .given .1) at (at-next-piece .next-piece .ensures)) (rw (c .enum-told2 .given .1) at (at-read-piece .read-piece .ensures))
 
 enum-known-e : tie.Need-enum-known-e Inv-loop μ-loop
 enum-known-e c = search needs
 
 put-requires : tie.Need-put-requires Inv-loop μ-loop
-put-requires c κs = (entry-narrow ((c .before .before .before .before .before .before .before .before .before .before .before .loop) .inv) (c .before .before .before .before .before .before .before .before .before .before .before .before .before .before .before .pre) _ _ _ (rw ((c .before .before .before .before .before .before .before .before .first) .given .1) at ((c .before .before .before .before .before .before .before .before .before .before .next-piece) .ensures)) _ (rw ((c .before .before .before .e) .given .1) at ((c .before .before .before .before .before .read-piece) .ensures)), (entry-inside ((c .before .before .before .before .before .before .before .before .before .before .before .loop) .inv) (c .before .before .before .before .before .before .before .before .before .before .before .before .before .before .before .pre) _ _ _ (rw ((c .before .before .before .before .before .before .before .before .first) .given .1) at ((c .before .before .before .before .before .before .before .before .before .before .next-piece) .ensures)) _ (rw ((c .before .before .before .e) .given .1) at ((c .before .before .before .before .before .read-piece) .ensures)), omega (arith, some-low ((c .before .before .before .before .before .before .before .before .before .before .before .loop) .inv) (c .before .before .before .before .before .before .before .before .before .before .before .before .before .before .before .pre))))
+put-requires c κs =
+    let at-e = c .before .before .before in
+    let at-read-piece = at-e .before .before in
+    let at-first = at-read-piece .before .before .before in
+    let at-next-piece = at-first .before .before in
+    let at-loop = at-next-piece .before in
+    let start = at-loop .before .before .before .before in
+    (entry-narrow (at-loop .loop .inv) (start .pre) _ _ _ (rw (at-first .first .given .1) at (at-next-piece .next-piece .ensures)) _ (rw (at-e .e .given .1) at (at-read-piece .read-piece .ensures)), (entry-inside (at-loop .loop .inv) (start .pre) _ _ _ (rw (at-first .first .given .1) at (at-next-piece .next-piece .ensures)) _ (rw (at-e .e .given .1) at (at-read-piece .read-piece .ensures)), omega (arith, some-low (at-loop .loop .inv) (start .pre))))
 
 sub-used : tie.Need-sub-used Inv-loop μ-loop
-sub-used c = entry-narrow ((c .before .before .before .before .before .before .before .before .before .before .before .before .before .before .before .before .before .loop) .inv) (c .before .before .before .before .before .before .before .before .before .before .before .before .before .before .before .before .before .before .before .before .before .pre) _ _ _ (rw ((c .before .before .before .before .before .before .before .before .before .before .before .before .before .before .first) .given .1) at ((c .before .before .before .before .before .before .before .before .before .before .before .before .before .before .before .before .next-piece) .ensures)) _ (rw ((c .before .before .before .before .before .before .before .before .before .e) .given .1) at ((c .before .before .before .before .before .before .before .before .before .before .before .read-piece) .ensures)) .ordered
+sub-used c =
+    let at-e = c .before .before .before .before .before .before .before .before .before in
+    let at-read-piece = at-e .before .before in
+    let at-first = at-read-piece .before .before .before in
+    let at-next-piece = at-first .before .before in
+    let at-loop = at-next-piece .before in
+    let start = at-loop .before .before .before .before in
+    entry-narrow (at-loop .loop .inv) (start .pre) _ _ _ (rw (at-first .first .given .1) at (at-next-piece .next-piece .ensures)) _ (rw (at-e .e .given .1) at (at-read-piece .read-piece .ensures)) .ordered
 
 add-used : tie.Need-add-used Inv-loop μ-loop
-add-used c = omega (arith, entry-narrow ((c .before .before .before .before .before .before .before .before .before .before .before .before .before .before .before .before .before .loop) .inv) (c .before .before .before .before .before .before .before .before .before .before .before .before .before .before .before .before .before .before .before .before .before .pre) _ _ _ (rw ((c .before .before .before .before .before .before .before .before .before .before .before .before .before .before .first) .given .1) at ((c .before .before .before .before .before .before .before .before .before .before .before .before .before .before .before .before .next-piece) .ensures)) _ (rw ((c .before .before .before .before .before .before .before .before .before .e) .given .1) at ((c .before .before .before .before .before .before .before .before .before .before .before .read-piece) .ensures)))
+add-used c =
+    let at-e = c .before .before .before .before .before .before .before .before .before in
+    let at-read-piece = at-e .before .before in
+    let at-first = at-read-piece .before .before .before in
+    let at-next-piece = at-first .before .before in
+    let at-loop = at-next-piece .before in
+    let start = at-loop .before .before .before .before in
+    omega (arith, entry-narrow (at-loop .loop .inv) (start .pre) _ _ _ (rw (at-first .first .given .1) at (at-next-piece .next-piece .ensures)) _ (rw (at-e .e .given .1) at (at-read-piece .read-piece .ensures)))
 
 add-variables : tie.Need-add-variables Inv-loop μ-loop
-add-variables c = omega (arith, some-low ((c .before .before .before .before .before .before .before .before .before .before .before .before .before .before .before .before .before .loop) .inv) (c .before .before .before .before .before .before .before .before .before .before .before .before .before .before .before .before .before .before .before .before .before .pre))
+add-variables c =
+    let at-loop = c .before .before .before .before .before .before .before .before .before .before .before .before .before .before .before .before .before in
+    let start = at-loop .before .before .before .before in
+    omega (arith, some-low (at-loop .loop .inv) (start .pre))
 
 loop-less-2 : tie.Need-loop-less-2 Inv-loop μ-loop
-loop-less-2 c = let p = (rw ((c .before .before .before .before .before .before .before .before .before .before .before .before .before .before .first) .given .1) at ((c .before .before .before .before .before .before .before .before .before .before .before .before .before .before .before .before .next-piece) .ensures)) in omega (arith, p .begun, p .some, p .before, p .inside)
+loop-less-2 c =
+    let at-first = c .before .before .before .before .before .before .before .before .before .before .before .before .before .before in
+    let at-next-piece = at-first .before .before in
+    let p = (rw (at-first .first .given .1) at (at-next-piece .next-piece .ensures)) in omega (arith, p .begun, p .some, p .before, p .inside)
 
 loop-again-2 : tie.Need-loop-again-2 Inv-loop μ-loop
-loop-again-2 c = turned ((c .before .before .before .before .before .before .before .before .before .before .before .before .before .before .before .before .before .loop) .inv) (c .before .before .before .before .before .before .before .before .before .before .before .before .before .before .before .before .before .before .before .before .before .pre) _ _ _ (rw ((c .before .before .before .before .before .before .before .before .before .before .before .before .before .before .first) .given .1) at ((c .before .before .before .before .before .before .before .before .before .before .before .before .before .before .before .before .next-piece) .ensures)) _ (rw ((c .before .before .before .before .before .before .before .before .before .e) .given .1) at ((c .before .before .before .before .before .before .before .before .before .before .before .read-piece) .ensures)) _ _ ((c .before .before .before .before .before .put) .ensures .0) ((c .before .before .before .before .before .put) .ensures .1)
+loop-again-2 c =
+    let at-put = c .before .before .before .before .before in
+    let at-e = at-put .before .before .before .before in
+    let at-read-piece = at-e .before .before in
+    let at-first = at-read-piece .before .before .before in
+    let at-next-piece = at-first .before .before in
+    let at-loop = at-next-piece .before in
+    let start = at-loop .before .before .before .before in
+    turned (at-loop .loop .inv) (start .pre) _ _ _ (rw (at-first .first .given .1) at (at-next-piece .next-piece .ensures)) _ (rw (at-e .e .given .1) at (at-read-piece .read-piece .ensures)) _ _ (at-put .put .ensures .0) (at-put .put .ensures .1)
 
 pub scan-spec : {M : Type 1} → statement M
 scan-spec =
