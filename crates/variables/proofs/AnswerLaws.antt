@@ -4,7 +4,7 @@ use mathlib.Core.Bool.{Bool, true, false}
 use mathlib.Core.List.{List, [], _∷_, _++_}
 use Prim.Native.Nat.{ℕ, zero, suc, _+_, _-_, _*_, _≤_, _<_}
 use native.Mathlib.Omega.{arith}
-use lib.ListN.{length, take, drop, replicate, length-append, length-replicate}
+use lib.ListN.{length, drop, length-append, length-replicate}
 use lib.Dec.{eqb, lit<}
 use borrow.Author.Tests.{lt-ltb, le-ltb, ne-eqb}
 use borrow.Rule.Slice.PartMut.{midOf, putMid}
@@ -12,7 +12,7 @@ use Rattle.ascii.specs.Choice.{pick}
 use Rattle.lent.specs.Sizes.{variableWords, roomFor}
 use Rattle.lent.specs.Buffers.{zeros, padded, stored}
 use Rattle.lent.specs.Gates.{gateOf}
-use Rattle.lent.specs.Table.{unknownVariable, Outcome, refuses, Filled, textBy}
+use Rattle.lent.specs.Table.{unknownVariable, refuses}
 use Rattle.lent.specs.declared.gating.Gate.{Gate}
 use Rattle.lent.specs.declared.gating.Gate.the-variants as Gate
 use Rattle.lent.proofs.BufferLaws.{written-all, written-first, taken-first, cleared}
@@ -20,7 +20,7 @@ use Rattle.lent.proofs.SpanLaws.{room-is}
 use Rattle.variables.specs.Parts.{pieces}
 use Rattle.variables.specs.Variables.{Variable, Targets, targets, refused, readAll}
 use Rattle.variables.specs.Layout.{variableRecord, exclusionRecord, textsOf, wordsOf, chosenText, itself, selectionTexts, texts, wordsFrom}
-use Rattle.variables.specs.Promises.{roomed, updated, hung, variablesOutcome, updateOutcome, Meets, ParseVariables, ParseUpdateTargets}
+use Rattle.variables.specs.Promises.{roomed, updated, hung, variablesOutcome, updateOutcome, Meets}
 use Rattle.variables.specs.Steps.{part, excludingOf, excludedOf, AllRead, Stopped, Added, keptCount, keptOf, hanging, readOutcome, outcomeOf}
 use Rattle.variables.specs.declared.Answer.{Answer}
 use Rattle.variables.specs.declared.Answer.the-variants as Answer

@@ -3,12 +3,12 @@
 use mathlib.Core.Path.{_≡_, _∙_, refl, sym, ap}
 use mathlib.Core.List.{List}
 use Prim.Native.Nat.{ℕ}
-use lib.ListN.{length, getD}
+use lib.ListN.{getD}
 use lib.Dec.{eqb}
 use Rattle.ascii.specs.Choice.{pick}
 use Rattle.ascii.proofs.OneAnswer.{one-answer}
 use Rattle.lent.specs.Table.{Given, Outcome, Filled}
-use Rattle.variables.specs.Promises.{answerGiven, Meets, variablesOutcome, updateOutcome, ParseVariables, ParseUpdateTargets}
+use Rattle.variables.specs.Promises.{answerGiven, Meets, ParseVariables, ParseUpdateTargets}
 use Rattle.variables.specs.declared.Answer.{Answer}
 use Rattle.variables.specs.declared.Answer.the-variants as Answer
 

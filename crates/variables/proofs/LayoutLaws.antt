@@ -1,11 +1,11 @@
 -- Texts and records of a list, one longer; and what is stored after what was written.
 use mathlib.Core.Path.{_≡_, _∙_, refl, sym, ap, ap₂}
 use mathlib.Core.List.{List, [], _∷_, _++_, append-assoc, append-nil}
-use Prim.Native.Nat.{ℕ, suc, _+_, _*_, _≤_, _<_}
+use Prim.Native.Nat.{ℕ, _+_, _*_, _≤_}
 use native.Mathlib.Omega.{arith}
-use native.Mathlib.Nat.{zero-add, add-zero}
-use lib.ListN.{length, take, drop, length-append, length-drop, take-append-drop}
-use lib.Seq.{length-take-le, take-at, drop-at, drop-append-seam, drop-drop}
+use native.Mathlib.Nat.{add-zero}
+use lib.ListN.{length, take, drop, length-append, take-append-drop}
+use lib.Seq.{length-take-le, take-at, drop-at, drop-drop}
 use Rattle.lent.specs.Sizes.{variableWords}
 use Rattle.lent.specs.Buffers.{placed, stored}
 use Rattle.lent.proofs.BufferLaws.{stored-length, stored-fits}

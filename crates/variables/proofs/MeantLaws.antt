@@ -1,20 +1,18 @@
 -- Either every name of a list is meant, and the list is read; or one is missing, and it is refused there.
-use mathlib.Core.Path.{_≡_, _∙_, refl, sym, ap, ap₂}
+use mathlib.Core.Path.{_≡_, _∙_, refl, sym, ap}
 use mathlib.Core.Bool.{Bool, true, false}
 use mathlib.Core.List.{List, [], _∷_, _++_}
 use mathlib.Core.Logic.{_⊎_, inl, inr}
-use Prim.Native.Nat.{ℕ, suc, _+_}
+use Prim.Native.Nat.{ℕ, suc}
 use native.Mathlib.Omega.{arith}
 use lib.ListN.{length}
 use lib.Dec.{eqb}
-use Rattle.ascii.specs.Choice.{pick}
 use Rattle.names.specs.Variables.{variableCode}
 use Rattle.names.specs.declared.Lookup.{Lookup}
 use Rattle.names.specs.declared.Lookup.the-variants as Lookup
-use Rattle.variables.specs.Parts.{pieces}
 use Rattle.variables.specs.Variables.{Split, whole, parted, atColon, frontOf, Selection, none, selection, Variable, Single, variable, unknown, named, splitSingle, single, Targets, targets, refused, withVariable, withExclusion, ifKnown, piece, readAll}
 use Rattle.variables.specs.Steps.{excludingOf, behindMark, excludedOf}
-use Rattle.variables.specs.Calls.{Asked, nothing, name, upToColon, askedBehind, asked, Meant, unasked, found, AllMeant, none as noneMeant, also, Missing, unmarked, unmarkedOf}
+use Rattle.variables.specs.Calls.{name, asked, Meant, unasked, found, AllMeant, none as noneMeant, also, Missing, unmarked, unmarkedOf}
 use Rattle.variables.specs.declared.singles.Exclusions.{Exclusions}
 use Rattle.variables.specs.declared.singles.Exclusions.the-variants.{AsWritten, LookedUp}
 use Rattle.variables.proofs.SingleLaws.{unknown-first}

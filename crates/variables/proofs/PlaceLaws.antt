@@ -1,7 +1,7 @@
 -- Pieces by places: a bar cuts a list, and trimming cuts a part.
 use mathlib.Core.Path.{_≡_, _∙_, refl, sym, ap, ap₂}
 use mathlib.Core.Bool.{Bool, true, false}
-use mathlib.Core.List.{List, [], _∷_, _++_}
+use mathlib.Core.List.{List, [], _∷_}
 use Prim.Native.Nat.{ℕ, suc, _+_, _-_, _≤_, _<_}
 use native.Mathlib.Numerals.{one-add}
 use native.Mathlib.Omega.{arith}
@@ -120,8 +120,6 @@ module _ (s : List ℕ) (at n : ℕ) (h : at < length s) (e : n ≡ upTo 124 (ta
     trimmed-is =
         let w = leadingWhite whole in
         let l = length (trimEnds whole) in
-        let k : at + n - at ≡ n = omega arith in
-        let j : at + w + l - (at + w) ≡ l = omega arith in
         let i : at + (w + l) - (at + w) ≡ l = omega arith in
         sym (ends-are white whole)
         ∙ inner w l (at + n - at) (drop at s) (omega (arith, ends-fit white whole, whole-long)) (omega (arith, ends-fit white whole, whole-long, length-drop at s, bar-fits))

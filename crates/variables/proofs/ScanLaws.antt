@@ -12,8 +12,8 @@ use Rattle.lent.specs.Sizes.{limit, variableWords}
 use Rattle.lent.specs.Buffers.{stored}
 use Rattle.variables.specs.Parts.{pieces}
 use Rattle.variables.specs.Variables.{Variable, variable, Targets, targets, refused, withVariable, withExclusion, piece, readAll}
-use Rattle.variables.specs.Layout.{textsOf, chosenText, itself, selectionTexts, texts, variableRecord, exclusionRecord}
-use Rattle.variables.specs.Steps.{part, NextPiece, Nexts, excludingOf, entryWords, Held, behindMark, excludedOf, IsVariable, IsExclusion, IsUnknown, Narrow, WroteVariables, WroteExclusions, AllRead, Stopped, Added, keptOf}
+use Rattle.variables.specs.Layout.{textsOf, chosenText, itself, selectionTexts, variableRecord, exclusionRecord}
+use Rattle.variables.specs.Steps.{part, NextPiece, excludingOf, entryWords, behindMark, excludedOf, IsVariable, IsExclusion, IsUnknown, Narrow, WroteVariables, WroteExclusions, AllRead, Stopped, Added, keptOf}
 use Rattle.variables.specs.declared.singles.Exclusions.{Exclusions}
 use Rattle.variables.specs.declared.singles.Entry.{Entry}
 use Rattle.variables.proofs.PlaceLaws.{part-length, part-part}

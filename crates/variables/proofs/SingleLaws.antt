@@ -2,7 +2,7 @@
 use mathlib.Core.Path.{_≡_, _∙_, refl, sym, ap}
 use mathlib.Core.Bool.{Bool, true, false}
 use mathlib.Core.List.{List, [], _∷_}
-use Prim.Native.Nat.{ℕ, suc, _+_, _-_, _≤_, _<_}
+use Prim.Native.Nat.{ℕ, _+_, _-_, _≤_, _<_}
 use native.Mathlib.Numerals.{one-add}
 use native.Mathlib.Omega.{arith}
 use lib.ListN.{length, take, drop, getD, length-drop, drop-of-length-le}
@@ -17,10 +17,8 @@ use Rattle.lent.specs.Sizes.{spanWord}
 use Rattle.names.specs.Variables.{variableCode}
 use Rattle.names.specs.declared.Lookup.{Lookup}
 use Rattle.names.specs.declared.Lookup.the-variants as Lookup
-use Rattle.variables.specs.Variables.{Split, whole, parted, before, atColon, Selection, none, key, regex, isRegex, selection, Variable, Single, variable, unknown, named, splitSingle, single, Targets, targets, refused, withVariable, frontOf, ifKnown, withExclusion, Excluding, asWritten, lookedUp, piece}
-use Rattle.variables.specs.Layout.{selectionText, selectionSpan}
-use Rattle.variables.specs.Steps.{part, other, upTo, selectionAfter, Shown, Chose, Held, Found, Missed, Singles, behindMark, IsVariable, IsExclusion, IsUnknown, Pieced}
-use Rattle.variables.specs.declared.singles.Entry.{Entry}
+use Rattle.variables.specs.Variables.{Split, whole, parted, before, atColon, isRegex, selection, Variable, Single, unknown, named, splitSingle, single, Targets, targets, refused, withVariable, frontOf, ifKnown, withExclusion, Excluding, asWritten, lookedUp, piece}
+use Rattle.variables.specs.Steps.{part, other, upTo, selectionAfter, Chose, Found, Missed, Singles, behindMark, IsExclusion, IsUnknown, Pieced}
 use Rattle.variables.specs.declared.singles.Chosen.{Chosen}
 use Rattle.variables.specs.declared.singles.Reading.{Reading}
 use Rattle.variables.specs.declared.singles.Reading.the-variants as Reading

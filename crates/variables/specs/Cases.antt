@@ -1,9 +1,8 @@
 -- The worked lists of document 01, and a few more.
 use mathlib.Core.Path.{_≡_, refl}
-use Prim.Native.Nat.{ℕ}
 use Prim.Native.String.{String}
 use mathlib.Core.Bool.{true, false}
-use mathlib.Core.List.{List, [], _∷_}
+use mathlib.Core.List.{[], _∷_}
 use Rattle.ascii.specs.Text.{bytes}
 use Rattle.ascii.specs.Classes.{white}
 use Rattle.ascii.specs.Fold.{upper, same}
@@ -11,7 +10,7 @@ use Rattle.ascii.specs.Trim.{stripStart, stripEnd}
 use Rattle.names.specs.Tables.{find}
 use Rattle.names.specs.Variables.{variables, variableCode}
 use Rattle.variables.specs.Parts.{cut, filled, pieces}
-use Rattle.variables.specs.Variables.{Selection, none, key, regex, Variable, Targets, targets, refused, Excluding, asWritten, lookedUp, atColon, selection, single, readAll}
+use Rattle.variables.specs.Variables.{none, key, regex, Targets, targets, refused, Excluding, asWritten, lookedUp, atColon, selection, single, readAll}
 
 -- A list read. To unfold it is to unfold every definition that a list is read by.
 unfoldable pub Reads : Excluding → String → Targets → Type 0

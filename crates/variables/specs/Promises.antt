@@ -9,7 +9,7 @@ use Rattle.lent.specs.Sizes.{variableWords, roomFor}
 use Rattle.lent.specs.Gates.{gateOf}
 use Rattle.lent.specs.Table.{Given, given, tooLong, notAscii, shortBuffer, noRoom, unknownVariable, refused as refusedBy, Outcome, refuses, reads, pastGate, Filled, givenBy, textBy, recordsBy}
 use Rattle.variables.specs.Parts.{pieces}
-use Rattle.variables.specs.Variables.{Variable, Targets, targets, refused, Excluding, asWritten, lookedUp, readAll}
+use Rattle.variables.specs.Variables.{Variable, Targets, targets, refused, asWritten, lookedUp, readAll}
 use Rattle.variables.specs.Layout.{wordsFrom, texts}
 use Rattle.variables.specs.declared.Answer.{Answer}
 use Rattle.variables.specs.declared.Answer.the-variants as Answer

@@ -1,10 +1,10 @@
 -- The loop keeps the pieces still to come; each turn is one law of PlaceLaws.
 use borrow.Author.Needs.{needs}
-use mathlib.Core.Path.{_≡_, _∙_, refl, ap}
+use mathlib.Core.Path.{_≡_, _∙_, refl}
 use Prim.Native.Nat.{_≤_, _-_}
 use native.Mathlib.Omega.{arith}
 use denote.Ref.{now}
-use lib.ListN.{length, drop, drop-of-length-le}
+use lib.ListN.{length, drop}
 use Rattle.variables.specs.Parts.{pieces}
 use Rattle.variables.proofs.PlaceLaws.{bar-fits, trim-fits, trim-first, piece-found, part-empty, next-from, pieces-end}
 use Rattle.variables.proofs.finding.next_piece.Statement.{statement}

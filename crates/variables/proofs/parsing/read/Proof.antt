@@ -1,5 +1,4 @@
 -- By what the list was read to, then by whether the records fit; each way out is one law of AnswerLaws.
-use Prim.Native.Nat.{_≤_}
 use native.Mathlib.Omega.{arith}
 use denote.Ref.{now}
 use Rattle.variables.proofs.AnswerLaws.{read-unknown, kept-low, read-no-room, used-fits, past-fits, count-fits, count-fits-still, read-all}

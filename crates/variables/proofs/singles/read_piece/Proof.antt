@@ -1,5 +1,4 @@
 -- By the first byte; each way out is one law.
-use native.Mathlib.Omega.{arith}
 use denote.Ref.{now}
 use Rattle.variables.specs.Steps.{excludingOf}
 use Rattle.variables.proofs.SingleLaws.{pieced-counts, pieced-plain}

@@ -1,7 +1,7 @@
 -- Each way out is one law.
 use Prim.Native.Nat.{_+_}
 use native.Mathlib.Omega.{arith}
-use mathlib.Core.Path.{_≡_, _∙_, sym, ap}
+use mathlib.Core.Path.{_∙_, sym, ap}
 use denote.Ref.{now}
 use Rattle.ascii.proofs.ListLaws.{rest-is}
 use Rattle.variables.specs.Variables.{isRegex}

@@ -4,7 +4,7 @@ use Prim.Native.Nat.{_+_, _-_}
 use native.Mathlib.Omega.{arith}
 use denote.Ref.{now}
 use lib.ListN.{length}
-use Rattle.variables.proofs.ScanLaws.{Sofar, begun, ended, used-low, some-low, this-long, this-some, stopped, passed, entry-narrow, entry-inside, turned}
+use Rattle.variables.proofs.ScanLaws.{Sofar, begun, ended, some-low, this-some, stopped, passed, entry-narrow, entry-inside, turned}
 use Rattle.variables.proofs.writing.scan.Statement.{statement}
 use Rattle.variables.proofs.writing.scan.Tie as tie
 

@@ -4,7 +4,6 @@ use mathlib.Core.Bool.{true, false}
 use mathlib.Core.List.{List}
 use Prim.Native.Nat.{ℕ}
 use native.Mathlib.Omega.{arith}
-use denote.Ref.{now}
 use Rattle.ascii.specs.Text.{bytes}
 use Rattle.ascii.specs.Fold.{same, sameLowered}
 use Rattle.ascii.proofs.FoldLaws.{same-below}

@@ -1,5 +1,5 @@
 -- Each arm of the match is the test that it stands for.
-use mathlib.Core.Path.{_∙_, ap, sym}
+use mathlib.Core.Path.{_∙_, ap}
 use borrow.Author.Tests.{ne-eqb}
 use Rattle.variables.specs.Xml.{keyTarget, xmlTarget}
 use borrow.Author.Needs.{needs}
