@@ -1,4 +1,5 @@
 // One answer, by the question's letter. docs/VECTORS.md lists the letters.
+use crate::acting;
 use crate::hexes;
 use crate::lexing;
 use crate::operating;
@@ -75,6 +76,8 @@ pub fn answer(letter: u8, body: &[u8]) {
         b'x' => selecting::print_xml(body),
         b'l' => targeting::print_variables(body),
         b'u' => targeting::print_update(body),
+        b'a' => acting::print_actions(body),
+        b'e' => acting::print_setvar(body),
         b'c' => print_flags(hexes::word(body)),
         _ => {
             io::write_all(1, b"?");

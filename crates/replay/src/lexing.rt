@@ -30,7 +30,7 @@ pub fn print_tokens(input: &[u8]) {
             print_number(line.0 as u64);
             print_number(column.0 as u64);
             print_number(used as u64);
-            print_records(&records, count);
+            print_records(&records, count, lent::TOKEN_WORDS);
             print_text(&text, used);
         }
         Answer::TooLong => print_refusal(1, 16384),

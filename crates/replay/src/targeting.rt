@@ -11,7 +11,7 @@ fn print_answer(answer: Answer, text: &[u8], records: &[u64]) {
             print_number(0);
             print_number(count as u64);
             print_number(used as u64);
-            print_records(records, count);
+            print_records(records, count, lent::VARIABLE_WORDS);
             print_text(text, used);
         }
         Answer::TooLong => print_refusal(1, 16384),

@@ -15,11 +15,11 @@ pub fn print_text(text: &[u8], len: usize) {
     }
 }
 
-// The words of the first `count` records, of five words each.
-pub fn print_records(records: &[u64], count: usize) {
+// The words of the first `count` records, of `width` words each.
+pub fn print_records(records: &[u64], count: usize, width: usize) {
     let mut i = 0;
     while i < records.len() {
-        if count <= i / 5 {
+        if count <= lent::room(i, width) {
             return;
         }
         print_number(records[i]);

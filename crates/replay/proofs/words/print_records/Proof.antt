@@ -1,18 +1,21 @@
 -- The loop counts up to the length.
+use borrow.Author.Needs.{needs}
+use Prim.Native.Nat.{_≤_, _-_}
+use lib.ListN.{length}
 use Rattle.replay.proofs.words.print_records.Statement.{statement}
 use Rattle.replay.proofs.words.print_records.Tie as tie
-use Prim.Native.Nat.{_≤_, _-_}
-use borrow.Author.Needs.{needs}
-use lib.ListN.{length}
 
 abbrev Inv-loop : tie.InvT-loop
-Inv-loop records count i₀ i = i ≤ length records
+Inv-loop records count width i₀ i = i ≤ length records
 
 abbrev μ-loop : tie.MeasureT-loop
-μ-loop records count i₀ i = length records - i
+μ-loop records count width i₀ i = length records - i
 
 loop-holds : tie.Need-loop-holds Inv-loop μ-loop
 loop-holds c = search needs
+
+room-requires : tie.Need-room-requires Inv-loop μ-loop
+room-requires c κs = search needs
 
 returns : tie.Need-returns Inv-loop μ-loop
 returns c = search needs
@@ -45,6 +48,7 @@ print-records-spec =
     Inv-loop
     μ-loop
     loop-holds
+    room-requires
     returns
     mul-print-number
     shared-slice-read-print-number

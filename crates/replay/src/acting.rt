@@ -1,0 +1,62 @@
+// The answers for action lists and for a setvar alone.
+use crate::words::print_number;
+use crate::words::print_records;
+use crate::words::print_refusal;
+use crate::words::print_text;
+use actions::Answer;
+
+// The length up to the last byte that is not zero.
+fn filled(s: &[u8]) -> usize {
+    let mut n = s.len();
+    while 0 < n {
+        let last = n - 1;
+        if s[last] != 0 {
+            return n;
+        }
+        n = last;
+    }
+    n
+}
+
+fn print_refused(number: u64, piece: usize, name: usize, text: &[u8]) {
+    print_number(number);
+    print_number(piece as u64);
+    print_number(name as u64);
+    print_text(text, name);
+}
+
+fn print_answer(answer: Answer, text: &[u8], records: &[u64]) {
+    match answer {
+        Answer::Read { count, text: used } => {
+            print_number(0);
+            print_number(count as u64);
+            print_number(used as u64);
+            print_records(records, count, lent::ACTION_WORDS);
+            print_text(text, used);
+        }
+        Answer::TooLong => print_refusal(1, 16384),
+        Answer::NotAscii(place) => print_refusal(2, place),
+        Answer::Short => print_refusal(3, 0),
+        Answer::UnknownAction { piece, name } => print_refused(5, piece, name, text),
+        Answer::BadArgument { piece, name } => print_refused(6, piece, name, text),
+        Answer::NoRoom(needed) => print_refusal(4, needed),
+    }
+}
+
+// The scratch buffer comes last, without the zeros at its end.
+pub fn print_actions(input: &[u8]) {
+    let mut text = [0u8; 16384];
+    let mut scratch = [0u8; 16384];
+    let mut records = [0u64; 32768];
+    let answer = actions::parse_actions(input, &mut text, &mut scratch, &mut records);
+    print_answer(answer, &text, &records);
+    io::write_all(1, b" ");
+    print_text(&scratch, filled(&scratch));
+}
+
+pub fn print_setvar(input: &[u8]) {
+    let mut text = [0u8; 16387];
+    let mut records = [0u64; 6];
+    let answer = actions::parse_setvar(input, &mut text, &mut records);
+    print_answer(answer, &text, &records);
+}
