@@ -6,7 +6,7 @@ use mathlib.Core.List.{List, [], _∷_, _++_, append-nil}
 use Prim.Native.Nat.{ℕ, suc, _+_, _-_, _*_, _≤_, _<_}
 use native.Mathlib.Numerals.{add-one}
 use native.Mathlib.Omega.{arith}
-use lib.ListN.{length, take, drop, length-append, length-drop, length-map, length-take}
+use lib.ListN.{length, take, drop, length-drop, length-map, length-take}
 use lib.Seq.{take-all, length-take-le}
 use lib.Dec.{ltb}
 use borrow.Author.Tests.{ltb-true, ltb-false, lt-ltb, le-ltb}
@@ -17,14 +17,14 @@ use Rattle.ascii.specs.Trim.{trimEnds}
 use Rattle.ascii.proofs.TrimLaws.{ends-fit}
 use Rattle.lent.specs.Sizes.{actionWords}
 use Rattle.lent.specs.Buffers.{padded, stored}
-use Rattle.lent.specs.Table.{Refusal, badArgument, unknownAction, Outcome, refuses, reads}
+use Rattle.lent.specs.Table.{Refusal, badArgument, unknownAction, refuses, reads}
 use Rattle.lent.proofs.BufferLaws.{Written, written-none, written-stored, taken-stored, written-all, written-length, stored-length}
 use Rattle.actions.specs.Pieces.{outside, keep, pieces, partLength}
 use Rattle.actions.specs.Table.{rowAt}
 use Rattle.actions.specs.Actions.{Action, Single, done, bad, unknown, single}
-use Rattle.actions.specs.Lists.{actionThen, singleThen, actionsFrom}
+use Rattle.actions.specs.Lists.{singleThen, actionsFrom}
 use Rattle.actions.specs.Layout.{actionText, actionRecord, wordsFrom, texts}
-use Rattle.actions.specs.Plans.{cut, planAction, Inside, Judged, Put}
+use Rattle.actions.specs.Plans.{cut, planAction, Judged, Put}
 use Rattle.actions.specs.Listing.{ReadAll, Stopped}
 use Rattle.actions.specs.declared.plans.Plan.{Plan}
 use Rattle.actions.specs.declared.plans.Verdict.the-variants.{Done, Bad, Unknown}

@@ -17,6 +17,7 @@ pub mod WritingLaws
 pub mod FinishLaws
 pub mod GoingLaws
 pub mod PromiseLaws
+pub mod NumberLaws
 pub mod CountLaws
 pub mod MacroLaws
 pub mod QuoteLaws

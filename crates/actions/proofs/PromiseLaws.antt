@@ -4,15 +4,15 @@ use mathlib.Core.Bool.{Bool, true, false}
 use mathlib.Core.List.{List, [], _∷_, _++_, append-nil}
 use Prim.Native.Nat.{ℕ, _+_, _*_, _≤_, _<_, min}
 use native.Mathlib.Omega.{arith}
-use lib.ListN.{length, take, drop}
+use lib.ListN.{length, take}
 use lib.Seq.{take-append-seam, take-at}
 use lib.Dec.{ltb, lit<}
-use borrow.Author.Tests.{ltb-true, ltb-false}
+use borrow.Author.Tests.{ltb-false}
 use Rattle.ascii.specs.Choice.{pick}
 use Rattle.lent.specs.Sizes.{limit, actionWords, roomFor}
 use Rattle.lent.specs.Buffers.{zeros, padded, stored}
 use Rattle.lent.specs.Gates.{gateOf}
-use Rattle.lent.specs.Table.{Refusal, noRoom, unknownAction, badArgument, Outcome, refuses, reads, pastGate, Filled, givenBy, textBy, recordsBy}
+use Rattle.lent.specs.Table.{noRoom, unknownAction, badArgument, Outcome, refuses, reads, Filled, givenBy, textBy, recordsBy}
 use Rattle.lent.specs.declared.gating.Gate.{Gate}
 use Rattle.lent.specs.declared.gating.Gate.the-variants as Gate
 use Rattle.lent.proofs.SpanLaws.{room-is}

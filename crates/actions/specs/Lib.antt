@@ -11,5 +11,6 @@ pub mod Promises
 pub mod Steps
 pub mod Plans
 pub mod Listing
+pub mod Calls
 pub mod Cases
 pub mod CallCases

@@ -1,6 +1,6 @@
 -- Actions by places: what a plan says of the text that it was read from.
 use mathlib.Core.Path.{_≡_}
-use mathlib.Core.List.{List, []}
+use mathlib.Core.List.{List}
 use Prim.Native.Nat.{ℕ, _+_, _-_, _≤_, _<_}
 use lib.ListN.{length, take, drop}
 use Rattle.ascii.specs.Text.{bytes}

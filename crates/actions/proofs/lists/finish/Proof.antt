@@ -1,6 +1,5 @@
 -- Either way the buffers are cleared, whole or beyond what is written.
 use borrow.Author.Needs.{needs}
-use native.Mathlib.Omega.{arith}
 use denote.Ref.{now}
 use Rattle.actions.proofs.FinishLaws.{finish-full, words-fit, finish-left}
 use Rattle.actions.proofs.lists.finish.Statement.{statement}

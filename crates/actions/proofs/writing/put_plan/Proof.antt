@@ -2,7 +2,6 @@ use borrow.Author.Needs.{needs}
 -- Three texts one behind the other, and the record with their spans.
 use native.Mathlib.Omega.{arith}
 use denote.Ref.{now}
-use Rattle.lent.proofs.BufferLaws.{stored-length}
 use Rattle.actions.proofs.WritingLaws.{plan-length, put-all}
 use Rattle.actions.proofs.writing.put_plan.Statement.{statement}
 use Rattle.actions.proofs.writing.put_plan.Tie as tie

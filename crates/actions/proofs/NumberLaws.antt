@@ -1,0 +1,250 @@
+-- What parse_actions promises, in plain words: every number exactly when it is given, and what is given and left with it.
+-- The idea: lent's OutcomeLaws has numbers 1 to 3; the first refused piece and the room tell 5, 6, 4 and 0 apart.
+use mathlib.Core.Path.{_≡_, _∙_, refl, ap}
+use mathlib.Core.Bool.{Bool, true, false}
+use mathlib.Core.List.{List, [], _∷_, _++_}
+use mathlib.Core.Logic.{_↔_, inl, inr}
+use Prim.Native.Nat.{ℕ, suc, _+_, _≤_, _<_, min}
+use native.Mathlib.Nat.{zero-add}
+use native.Mathlib.Omega.{arith}
+use lib.ListN.{length}
+use lib.Dec.{ltb}
+use borrow.Author.Tests.{lt-ltb, le-ltb, ltb-true, ltb-false}
+use Rattle.lent.specs.Sizes.{limit, actionWords, roomFor}
+use Rattle.lent.specs.Table.{Given, Refusal, noRoom, unknownAction, badArgument, Outcome, refuses, reads, Filled, givenBy}
+use Rattle.lent.proofs.HighLaws.{FirstAt}
+use Rattle.lent.proofs.GateLaws.{Opened, Shortened}
+use Rattle.lent.proofs.OutcomeLaws.{numberOf, Later}
+use Rattle.actions.specs.Normal.{normalised}
+use Rattle.actions.specs.Pieces.{pieces}
+use Rattle.actions.specs.Actions.{Action, Single, done, bad, unknown, single}
+use Rattle.actions.specs.Lists.{actionThen, singleThen, actionsFrom, actionsOf}
+use Rattle.actions.specs.Calls.{AllDone, FirstRefused}
+use Rattle.actions.specs.Promises.{answerGiven, laidOut, roomed, actionsOutcome, ParseActions}
+use Rattle.actions.specs.declared.Answer.{Answer}
+use Rattle.actions.specs.declared.Answer.the-variants as Answer
+use Rattle.actions.proofs.OutcomeLaws.{actions-1, actions-2, actions-3, actions-past}
+
+-- ---- the pieces
+
+-- the actions of pieces that all give one
+pub given : (ps : List (List ℕ)) → AllDone ps → List Action
+unfolding AllDone
+given [] a = []
+given (p ∷ ps) a = a .0 .0 ∷ given ps (a .1)
+
+pub given-count : (ps : List (List ℕ)) (a : AllDone ps) → length (given ps a) ≡ length ps
+unfolding AllDone given
+given-count [] a = refl
+given-count (p ∷ ps) a = ap suc (given-count ps (a .1))
+
+pub given-read : (k : ℕ) (ps : List (List ℕ)) (a : AllDone ps) → actionsFrom k ps ≡ reads (given ps a)
+unfolding AllDone given actionsFrom
+given-read k [] a = refl
+given-read k (p ∷ ps) a = rw (a .0 .1, given-read (suc k) ps (a .1))
+
+-- a way to be refused, and the refusal that it comes to
+pub record Way (way : List ℕ → Single) (refusal : ℕ → List ℕ → Refusal) : Type 0 where
+  pub stops : (k : ℕ) (name : List ℕ) (o : Outcome (List Action)) → singleThen k (way name) o ≡ refuses (refusal k name)
+
+pub bad-way : Way bad badArgument
+bad-way = record { stops = λ k name o. refl }
+
+pub unknown-way : Way unknown unknownAction
+unknown-way = record { stops = λ k name o. refl }
+
+module _ {way : List ℕ → Single} {refusal : ℕ → List ℕ → Refusal} (w : Way way refusal) where
+  refused-from : (k : ℕ) (passed : List (List ℕ)) (piece : List ℕ) (others : List (List ℕ)) (name : List ℕ)
+      → AllDone passed → single piece ≡ way name → actionsFrom k (passed ++ piece ∷ others) ≡ refuses (refusal (k + length passed) name)
+  unfolding AllDone actionsFrom
+  refused-from k [] piece others name a e =
+      let z : k ≡ k + 0 = omega arith in
+      ap (λ (v : Single). singleThen k v (actionsFrom (suc k) others)) e ∙ w .stops k name _ ∙ ap (λ (n : ℕ). refuses (refusal n name)) z
+  refused-from k (p ∷ ps) piece others name a e =
+      let z : suc k + length ps ≡ k + suc (length ps) = omega arith in
+      ap (λ (v : Single). singleThen k v (actionsFrom (suc k) (ps ++ piece ∷ others))) (a .0 .1)
+      ∙ ap (actionThen (a .0 .0)) (refused-from (suc k) ps piece others name (a .1) e)
+      ∙ ap (λ (n : ℕ). refuses (refusal n name)) z
+
+  pub first-refused : (ps : List (List ℕ)) (x : FirstRefused way ps) → actionsFrom 0 ps ≡ refuses (refusal (length (x .passed)) (x .name))
+  first-refused ps x =
+      ap (actionsFrom 0) (x .parted) ∙ refused-from 0 (x .passed) (x .piece) (x .others) (x .name) (x .before) (x .refused)
+      ∙ rw zero-add
+
+-- one of three
+pub data Pieces (ps : List (List ℕ)) : Type 0 where
+  all : AllDone ps → Pieces ps
+  stray : FirstRefused unknown ps → Pieces ps
+  spoilt : FirstRefused bad ps → Pieces ps
+
+ahead : {way : List ℕ → Single} (p : List ℕ) (ps : List (List ℕ)) → (x : Action) × (single p ≡ done x) → FirstRefused way ps → FirstRefused way (p ∷ ps)
+unfolding AllDone
+ahead p ps d x = record {
+  passed = p ∷ x .passed;
+  piece = x .piece;
+  others = x .others;
+  parted = ap (λ (l : List (List ℕ)). p ∷ l) (x .parted);
+  before = (d, x .before);
+  name = x .name;
+  refused = x .refused;
+}
+
+here : {way : List ℕ → Single} (p : List ℕ) (ps : List (List ℕ)) (name : List ℕ) → single p ≡ way name → FirstRefused way (p ∷ ps)
+unfolding AllDone
+here p ps name e = record { passed = []; piece = p; others = ps; parted = refl; before = tt; name = name; refused = e }
+
+pub which : (ps : List (List ℕ)) → Pieces ps
+unfolding AllDone
+which [] = all tt
+which (p ∷ ps) = go (single p) refl (which ps)
+  where
+    go : (v : Single) → single p ≡ v → Pieces ps → Pieces (p ∷ ps)
+    go (bad name) e x = spoilt (here p ps name e)
+    go (unknown name) e x = stray (here p ps name e)
+    go (done y) e (all a) = all ((y, e), a)
+    go (done y) e (stray x) = stray (ahead p ps (y, e) x)
+    go (done y) e (spoilt x) = spoilt (ahead p ps (y, e) x)
+
+-- ---- past the gate
+
+module _ (s : List ℕ) (m : ℕ) where
+  abbrev parts : List (List ℕ)
+  parts = pieces (normalised s)
+
+  abbrev past : Outcome Filled
+  past = roomed m (actionsOf s)
+
+  pub stray-is : (x : FirstRefused unknown (pieces (normalised s))) → roomed m (actionsOf s) ≡ refuses (unknownAction (length (x .passed)) (x .name))
+  unfolding actionsOf
+  stray-is x = rw (first-refused unknown-way parts x)
+
+  pub spoilt-is : (x : FirstRefused bad (pieces (normalised s))) → roomed m (actionsOf s) ≡ refuses (badArgument (length (x .passed)) (x .name))
+  unfolding actionsOf
+  spoilt-is x = rw (first-refused bad-way parts x)
+
+  read-is : (a : AllDone (pieces (normalised s))) → roomed m (actionsOf s) ≡ roomed m (reads (given (pieces (normalised s)) a))
+  unfolding actionsOf
+  read-is a = ap (roomed m) (given-read 0 parts a)
+
+  pub crowded-is : AllDone (pieces (normalised s)) → roomFor actionWords m < length (pieces (normalised s)) → roomed m (actionsOf s) ≡ refuses (noRoom (length (pieces (normalised s))))
+  crowded-is a h = read-is a ∙ rw (given-count parts a, lt-ltb (roomFor actionWords m) (length parts) h)
+
+  pub roomy-is : (a : AllDone (pieces (normalised s))) → length (pieces (normalised s)) ≤ roomFor actionWords m → roomed m (actionsOf s) ≡ reads (laidOut (given (pieces (normalised s)) a))
+  roomy-is a h = read-is a ∙ rw (le-ltb (roomFor actionWords m) (length (given parts a)) (omega (arith, given-count parts a)))
+
+  -- one of four
+  data Fate : Type 0 where
+    strayed : FirstRefused unknown parts → Fate
+    spoiled : FirstRefused bad parts → Fate
+    crowded : AllDone parts → roomFor actionWords m < length parts → Fate
+    roomy : AllDone parts → length parts ≤ roomFor actionWords m → Fate
+
+  fate : Fate
+  fate = go (which parts)
+    where
+      by : AllDone parts → (t : Bool) → ltb (roomFor actionWords m) (length parts) ≡ t → Fate
+      by a true e = crowded a (ltb-true (roomFor actionWords m) (length parts) e)
+      by a false e = roomy a (ltb-false (roomFor actionWords m) (length parts) e)
+
+      go : Pieces parts → Fate
+      go (all a) = by a (ltb (roomFor actionWords m) (length parts)) refl
+      go (stray x) = strayed x
+      go (spoilt x) = spoiled x
+
+  abbrev number-of : Fate → ℕ
+  number-of (strayed x) = 5
+  number-of (spoiled x) = 6
+  number-of (crowded a h) = 4
+  number-of (roomy a h) = 0
+
+  fated : (f : Fate) → numberOf (roomed m (actionsOf s)) ≡ number-of f
+  fated (strayed x) = ap numberOf (stray-is x)
+  fated (spoiled x) = ap numberOf (spoilt-is x)
+  fated (crowded a h) = ap numberOf (crowded-is a h)
+  fated (roomy a h) = ap numberOf (roomy-is a h)
+
+  is-stray : (numberOf (roomed m (actionsOf s)) ≡ 5) ↔ FirstRefused unknown parts
+  is-stray = (λ z. go fate z, λ x. fated (strayed x))
+    where
+      go : Fate → numberOf past ≡ 5 → FirstRefused unknown parts
+      go (strayed x) z = x
+      go (spoiled x) z = absurd (omega (arith, z, fated (spoiled x)))
+      go (crowded a h) z = absurd (omega (arith, z, fated (crowded a h)))
+      go (roomy a h) z = absurd (omega (arith, z, fated (roomy a h)))
+
+  is-spoilt : (numberOf (roomed m (actionsOf s)) ≡ 6) ↔ FirstRefused bad parts
+  is-spoilt = (λ z. go fate z, λ x. fated (spoiled x))
+    where
+      go : Fate → numberOf past ≡ 6 → FirstRefused bad parts
+      go (strayed x) z = absurd (omega (arith, z, fated (strayed x)))
+      go (spoiled x) z = x
+      go (crowded a h) z = absurd (omega (arith, z, fated (crowded a h)))
+      go (roomy a h) z = absurd (omega (arith, z, fated (roomy a h)))
+
+  is-crowded : (numberOf (roomed m (actionsOf s)) ≡ 4) ↔ (AllDone parts × (roomFor actionWords m < length parts))
+  is-crowded = (λ z. go fate z, λ p. fated (crowded (p .0) (p .1)))
+    where
+      go : Fate → numberOf past ≡ 4 → (AllDone parts × (roomFor actionWords m < length parts))
+      go (strayed x) z = absurd (omega (arith, z, fated (strayed x)))
+      go (spoiled x) z = absurd (omega (arith, z, fated (spoiled x)))
+      go (crowded a h) z = (a, h)
+      go (roomy a h) z = absurd (omega (arith, z, fated (roomy a h)))
+
+  is-roomy : (numberOf (roomed m (actionsOf s)) ≡ 0) ↔ (AllDone parts × (length parts ≤ roomFor actionWords m))
+  is-roomy = (λ z. go fate z, λ p. fated (roomy (p .0) (p .1)))
+    where
+      go : Fate → numberOf past ≡ 0 → (AllDone parts × (length parts ≤ roomFor actionWords m))
+      go (strayed x) z = absurd (omega (arith, z, fated (strayed x)))
+      go (spoiled x) z = absurd (omega (arith, z, fated (spoiled x)))
+      go (crowded a h) z = absurd (omega (arith, z, fated (crowded a h)))
+      go (roomy a h) z = (a, h)
+
+-- ---- the whole call
+
+-- Every number exactly when it is given, for a call with these buffers before and after it. What each leaves behind: `stray-is`, `spoilt-is`, `crowded-is`, `roomy-is`.
+pub record Numbers (s text text′ work work′ records records′ : List ℕ) (r : Answer) : Type 0 where
+  -- 1: the input is over the limit.
+  pub number-1 : (answerGiven r .number ≡ 1) ↔ (limit < length s)
+  -- 2: it is not, and a byte is 128 or more.
+  pub number-2 : (answerGiven r .number ≡ 2) ↔ ((length s ≤ limit) × ((p : ℕ) × FirstAt s p))
+  -- 3: none is, and the text or the scratch buffer is shorter than the input.
+  pub number-3 : (answerGiven r .number ≡ 3) ↔ Shortened s (min (length text) (length work)) (length s)
+  -- 5: none is, and the first piece that gives no action has a name that is none.
+  pub number-5 : (answerGiven r .number ≡ 5) ↔ (Opened s (min (length text) (length work)) (length s) × FirstRefused unknown (pieces (normalised s)))
+  -- 6: the same, with an argument that the action does not take.
+  pub number-6 : (answerGiven r .number ≡ 6) ↔ (Opened s (min (length text) (length work)) (length s) × FirstRefused bad (pieces (normalised s)))
+  -- 4: every piece gives an action, and there are more than records fit.
+  pub number-4 : (answerGiven r .number ≡ 4)
+      ↔ (Opened s (min (length text) (length work)) (length s) × (AllDone (pieces (normalised s)) × (roomFor actionWords (length records) < length (pieces (normalised s)))))
+  -- 0: none of these.
+  pub number-0 : (answerGiven r .number ≡ 0)
+      ↔ (Opened s (min (length text) (length work)) (length s) × (AllDone (pieces (normalised s)) × (length (pieces (normalised s)) ≤ roomFor actionWords (length records))))
+
+given-number : (o : Outcome Filled) → givenBy o .number ≡ numberOf o
+given-number (refuses f) = refl
+given-number (reads x) = refl
+
+module _ {s text text′ work work′ records records′ : List ℕ} {r : Answer} (x : ParseActions s text text′ work work′ records records′ r) where
+  number-is : answerGiven r .number ≡ numberOf (actionsOutcome s (length text) (length work) (length records))
+  number-is = ap (λ (g : Given). g .number) (x .answer) ∙ given-number (actionsOutcome s (length text) (length work) (length records))
+
+  later : (k : ℕ) → Later k → {B : Type 0} → (numberOf (roomed (length records) (actionsOf s)) ≡ k) ↔ B
+      → (answerGiven r .number ≡ k) ↔ (Opened s (min (length text) (length work)) (length s) × B)
+  later k l w =
+      let y = actions-past s (length text) (length work) (length records) k l in
+      rw number-is (λ e. (y .0 e .0, w .0 (y .0 e .1)), λ p. y .1 (p .0, w .1 (p .1)))
+
+  pub parse-actions-numbers : Numbers s text text′ work work′ records records′ r
+  parse-actions-numbers =
+      let n = length text in
+      let k = length work in
+      let m = length records in
+      record {
+        number-1 = rw number-is (actions-1 s n k m);
+        number-2 = rw number-is (actions-2 s n k m);
+        number-3 = rw number-is (actions-3 s n k m);
+        number-5 = later 5 (inr (omega arith)) (is-stray s m);
+        number-6 = later 6 (inr (omega arith)) (is-spoilt s m);
+        number-4 = later 4 (inr (omega arith)) (is-crowded s m);
+        number-0 = later 0 (inl refl) (is-roomy s m);
+      }

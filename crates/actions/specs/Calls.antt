@@ -1,0 +1,20 @@
+-- What can be told of a list's pieces before any reading: all give an action, or one is the first that does not.
+use mathlib.Core.Path.{_≡_}
+use mathlib.Core.List.{List, [], _∷_, _++_}
+use Prim.Native.Nat.{ℕ}
+use Rattle.actions.specs.Actions.{Action, Single, done, single}
+
+-- Every piece gives an action.
+unfoldable pub AllDone : List (List ℕ) → Type 0
+AllDone [] = Unit {0}
+AllDone (p ∷ ps) = ((x : Action) × (single p ≡ done x)) × AllDone ps
+
+-- The first piece that gives none is refused in this way, with a name.
+pub record FirstRefused (way : List ℕ → Single) (ps : List (List ℕ)) : Type 0 where
+  pub passed : List (List ℕ)
+  pub piece : List ℕ
+  pub others : List (List ℕ)
+  pub parted : ps ≡ passed ++ piece ∷ others
+  pub before : AllDone passed
+  pub name : List ℕ
+  pub refused : single piece ≡ way name
