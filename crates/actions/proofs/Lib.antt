@@ -23,6 +23,7 @@ pub mod MacroLaws
 pub mod QuoteLaws
 pub mod MarkPlaceLaws
 pub mod NamingLaws
+pub mod RowLaws
 pub mod CutLaws
 pub mod SettingLaws
 pub mod PlainLaws

@@ -4,18 +4,17 @@ use mathlib.Core.Bool.{Bool, true, false}
 use mathlib.Core.List.{List, [], _∷_, _++_, map}
 use Prim.Native.Nat.{ℕ, _+_, _*_, _-_, _<_, _≤_}
 use native.Mathlib.Omega.{arith}
-use lib.ListN.{length, take, drop, getD, replicate, length-map}
+use lib.ListN.{length, take, drop, getD, replicate}
 use mir.Syntax.{w64}
 use mir.Val.{Fits}
 use lib.Dec.{leb}
 use borrow.Author.Tests.{leb-true}
 use Rattle.ascii.specs.Text.{bytes}
-use Rattle.ascii.specs.Fold.{lower, lowered, same, sameLowered}
-use Rattle.ascii.proofs.FoldLaws.{bytes-differ, bytes-equal, both-end}
+use Rattle.ascii.specs.Fold.{same}
 use Rattle.names.proofs.Tests.{every, at}
-use Rattle.names.proofs.TableLaws.{same-true, same-not, getD-map}
-use Rattle.actions.specs.Table.{Rule, plain, Row, row, rows, rowAt, ruleOf, Placed}
-use Rattle.actions.proofs.TableLaws.{find-at, find-none, rows-count}
+use Rattle.names.proofs.TableLaws.{same-true, getD-map}
+use Rattle.actions.specs.Table.{Rule, plain, Row, row, rows, rowAt, ruleOf}
+use Rattle.actions.proofs.TableLaws.{rows-count}
 
 -- the columns, as the code holds them
 unfoldable pub shelves : List Row → List ℕ
@@ -101,13 +100,7 @@ module _ (k : ℕ) (h : k < 41) where
   unfolding shelf
   name-at = same-true _ _ (at shelf 41 all-shelved k h)
 
--- ---- the search
-
--- no row before this place has the name
-abbrev pub Passed : List ℕ → ℕ → Type 0
-Passed name i = (k : ℕ) → k < i → lowered (rowAt k .name) ≡ lowered name → ⊥
-
--- the part of the shelves that the code compares or copies
+-- the part of the shelves that the code copies
 abbrev pub partAt : ℕ → ℕ → List ℕ
 partAt k n = take (16 * k + n - 16 * k) (drop (16 * k) (shelves rows))
 
@@ -115,54 +108,3 @@ pub part-name : (k : ℕ) → k < 41 → partAt k (getD lengths k 0) ≡ rowAt k
 part-name k h =
     let e : 16 * k + getD lengths k 0 - 16 * k ≡ length (rowAt k .name) = omega (arith, length-at k h) in
     ap (λ (n : ℕ). take n (drop (16 * k) (shelves rows))) e ∙ name-at k h
-
-module _ (name : List ℕ) (i : ℕ) (h : i < 41) where
-  pub other-length : (getD lengths i 0 ≡ length name → ⊥) → lowered (rowAt i .name) ≡ lowered name → ⊥
-  other-length n e = n (length-at i h ∙ sym (length-map (rowAt i .name) lower) ∙ ap length e ∙ length-map name lower)
-
-  part-is : getD lengths i 0 ≡ length name → partAt i (length name) ≡ rowAt i .name
-  part-is l = ap (partAt i) (sym l) ∙ part-name i h
-
-  pub end-within : getD lengths i 0 ≡ length name → Fits w64 (16 * i + length name)
-  end-within l = omega (arith, l, length-at i h, length-short i h)
-
-  pub end-before : getD lengths i 0 ≡ length name → 16 * i + length name ≤ length (shelves rows)
-  end-before l = omega (arith, l, end-inside i h)
-
-  pub part-length : getD lengths i 0 ≡ length name → length (partAt i (length name)) ≡ length name
-  part-length l = ap length (part-is l) ∙ sym (length-at i h) ∙ l
-
-  pub other-name : getD lengths i 0 ≡ length name → sameLowered (partAt i (length name)) (lowered name) ≡ false
-      → lowered (rowAt i .name) ≡ lowered name → ⊥
-  other-name l e =
-      same-not (lowered (rowAt i .name)) (lowered name) (sym (ap (λ (p : List ℕ). sameLowered p (lowered name)) (part-is l)) ∙ e)
-
-  pub placed : Passed name i → getD lengths i 0 ≡ length name → sameLowered (partAt i (length name)) (lowered name) ≡ true → Placed name i
-  placed p l e = record {
-    within = omega arith;
-    there = λ _. find-at rows (lowered name) i (rw rows-count h) p
-        (same-true (lowered (rowAt i .name)) (lowered name) (sym (ap (λ (p : List ℕ). sameLowered p (lowered name)) (part-is l)) ∙ e));
-    none = λ g. absurd (omega arith);
-  }
-
-pub unplaced : (name : List ℕ) (i : ℕ) → i ≤ 41 → 41 ≤ i → Passed name i → Placed name i
-unplaced name i h g p = record {
-  within = h;
-  there = λ l. absurd (omega arith);
-  none = λ _. find-none rows (lowered name) (λ k l. p k (let q : k < 41 = rw rows-count at l in omega arith));
-}
-
--- ---- two names of one length
-
-module _ (row name : List ℕ) (i : ℕ) (h : i < length name) (e : length row ≡ length name) where
-  pub byte-differs : (lower (getD row i 0) ≡ lower (getD name i 0) → ⊥) → sameLowered (drop i row) (drop i (lowered name)) ≡ false
-  byte-differs n =
-      bytes-differ row (lowered name) i (omega arith) (rw (length-map name lower) h) (λ q. n (q ∙ getD-map lower name i 0 0 h))
-
-  pub byte-agrees : lower (getD row i 0) ≡ lower (getD name i 0)
-      → sameLowered (drop i row) (drop i (lowered name)) ≡ sameLowered (drop (i + 1) row) (drop (i + 1) (lowered name))
-  byte-agrees q =
-      bytes-equal row (lowered name) i (omega arith) (rw (length-map name lower) h) (q ∙ sym (getD-map lower name i 0 0 h))
-
-pub all-agree : (row name : List ℕ) (i : ℕ) → length row ≡ length name → length name ≤ i → sameLowered (drop i row) (drop i (lowered name)) ≡ true
-all-agree row name i e h = both-end row (lowered name) i (omega arith) (rw (length-map name lower) h)

@@ -89,6 +89,17 @@ pub record Placed (name : List ℕ) (r : ℕ) : Type 0 where
   pub there : r < 41 → find rows (lowered name) ≡ found (rowAt r)
   pub none : 41 ≤ r → find rows (lowered name) ≡ missing
 
+-- None of the rows at these places has the name.
+abbrev pub NoneOf : List ℕ → List ℕ → Type 0
+NoneOf [] name = Unit {0}
+NoneOf (k ∷ ks) name = (lowered (rowAt k .name) ≡ lowered name → ⊥) × NoneOf ks name
+
+-- r is the place of a row with the name, or the number of rows where none at these places has it.
+pub record Among (ks : List ℕ) (name : List ℕ) (r : ℕ) : Type 0 where
+  pub within : r ≤ 41
+  pub there : r < 41 → lowered (rowAt r .name) ≡ lowered name
+  pub none : 41 ≤ r → NoneOf ks name
+
 -- The rules by number, as the code's table holds them.
 unfoldable pub ruleOf : ℕ → Rule
 ruleOf n =

@@ -1,5 +1,6 @@
 // Action lists (document 01, module 4): normalising, cutting, one action by its row, setvar, and the list.
 mod cutting;
+mod finding;
 mod lists;
 mod marking;
 mod naming;

@@ -1,10 +1,9 @@
 // The table of actions: the arms of parse_single_action as rows.
 ghost use mathlib.Core.Path.{_≡_};
-ghost use Prim.Native.Nat.{_≤_, _<_};
+ghost use Prim.Native.Nat.{_<_};
 ghost use lib.ListN.{length};
-ghost use Rattle.ascii.specs.Fold.{lowered, sameLowered};
 ghost use Rattle.lent.specs.Buffers.{stored};
-ghost use Rattle.actions.specs.Table.{rows, rowAt, Placed, ruleOf};
+ghost use Rattle.actions.specs.Table.{rowAt, ruleOf};
 
 // What is done with an argument.
 pub enum Rule {
@@ -162,39 +161,6 @@ const RULES: [u8; 41] = [
     0, // pause
     0, // xmlns
 ];
-
-// Whether two names of one length are the same in small letters.
-fn is_named(row: &[u8], name: &[u8]) -> bool
-    requires { ⌜ length (now row) ≡ length (now name) ⌝ }
-    ensures { λ r. ⌜ r ≡ sameLowered (now (row .entry)) (lowered (now (name .entry))) ⌝ }
-{
-    let mut i = 0;
-    while i < name.len() {
-        if ascii::to_lower(row[i]) != ascii::to_lower(name[i]) {
-            return false;
-        }
-        i += 1;
-    }
-    true
-}
-
-// The row of a name in any letter case, 41 where there is none. The lengths are compared first.
-pub fn row_of(name: &[u8]) -> usize
-    ensures { λ r. ⌜ Placed (now (name .entry)) r ⌝ }
-{
-    let n = name.len();
-    let mut i: usize = 0;
-    while i < 41 {
-        if LENGTHS[i] as usize == n {
-            let at = 16 * i;
-            if is_named(&NAMES[at..at + n], name) {
-                return i;
-            }
-        }
-        i += 1;
-    }
-    i
-}
 
 // A row's name at the front of `out`, where it fits, and its length.
 pub fn put_name(row: usize, out: &mut [u8]) -> usize
