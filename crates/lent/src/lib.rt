@@ -12,6 +12,8 @@ pub use gating::admit;
 pub use gating::first_high;
 pub use packing::room;
 pub use packing::span;
+pub use packing::span_length;
+pub use packing::span_offset;
 
 // The longest input, in bytes.
 pub const LIMIT: usize = 16384;

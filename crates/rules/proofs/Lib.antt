@@ -1,0 +1,4 @@
+pub mod EntryLaws
+pub mod PhaseLaws
+pub mod GradeLaws
+pub mod PassLaws

@@ -1,0 +1,71 @@
+-- The loop keeps that no phase was passed; each need is one law of PhaseLaws.
+use borrow.Author.Needs.{needs}
+use mathlib.Core.Path.{refl}
+use Prim.Native.Nat.{_-_}
+use native.Mathlib.Omega.{arith}
+use denote.Ref.{now}
+use lib.ListN.{length}
+use Rattle.rules.proofs.PhaseLaws.{Sofar, phase-found, phase-passed, phase-none}
+use Rattle.rules.proofs.phases.phase.Statement.{statement}
+use Rattle.rules.proofs.phases.phase.Tie as tie
+
+abbrev Inv-loop : tie.InvT-loop
+Inv-loop words at₀ at = Sofar words at
+
+abbrev μ-loop : tie.MeasureT-loop
+μ-loop words at₀ at = length words - at
+
+loop-holds : tie.Need-loop-holds Inv-loop μ-loop
+loop-holds c = record { inside = omega arith; left = refl }
+
+sub-loop : tie.Need-sub-loop Inv-loop μ-loop
+sub-loop c = search needs
+
+mul-if1 : tie.Need-mul-if1 Inv-loop μ-loop
+mul-if1 c = search needs
+
+shared-slice-read-if1 : tie.Need-shared-slice-read-if1 Inv-loop μ-loop
+shared-slice-read-if1 c = search needs
+
+add-result : tie.Need-add-result Inv-loop μ-loop
+add-result c = search needs
+
+mul-result : tie.Need-mul-result Inv-loop μ-loop
+mul-result c = search needs
+
+shared-slice-read-result : tie.Need-shared-slice-read-result Inv-loop μ-loop
+shared-slice-read-result c = search needs
+
+returns : tie.Need-returns Inv-loop μ-loop
+returns c = phase-found (c .before .before .before .before .loop .inv) (c .before .before .before .loop-test .taken) (c .before .if1 .taken)
+
+add-at : tie.Need-add-at Inv-loop μ-loop
+add-at c = search needs
+
+loop-less : tie.Need-loop-less Inv-loop μ-loop
+loop-less c = search needs
+
+loop-again : tie.Need-loop-again Inv-loop μ-loop
+loop-again c = record { inside = omega arith; left = phase-passed (c .before .before .before .loop .inv) (c .before .before .loop-test .taken) (c .if1 .left) }
+
+returns-2 : tie.Need-returns-2 Inv-loop μ-loop
+returns-2 c = phase-none (c .before .loop .inv) (omega arith)
+
+pub phase-spec : {M : Type 1} → statement M
+phase-spec =
+    tie.close
+    (tie.spec
+    Inv-loop
+    μ-loop
+    loop-holds
+    sub-loop
+    mul-if1
+    shared-slice-read-if1
+    add-result
+    mul-result
+    shared-slice-read-result
+    returns
+    add-at
+    loop-less
+    loop-again
+    returns-2)

@@ -1,0 +1,39 @@
+-- The action records among lent words, by the two words of each that are read here: whole records only.
+use Prim.Native.Nat.{ℕ, zero, suc}
+use mathlib.Core.List.{List, [], _∷_}
+use lib.ListN.{length, drop, getD}
+use Rattle.lent.specs.Sizes.{actionWords, roomFor}
+
+-- an action: its code, and its number word as it stands
+pub record Entry : Type 0 where
+  pub code : ℕ
+  pub number : ℕ
+
+-- the codes of document 01 that are read here
+abbrev pub idCode : ℕ
+idCode = 11
+
+abbrev pub phaseCode : ℕ
+phaseCode = 12
+
+abbrev pub severityCode : ℕ
+severityCode = 13
+
+abbrev pub maturityCode : ℕ
+maturityCode = 18
+
+abbrev pub accuracyCode : ℕ
+accuracyCode = 19
+
+-- the record that the words start with
+abbrev pub first : List ℕ → Entry
+first words = record { code = getD words 0 0; number = getD words 1 0 }
+
+-- so many records, one after another
+unfoldable pub entriesOf : ℕ → List ℕ → List Entry
+entriesOf zero words = []
+entriesOf (suc n) words = first words ∷ entriesOf n (drop actionWords words)
+
+-- all whole records: SecRule's `actions`
+unfoldable pub entries : List ℕ → List Entry
+entries words = entriesOf (roomFor actionWords (length words)) words

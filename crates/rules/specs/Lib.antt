@@ -1,0 +1,4 @@
+pub mod Entries
+pub mod Selectors
+pub mod Phases
+pub mod Grades
