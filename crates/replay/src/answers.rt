@@ -2,7 +2,10 @@
 use crate::acting;
 use crate::hexes;
 use crate::lexing;
+use crate::listings;
+use crate::matching;
 use crate::operating;
+use crate::phasing;
 use crate::selecting;
 use crate::targeting;
 use ascii::Number;
@@ -78,6 +81,9 @@ pub fn answer(letter: u8, body: &[u8]) {
         b'u' => targeting::print_update(body),
         b'a' => acting::print_actions(body),
         b'e' => acting::print_setvar(body),
+        b'L' => listings::print_listing(body),
+        b'm' => matching::print_match(body),
+        b'h' => phasing::print_phase(body),
         b'c' => print_flags(hexes::word(body)),
         _ => {
             io::write_all(1, b"?");
