@@ -2,6 +2,7 @@ pub mod ByteLaws
 pub mod ListLaws
 pub mod FoldLaws
 pub mod TrimLaws
+pub mod SplitLaws
 pub mod NumberLaws
 pub mod SignLaws
 pub mod NumeralLaws

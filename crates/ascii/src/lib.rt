@@ -2,6 +2,7 @@
 mod classes;
 mod folding;
 mod numbers;
+mod searching;
 mod trimming;
 
 pub use classes::ends_operator_name;
@@ -15,6 +16,7 @@ pub use numbers::Number;
 pub use numbers::digits;
 pub use numbers::signed;
 pub use numbers::unsigned;
+pub use searching::first_of;
 pub use trimming::Part;
 pub use trimming::leading_white;
 pub use trimming::trim;
