@@ -7,10 +7,10 @@ use native.Mathlib.Omega.{arith}
 use lib.ListN.{length, take, drop, getD, length-drop}
 use lib.Seq.{length-take-le, take-take, take-add, drop-at, drop-drop}
 use lib.Dec.{eqb}
+use Rattle.ascii.specs.Splits.{whole, halves, split, leads, firstOf}
 use Rattle.ascii.proofs.ListLaws.{next-byte, rest-is}
-use Rattle.actions.specs.Splits.{whole, halves, split, leads, firstOf}
+use Rattle.ascii.proofs.SplitLaws.{first-fits, split-halves, split-whole}
 use Rattle.actions.specs.Plans.{cut}
-use Rattle.actions.proofs.FindLaws.{first-fits, split-halves, split-whole}
 
 -- up to the end
 pub cut-end : (s : List ℕ) (f : ℕ) → cut s f (length s) ≡ drop f s

@@ -16,14 +16,15 @@ use Rattle.ascii.specs.Choice.{and}
 use Rattle.ascii.specs.Text.{bytes}
 use Rattle.ascii.specs.Fold.{lowered, same}
 use Rattle.ascii.specs.Numbers.{unsignedBy}
+use Rattle.ascii.specs.Splits.{whole, halves, split, firstOf}
 use Rattle.ascii.specs.declared.numbers.Number.{Number}
 use Rattle.ascii.specs.declared.numbers.Number.the-variants.{Value, Unreadable, TooLarge}
 use Rattle.ascii.specs.declared.trimming.Part.{Part}
 use Rattle.ascii.proofs.numbers.Number.{the-type as number-type}
+use Rattle.ascii.proofs.SplitLaws.{first-fits, split-halves, split-whole}
 use Rattle.names.specs.Severities.{severityCode}
 use Rattle.names.proofs.Tests.{never}
 use Rattle.actions.specs.Marks.{stripped}
-use Rattle.actions.specs.Splits.{whole, halves, split, firstOf}
 use Rattle.actions.specs.Setvar.{setvar}
 use Rattle.actions.specs.Table.{Rule, plain, wanted, unmarked, upTo, severity, equation, expiry, setting, Row, rowAt, Placed}
 use Rattle.actions.specs.Actions.{Action, action, numbered, absent, present, done, bad, unknown, numberBy, lookupBy, severityBy, bothBy, seconds, expiryBy, setvarAction, withText, withNone, named, transforms, single}
@@ -32,7 +33,6 @@ use Rattle.actions.specs.declared.plans.Plan.{Plan}
 use Rattle.actions.specs.declared.plans.Origin.the-variants.{Absent, Copied}
 use Rattle.actions.specs.declared.plans.Verdict.the-variants.{Done, Bad, Unknown}
 use Rattle.actions.proofs.naming.Rule.{the-type as rule-type}
-use Rattle.actions.proofs.FindLaws.{first-fits, split-halves, split-whole}
 use Rattle.actions.proofs.CutLaws.{cut-end, cut-none, found-within, cut-whole, cut-halves}
 
 module _ (s : List ℕ) where

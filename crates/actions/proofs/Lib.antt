@@ -1,11 +1,9 @@
 pub mod NormalLaws
 pub mod PieceLaws
-pub mod SplitLaws
 pub mod MarkLaws
 pub mod SetvarLaws
 pub mod SingleLaws
 pub mod LengthLaws
-pub mod FindLaws
 pub mod LayoutLaws
 pub mod GivenLaws
 pub mod LoopLaws

@@ -15,20 +15,21 @@ use Rattle.ascii.specs.Classes.{white}
 use Rattle.ascii.proofs.ByteLaws.{inside, below, above}
 use Rattle.lent.specs.Buffers.{stored}
 use Rattle.lent.proofs.BufferLaws.{Written, written-stored, front-stored}
-use Rattle.actions.specs.Splits.{firstOf}
+use Rattle.ascii.specs.Trim.{leading}
+use Rattle.ascii.specs.Splits.{firstOf}
+use Rattle.ascii.proofs.SplitLaws.{first-fits}
 use Rattle.actions.specs.Steps.{Passed}
 use Rattle.actions.specs.Normal.{plain, skipped, modeAfter, textGiven, normalisedFrom}
-use Rattle.actions.proofs.FindLaws.{first-fits}
 use Rattle.actions.proofs.NormalLoop.{Normalising}
 
 -- the span gives itself, and the mode stays plain
 span-text : (l : List ℕ) → normalisedFrom plain l ≡ take (firstOf 92 l) l ++ normalisedFrom plain (drop (firstOf 92 l) l)
-unfolding firstOf normalisedFrom textGiven modeAfter
+unfolding leading normalisedFrom textGiven modeAfter
 span-text [] = refl
 span-text (b ∷ r) = go (eqb b 92) refl (span-text r)
   where
     go : (t : Bool) → eqb b 92 ≡ t → normalisedFrom plain r ≡ take (firstOf 92 r) r ++ normalisedFrom plain (drop (firstOf 92 r) r)
-        → normalisedFrom plain (b ∷ r) ≡ take (pick t 0 (1 + firstOf 92 r)) (b ∷ r) ++ normalisedFrom plain (drop (pick t 0 (1 + firstOf 92 r)) (b ∷ r))
+        → normalisedFrom plain (b ∷ r) ≡ take (pick (pick t false true) (1 + firstOf 92 r) 0) (b ∷ r) ++ normalisedFrom plain (drop (pick (pick t false true) (1 + firstOf 92 r) 0) (b ∷ r))
     go true e ih = refl
     go false e ih = rw (one-add, e, ih)
 

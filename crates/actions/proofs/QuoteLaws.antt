@@ -12,9 +12,10 @@ use lib.Dec.{eqb}
 use borrow.Author.Tests.{eqb-true, ne-eqb}
 use Rattle.ascii.specs.Choice.{pick, and, or}
 use Rattle.actions.specs.Marks.{quotation}
-use Rattle.actions.specs.Splits.{firstOf}
+use Rattle.ascii.specs.Trim.{leading}
+use Rattle.ascii.specs.Splits.{firstOf}
+use Rattle.ascii.proofs.SplitLaws.{first-fits}
 use Rattle.actions.specs.Pieces.{Nest, nest, outside, nestBare, nestQuoted, nestAfter, cuts, partLength}
-use Rattle.actions.proofs.FindLaws.{first-fits}
 use Rattle.actions.proofs.PieceLaws.{part-stop, part-more, part-end}
 
 and-false : (t : Bool) → and t false ≡ false
@@ -35,24 +36,24 @@ module _ (m d : ℕ) (shut : eqb m 0 ≡ false) where
   quoted-next b r = rw (quoted-uncut b, shut)
 
   quoted-suc : (l : List ℕ) → firstOf m l < length l → partLength (nest m d) l ≡ suc (firstOf m l) + partLength (nest 0 d) (drop (suc (firstOf m l)) l)
-  unfolding firstOf
+  unfolding leading
   quoted-suc [] h = absurd (omega arith)
   quoted-suc (b ∷ r) h = quoted-next b r ∙ go (eqb b m) (quoted-suc r) h
     where
       go : (t : Bool) → (firstOf m r < length r → partLength (nest m d) r ≡ suc (firstOf m r) + partLength (nest 0 d) (drop (suc (firstOf m r)) r))
-          → pick t 0 (1 + firstOf m r) < suc (length r)
-          → 1 + partLength (pick t (nest 0 d) (nest m d)) r ≡ suc (pick t 0 (1 + firstOf m r)) + partLength (nest 0 d) (drop (suc (pick t 0 (1 + firstOf m r))) (b ∷ r))
+          → pick (pick t false true) (1 + firstOf m r) 0 < suc (length r)
+          → 1 + partLength (pick t (nest 0 d) (nest m d)) r ≡ suc (pick (pick t false true) (1 + firstOf m r) 0) + partLength (nest 0 d) (drop (suc (pick (pick t false true) (1 + firstOf m r) 0)) (b ∷ r))
       go true ih h = omega arith
       go false ih h = rw (one-add (firstOf m r)) (omega (arith, ih (omega arith)))
 
   quoted-open : (l : List ℕ) → length l ≤ firstOf m l → partLength (nest m d) l ≡ firstOf m l
-  unfolding firstOf partLength
+  unfolding leading partLength
   quoted-open [] h = refl
   quoted-open (b ∷ r) h = quoted-next b r ∙ go (eqb b m) (quoted-open r) h
     where
       go : (t : Bool) → (length r ≤ firstOf m r → partLength (nest m d) r ≡ firstOf m r)
-          → suc (length r) ≤ pick t 0 (1 + firstOf m r)
-          → 1 + partLength (pick t (nest 0 d) (nest m d)) r ≡ pick t 0 (1 + firstOf m r)
+          → suc (length r) ≤ pick (pick t false true) (1 + firstOf m r) 0
+          → 1 + partLength (pick t (nest 0 d) (nest m d)) r ≡ pick (pick t false true) (1 + firstOf m r) 0
       go true ih h = absurd (omega arith)
       go false ih h = omega (arith, ih (omega arith))
 

@@ -15,13 +15,13 @@ use Rattle.ascii.specs.Classes.{white}
 use Rattle.ascii.specs.declared.trimming.Part.{Part}
 use Rattle.ascii.specs.Trim.{leading, trimEnds, trimmedPart}
 use Rattle.ascii.specs.Numbers.{signedWord}
+use Rattle.ascii.specs.Splits.{firstOf, leads}
 use Rattle.ascii.specs.declared.numbers.Number.{Number}
 use Rattle.ascii.specs.declared.numbers.Number.the-variants.{Value, Unreadable, TooLarge}
 use Rattle.ascii.proofs.numbers.Number.{the-type}
 use Rattle.ascii.proofs.TrimLaws.{ends-are, ends-fit}
 use Rattle.names.proofs.Tests.{never}
 use Rattle.actions.specs.Marks.{quotation, paired, unpaired}
-use Rattle.actions.specs.Splits.{firstOf, leads}
 use Rattle.actions.specs.Setvar.{text, nameOf, hasMacro, numberOr, plainValue, valueOf, setvarOf, delete, setvarBare, setvar, VarName, SetValue}
 use Rattle.actions.specs.Actions.{setvarAction}
 use Rattle.actions.specs.Plans.{cut, stepPlan, setvarPlan, NamePlanned, ValuePlanned, Planned}

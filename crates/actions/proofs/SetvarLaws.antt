@@ -12,16 +12,16 @@ use Rattle.ascii.specs.Fold.{lower}
 use Rattle.ascii.specs.Classes.{white}
 use Rattle.ascii.specs.Trim.{trimEnds}
 use Rattle.ascii.specs.Numbers.{signedWord}
+use Rattle.ascii.specs.Splits.{Split, whole, halves, split, leads}
 use Rattle.ascii.specs.declared.numbers.Number.{Number}
 use Rattle.ascii.specs.declared.numbers.Number.the-variants.{Value, Unreadable, TooLarge}
 use Rattle.ascii.proofs.ListLaws.{next-byte}
 use Rattle.ascii.proofs.TrimLaws.{ends-fit}
+use Rattle.ascii.proofs.SplitLaws.{spread, split-spread}
 use Rattle.actions.specs.Marks.{unpaired}
-use Rattle.actions.specs.Splits.{Split, whole, halves, split, leads}
 use Rattle.actions.specs.Setvar.{SetValue, increment, decrement, delete, macro, VarName, nameBy, nameOf, Setvar, setvarOf, amount, numberOr, hasMacro, plainValue, valueOf, assigned, setvarBare, setvar}
 use Rattle.actions.specs.Actions.{textOf}
 use Rattle.actions.specs.Layout.{slotText}
-use Rattle.actions.proofs.SplitLaws.{spread, split-spread}
 use Rattle.actions.proofs.MarkLaws.{unpaired-short}
 
 abbrev nameLength : VarName → ℕ

@@ -12,6 +12,8 @@ use Rattle.ascii.specs.Choice.{pick, and}
 use Rattle.ascii.specs.Text.{bytes}
 use Rattle.ascii.specs.Fold.{lower, lowered, same, sameLowered}
 use Rattle.ascii.specs.Numbers.{unsignedBy}
+use Rattle.ascii.specs.Splits.{Split, whole, halves, split}
+use Rattle.ascii.proofs.SplitLaws.{spread, split-spread}
 use Rattle.ascii.specs.declared.numbers.Number.{Number}
 use Rattle.ascii.specs.declared.numbers.Number.the-variants.{Value, Unreadable, TooLarge}
 use Rattle.names.specs.declared.Lookup.{Lookup}
@@ -20,12 +22,10 @@ use Rattle.names.specs.Severities.{severityCode}
 use Rattle.names.proofs.Tests.{and-left, and-right}
 use Rattle.names.proofs.TableLaws.{same-true}
 use Rattle.actions.specs.Marks.{stripped}
-use Rattle.actions.specs.Splits.{Split, whole, halves, split}
 use Rattle.actions.specs.Setvar.{setvar}
 use Rattle.actions.specs.Table.{Rule, plain, wanted, unmarked, upTo, severity, equation, expiry, setting, Row, rows, Found, found, missing, find}
 use Rattle.actions.specs.Actions.{absent, present, worded, Single, done, bad, unknown, textOf, setvarAction, numberBy, lookupBy, severityBy, bothBy, expiryBy, withText, withNone, foundBy, named, splitBy, single}
 use Rattle.actions.specs.Layout.{slotText, actionText}
-use Rattle.actions.proofs.SplitLaws.{spread, split-spread}
 use Rattle.actions.proofs.MarkLaws.{stripped-short}
 use Rattle.actions.proofs.SetvarLaws.{setvar-short}
 

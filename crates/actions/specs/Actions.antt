@@ -7,13 +7,13 @@ use Rattle.ascii.specs.Choice.{pick}
 use Rattle.ascii.specs.Text.{bytes}
 use Rattle.ascii.specs.Fold.{lowered, same}
 use Rattle.ascii.specs.Numbers.{unsignedBy}
+use Rattle.ascii.specs.Splits.{Split, whole, halves, split}
 use Rattle.ascii.specs.declared.numbers.Number.{Number}
 use Rattle.ascii.specs.declared.numbers.Number.the-variants.{Value, Unreadable, TooLarge}
 use Rattle.names.specs.declared.Lookup.{Lookup}
 use Rattle.names.specs.declared.Lookup.the-variants.{Code, Unknown}
 use Rattle.names.specs.Severities.{severityCode}
 use Rattle.actions.specs.Marks.{stripped}
-use Rattle.actions.specs.Splits.{Split, whole, halves, split}
 use Rattle.actions.specs.Setvar.{SetValue, text, int, increment, decrement, delete, macro, Setvar, setvar}
 use Rattle.actions.specs.Table.{Rule, plain, wanted, unmarked, upTo, severity, equation, expiry, setting, Row, rows, Found, found, missing, find}
 

@@ -8,13 +8,13 @@ use Rattle.ascii.specs.Classes.{white, digit}
 use Rattle.ascii.specs.Fold.{lower, same}
 use Rattle.ascii.specs.Trim.{stripStart, stripEnd}
 use Rattle.ascii.specs.Numbers.{value, allDigits, digitsBy, unsignedBy, signedWord}
+use Rattle.ascii.specs.Splits.{split}
 use Rattle.lent.specs.Table.{Refusal, unknownAction, badArgument, Outcome, refuses, reads}
 use Rattle.names.specs.Tables as N
 use Rattle.names.specs.Severities.{severities, severityCode}
 use Rattle.actions.specs.Normal.{modeAfter, textGiven, textHeld, normalisedFrom, normalised}
 use Rattle.actions.specs.Marks.{quotation, paired, unpaired}
 use Rattle.actions.specs.Pieces.{nestBare, nestQuoted, nestAfter, cuts, partsFrom, piecesOf, pieces}
-use Rattle.actions.specs.Splits.{split}
 use Rattle.actions.specs.Setvar.{SetValue, text, increment, decrement, delete, macro, setvarOf, varName, nameOf, hasMacro, plainValue, valueOf, setvarBare, setvar}
 use Rattle.actions.specs.Table.{rows, find}
 use Rattle.actions.specs.Actions.{absent, present, Action, action, numbered, worded, withText, withNone, named, single}

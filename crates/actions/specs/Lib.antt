@@ -1,7 +1,6 @@
 pub mod Normal
 pub mod Marks
 pub mod Pieces
-pub mod Splits
 pub mod Setvar
 pub mod Table
 pub mod Actions

@@ -9,10 +9,10 @@ use Rattle.ascii.specs.Text.{bytes}
 use Rattle.ascii.specs.Fold.{lowered}
 use Rattle.ascii.specs.Trim.{trimEnds}
 use Rattle.ascii.specs.Numbers.{signedWord}
+use Rattle.ascii.specs.Splits.{Split, whole, halves, split, leads}
 use Rattle.ascii.specs.declared.numbers.Number.{Number}
 use Rattle.ascii.specs.declared.numbers.Number.the-variants.{Value, Unreadable, TooLarge}
 use Rattle.actions.specs.Marks.{unpaired}
-use Rattle.actions.specs.Splits.{Split, whole, halves, split, leads}
 
 -- SetVarValue; amounts are i64, as words in two's complement.
 pub data SetValue : Type 0 where

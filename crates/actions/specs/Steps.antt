@@ -3,9 +3,9 @@ use mathlib.Core.Path.{_≡_}
 use mathlib.Core.List.{List, [], _∷_, _++_}
 use Prim.Native.Nat.{ℕ, _+_, _-_}
 use lib.ListN.{length, take, drop}
+use Rattle.ascii.specs.Splits.{firstOf}
 use Rattle.lent.specs.Buffers.{stored}
 use Rattle.actions.specs.Normal.{Mode, normalised}
-use Rattle.actions.specs.Splits.{firstOf}
 use Rattle.actions.specs.declared.normalising.Act.{Act}
 use Rattle.actions.specs.declared.normalising.Act.the-variants.{Vanishes, Gives, Keeps}
 

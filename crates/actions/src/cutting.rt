@@ -2,9 +2,7 @@
 ghost use mathlib.Core.Path.{_≡_};
 ghost use Prim.Native.Nat.{_+_, _≤_};
 ghost use lib.ListN.{length, drop};
-ghost use Rattle.actions.specs.Splits.{firstOf};
 ghost use Rattle.actions.specs.Pieces.{outside, partLength};
-use crate::searching::first_of;
 
 // Where the part that starts at `from` ends: at the next comma that cuts, or at the end.
 pub fn part_end(s: &[u8], from: usize) -> usize
@@ -18,7 +16,7 @@ pub fn part_end(s: &[u8], from: usize) -> usize
         match b {
             34 | 39 => {
                 // a mark that is never closed takes all that is left
-                at += 1 + first_of(&s[at + 1..], b);
+                at += 1 + ascii::first_of(&s[at + 1..], b);
                 if s.len() <= at {
                     return at;
                 }

@@ -4,7 +4,6 @@ ghost use Prim.Native.Nat.{_≤_};
 ghost use lib.ListN.{length};
 ghost use Rattle.actions.specs.Normal.{plain, held, margin, modeAfter, textGiven};
 ghost use Rattle.actions.specs.Steps.{actText, actMode, Passed, Normalises};
-use crate::searching::first_of;
 
 // Plainly; a backslash held back; behind backslash-CR; in the whitespace behind an escaped line end.
 pub enum Mode {
@@ -74,7 +73,7 @@ fn pass_plain(s: &[u8], i: usize, out: &mut [u8], n: usize) -> usize
     requires { ⌜ i ≤ length (now s) ⌝ }
     ensures { λ r. ⌜ Passed (now (s .entry)) i (now (out .entry)) (now (out .exit)) n r ⌝ }
 {
-    let past = i + first_of(&s[i..], 92);
+    let past = i + ascii::first_of(&s[i..], 92);
     lent::store_bytes(out, n, &s[i..past]);
     past
 }

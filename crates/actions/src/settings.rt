@@ -8,7 +8,6 @@ ghost use Rattle.actions.specs.Plans.{cut, stepPlan, setvarPlan, NamePla
 use crate::marking::is_paired;
 use crate::plans::Origin;
 use crate::plans::Plan;
-use crate::searching::first_of;
 use crate::searching::has_macro;
 use ascii::Number;
 
@@ -31,7 +30,7 @@ fn name_plan(s: &[u8], first: usize, past: usize) -> NamePlan
     requires { ⌜ past ≤ length (now s) ⌝ }
     ensures { λ r. ⌜ NamePlanned (now (s .entry)) r (nameOf (cut (now (s .entry)) first past)) ⌝ }
 {
-    let dot = first + first_of(&s[first..past], b'.');
+    let dot = first + ascii::first_of(&s[first..past], b'.');
     if past <= dot {
         return NamePlan {
             collection: Origin::Tx,
@@ -139,7 +138,7 @@ fn bare_plan(s: &[u8], first: usize, past: usize, code: u64) -> Plan
             return setvar_of(code, name_plan(s, first + 1, past), deleted);
         }
     }
-    let equals = first + first_of(&s[first..past], b'=');
+    let equals = first + ascii::first_of(&s[first..past], b'=');
     if past <= equals {
         let one = ValuePlan {
             number: 0,

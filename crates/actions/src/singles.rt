@@ -4,7 +4,7 @@ ghost use mathlib.Core.List.{List};
 ghost use Prim.Native.Nat.{ℕ, _≤_, _<_};
 ghost use lib.ListN.{length, drop};
 ghost use Rattle.ascii.specs.Numbers.{unsignedBy};
-ghost use Rattle.actions.specs.Splits.{split};
+ghost use Rattle.ascii.specs.Splits.{split};
 ghost use Rattle.actions.specs.Table.{rowAt};
 ghost use Rattle.actions.specs.Actions.{numberBy, severityBy, bothBy, expiryBy, withText, withNone, transforms, single};
 ghost use Rattle.actions.specs.Plans.{textPlan, Planned, Judged};
@@ -16,7 +16,6 @@ use crate::naming::rule_of;
 use crate::plans::Origin;
 use crate::plans::Plan;
 use crate::plans::Verdict;
-use crate::searching::first_of;
 use crate::settings::setvar_plan;
 use ascii::Number;
 use names::Lookup;
@@ -67,7 +66,7 @@ fn both_plan(s: &[u8], from: usize, code: u64) -> Plan
     ensures { λ r. ⌜ Planned (now (s .entry)) r (bothBy code (split 61 (drop from (now (s .entry))))) ⌝ }
 {
     let past = s.len();
-    let equals = from + first_of(&s[from..], b'=');
+    let equals = from + ascii::first_of(&s[from..], b'=');
     let behind = if equals < past { equals + 1 } else { past };
     Plan {
         code,
@@ -90,7 +89,7 @@ fn expiry_plan(s: &[u8], from: usize, code: u64) -> Plan
     requires { ⌜ from ≤ length (now s) ⌝ }
     ensures { λ r. ⌜ Planned (now (s .entry)) r (expiryBy code (split 61 (drop from (now (s .entry))))) ⌝ }
 {
-    let equals = from + first_of(&s[from..], b'=');
+    let equals = from + ascii::first_of(&s[from..], b'=');
     let name = Origin::Copied {
         first: from,
         past: equals,
@@ -168,7 +167,7 @@ pub fn read_single(s: &[u8]) -> Verdict
     if is_transform(s) {
         return Verdict::Done(text_plan(32, 0, Origin::Copied { first: 2, past }));
     }
-    let colon = first_of(s, b':');
+    let colon = ascii::first_of(s, b':');
     let row = row_of(&s[..colon]);
     if 41 <= row {
         return Verdict::Unknown(colon);

@@ -6,8 +6,8 @@ use native.Mathlib.Omega.{arith}
 use borrow.Author.Needs.{needs}
 use denote.Ref.{now}
 use lib.ListN.{length, drop, getD}
+use Rattle.ascii.specs.Splits.{firstOf}
 use Rattle.ascii.proofs.ListLaws.{rest-is}
-use Rattle.actions.specs.Splits.{firstOf}
 use Rattle.actions.proofs.QuoteLaws.{Cutting, cutting-none, cutting-end, cutting-stop, cutting-opened, cutting-shut, cutting-deep, cutting-other, cutting-open, cutting-closed, run-fits, mark-is}
 use Rattle.actions.proofs.cutting.part_end.Statement.{statement}
 use Rattle.actions.proofs.cutting.part_end.Tie as tie

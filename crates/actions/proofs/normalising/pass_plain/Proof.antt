@@ -5,9 +5,9 @@ use native.Mathlib.Omega.{arith}
 use borrow.Author.Needs.{needs}
 use denote.Ref.{now}
 use lib.ListN.{length, drop, length-drop}
+use Rattle.ascii.specs.Splits.{firstOf}
 use Rattle.ascii.proofs.ListLaws.{rest-is}
-use Rattle.actions.specs.Splits.{firstOf}
-use Rattle.actions.proofs.FindLaws.{first-fits}
+use Rattle.ascii.proofs.SplitLaws.{first-fits}
 use Rattle.actions.proofs.normalising.pass_plain.Statement.{statement}
 use Rattle.actions.proofs.normalising.pass_plain.Tie as tie
 

@@ -6,7 +6,7 @@ use native.Mathlib.Omega.{arith}
 use denote.Ref.{now}
 use lib.ListN.{getD}
 use borrow.Author.Tests.{ne-eqb}
-use Rattle.actions.specs.Splits.{leads}
+use Rattle.ascii.specs.Splits.{leads}
 use Rattle.actions.specs.Plans.{cut}
 use Rattle.actions.proofs.CutLaws.{leads-cut, leads-none, found-within}
 use Rattle.actions.proofs.SettingLaws.{bare-delete, bare-one, bare-both, setvar-planned, deleted, one}
