@@ -7,10 +7,11 @@ use Prim.Native.Nat.{ℕ, suc}
 use native.Mathlib.Omega.{arith}
 use lib.ListN.{length}
 use lib.Dec.{eqb}
+use Rattle.ascii.specs.Splits.{Split, whole, halves}
 use Rattle.names.specs.Variables.{variableCode}
 use Rattle.names.specs.declared.Lookup.{Lookup}
 use Rattle.names.specs.declared.Lookup.the-variants as Lookup
-use Rattle.variables.specs.Variables.{Split, whole, parted, atColon, frontOf, Selection, none, selection, Variable, Single, variable, unknown, named, splitSingle, single, Targets, targets, refused, withVariable, withExclusion, ifKnown, piece, readAll}
+use Rattle.variables.specs.Variables.{atColon, frontOf, Selection, none, selection, Variable, Single, variable, unknown, named, splitSingle, single, Targets, targets, refused, withVariable, withExclusion, ifKnown, piece, readAll}
 use Rattle.variables.specs.Steps.{excludingOf, behindMark, excludedOf}
 use Rattle.variables.specs.Calls.{name, asked, Meant, unasked, found, AllMeant, none as noneMeant, also, Missing, unmarked, unmarkedOf}
 use Rattle.variables.specs.declared.singles.Exclusions.{Exclusions}
@@ -22,11 +23,11 @@ use Rattle.variables.proofs.SingleLaws.{unknown-first}
 -- what the lookup of a name tells: a variable, or the name
 abbrev chosenBy : Split → Selection
 chosenBy (whole s) = none
-chosenBy (parted s t) = selection t
+chosenBy (halves s t) = selection t
 
 split-by : (x : Split) (counts : Bool) → splitSingle x counts ≡ named (variableCode (frontOf x)) (frontOf x) counts (chosenBy x)
 split-by (whole s) counts = refl
-split-by (parted s t) counts = refl
+split-by (halves s t) counts = refl
 
 -- a piece that is read, as an exclusion or as a variable
 data Reads (n : Exclusions) (p : List ℕ) : Type 0 where

@@ -8,22 +8,16 @@ use native.Mathlib.Omega.{arith}
 use lib.ListN.{length, take, drop, length-drop, drop-of-length-le}
 use lib.Seq.{length-take-le, take-add, take-take, drop-at, drop-drop}
 use lib.Dec.{eqb}
-use borrow.Author.Tests.{eq-eqb, ne-eqb}
 use Rattle.ascii.specs.Choice.{pick}
 use Rattle.ascii.specs.Classes.{white}
 use Rattle.ascii.specs.Trim.{stripStart, stripEnd, leading, trimEnds, leadingWhite, trimmedPart}
+use Rattle.ascii.specs.Splits.{firstOf}
 use Rattle.ascii.specs.declared.trimming.Part.{Part}
 use Rattle.ascii.proofs.ListLaws.{rest-is}
-use Rattle.ascii.proofs.TrimLaws.{leading-fits, ends-are, ends-fit}
+use Rattle.ascii.proofs.TrimLaws.{ends-are, ends-fit}
+use Rattle.ascii.proofs.SplitLaws.{first-fits}
 use Rattle.variables.specs.Parts.{onto, cut, kept, filled, pieces}
-use Rattle.variables.specs.Steps.{part, other, upTo, NextPiece}
-
-module _ (b x : ℕ) where
-  pub passes : (x ≡ b → ⊥) → other b x ≡ true
-  passes h = rw (ne-eqb x b h)
-
-  pub stops : x ≡ b → other b x ≡ false
-  stops h = rw (eq-eqb x b h)
+use Rattle.variables.specs.Steps.{part, NextPiece}
 
 -- ---- the first part of a list, and the pieces after it
 
@@ -32,21 +26,21 @@ record Cuts (n : ℕ) (t : List ℕ) (l : List (List ℕ)) : Type 0 where
   pub list : l ≡ take n t ∷ others
   pub after : filled others ≡ pieces (drop (n + 1) t)
 
-cuts : (t : List ℕ) → Cuts (upTo 124 t) t (cut t)
+cuts : (t : List ℕ) → Cuts (firstOf 124 t) t (cut t)
 unfolding cut leading pieces filled stripStart stripEnd
 cuts [] = record { others = []; list = refl; after = refl }
 cuts (b ∷ r) = go (eqb b 124) (cuts r)
   where
-    go : (e : Bool) → Cuts (upTo 124 r) r (cut r)
-        → Cuts (pick (pick e false true) (1 + upTo 124 r) 0) (b ∷ r) (pick e ([] ∷ cut r) (onto b (cut r)))
+    go : (e : Bool) → Cuts (firstOf 124 r) r (cut r)
+        → Cuts (pick (pick e false true) (1 + firstOf 124 r) 0) (b ∷ r) (pick e ([] ∷ cut r) (onto b (cut r)))
     go true x = record { others = cut r; list = refl; after = refl }
     go false x =
-        let e : 1 + upTo 124 r + 1 ≡ suc (upTo 124 r + 1) = omega arith in
+        let e : 1 + firstOf 124 r + 1 ≡ suc (firstOf 124 r + 1) = omega arith in
         record { others = x .others; list = rw one-add (ap (onto b) (x .list)); after = rw e (x .after) }
 
-pub pieces-step : (t : List ℕ) → pieces t ≡ kept (trimEnds (take (upTo 124 t) t)) (pieces (drop (upTo 124 t + 1) t))
+pub pieces-step : (t : List ℕ) → pieces t ≡ kept (trimEnds (take (firstOf 124 t) t)) (pieces (drop (firstOf 124 t + 1) t))
 unfolding pieces filled
-pieces-step t = let x = cuts t in ap filled (x .list) ∙ ap (kept (trimEnds (take (upTo 124 t) t))) (x .after)
+pieces-step t = let x = cuts t in ap filled (x .list) ∙ ap (kept (trimEnds (take (firstOf 124 t) t))) (x .after)
 
 -- ---- a part of a part
 
@@ -80,22 +74,22 @@ kept-none [] ps h = refl
 kept-none (b ∷ p) ps h = absurd (omega arith)
 
 -- n bytes stand before the next bar, and r is where the part up to it is trimmed
-module _ (s : List ℕ) (at n : ℕ) (h : at < length s) (e : n ≡ upTo 124 (take (length s - at) (drop at s))) where
-  n-is : n ≡ upTo 124 (drop at s)
-  n-is = e ∙ ap (upTo 124) (rest-is s at)
+module _ (s : List ℕ) (at n : ℕ) (h : at < length s) (e : n ≡ firstOf 124 (take (length s - at) (drop at s))) where
+  n-is : n ≡ firstOf 124 (drop at s)
+  n-is = e ∙ ap (firstOf 124) (rest-is s at)
 
   pub bar-fits : at + n ≤ length s
-  bar-fits = omega (arith, n-is, leading-fits (other 124) (drop at s), length-drop at s)
+  bar-fits = omega (arith, n-is, first-fits 124 (drop at s), length-drop at s)
 
   abbrev whole : List ℕ
   whole = take (at + n - at) (drop at s)
 
-  whole-is : whole ≡ take (upTo 124 (drop at s)) (drop at s)
-  whole-is = let k : at + n - at ≡ upTo 124 (drop at s) = omega (arith, n-is) in ap (λ (m : ℕ). take m (drop at s)) k
+  whole-is : whole ≡ take (firstOf 124 (drop at s)) (drop at s)
+  whole-is = let k : at + n - at ≡ firstOf 124 (drop at s) = omega (arith, n-is) in ap (λ (m : ℕ). take m (drop at s)) k
 
   step : pieces (drop at s) ≡ kept (trimEnds whole) (pieces (drop (at + n + 1) s))
   step =
-      let m = upTo 124 (drop at s) in
+      let m = firstOf 124 (drop at s) in
       let k : at + (m + 1) ≡ at + n + 1 = omega (arith, n-is) in
       pieces-step (drop at s)
       ∙ ap₂ (λ (p r : List ℕ). kept (trimEnds p) (pieces r)) (sym whole-is) (drop-drop (m + 1) at s ∙ ap (λ (i : ℕ). drop i s) k)

@@ -3,22 +3,21 @@ use mathlib.Core.Path.{_≡_, _∙_, refl, sym, ap}
 use mathlib.Core.Bool.{Bool, true, false}
 use mathlib.Core.List.{List, [], _∷_}
 use Prim.Native.Nat.{ℕ, _+_, _-_, _≤_, _<_}
-use native.Mathlib.Numerals.{one-add}
 use native.Mathlib.Omega.{arith}
 use lib.ListN.{length, take, drop, getD, length-drop, drop-of-length-le}
 use lib.Seq.{drop-drop}
 use lib.Dec.{eqb, ltb}
 use borrow.Author.Tests.{eq-eqb, ne-eqb, le-ltb, lt-ltb, ltb-true}
-use Rattle.ascii.specs.Choice.{pick, and}
-use Rattle.ascii.specs.Trim.{leading}
+use Rattle.ascii.specs.Choice.{and}
+use Rattle.ascii.specs.Splits.{Split, firstOf}
 use Rattle.ascii.proofs.ListLaws.{next-byte, rest-is}
-use Rattle.ascii.proofs.TrimLaws.{leading-fits}
+use Rattle.ascii.proofs.SplitLaws.{joined, first-fits, split-at}
 use Rattle.lent.specs.Sizes.{spanWord}
 use Rattle.names.specs.Variables.{variableCode}
 use Rattle.names.specs.declared.Lookup.{Lookup}
 use Rattle.names.specs.declared.Lookup.the-variants as Lookup
-use Rattle.variables.specs.Variables.{Split, whole, parted, before, atColon, isRegex, selection, Variable, Single, unknown, named, splitSingle, single, Targets, targets, refused, withVariable, frontOf, ifKnown, withExclusion, Excluding, asWritten, lookedUp, piece}
-use Rattle.variables.specs.Steps.{part, other, upTo, selectionAfter, Chose, Found, Missed, Singles, behindMark, IsExclusion, IsUnknown, Pieced}
+use Rattle.variables.specs.Variables.{atColon, isRegex, selection, Variable, Single, unknown, named, splitSingle, single, Targets, targets, refused, withVariable, frontOf, ifKnown, withExclusion, Excluding, asWritten, lookedUp, piece}
+use Rattle.variables.specs.Steps.{part, selectionAfter, Chose, Found, Missed, Singles, behindMark, IsExclusion, IsUnknown, Pieced}
 use Rattle.variables.specs.declared.singles.Chosen.{Chosen}
 use Rattle.variables.specs.declared.singles.Reading.{Reading}
 use Rattle.variables.specs.declared.singles.Reading.the-variants as Reading
@@ -26,36 +25,17 @@ use Rattle.variables.proofs.PlaceLaws.{part-length}
 
 -- ---- at the colon
 
-abbrev joined : List ℕ → List ℕ → Split
-joined a [] = whole a
-joined a (b ∷ r) = parted a r
-
-joined-more : (b : ℕ) (a l : List ℕ) → before b (joined a l) ≡ joined (b ∷ a) l
-joined-more b a [] = refl
-joined-more b a (x ∷ l) = refl
-
-at-colon : (t : List ℕ) → atColon t ≡ joined (take (upTo 58 t) t) (drop (upTo 58 t) t)
-unfolding atColon leading
-at-colon [] = refl
-at-colon (b ∷ r) = go (eqb b 58) (at-colon r)
-  where
-    go : (e : Bool) → atColon r ≡ joined (take (upTo 58 r) r) (drop (upTo 58 r) r)
-        → pick e (parted [] r) (before b (atColon r))
-        ≡ joined (take (pick (pick e false true) (1 + upTo 58 r) 0) (b ∷ r)) (drop (pick (pick e false true) (1 + upTo 58 r) 0) (b ∷ r))
-    go true x = refl
-    go false x = rw one-add (ap (before b) x ∙ joined-more b (take (upTo 58 r) r) (drop (upTo 58 r) r))
-
 module _ (t : List ℕ) where
   split-is : (counts : Bool) → splitSingle (atColon t) counts
-      ≡ named (variableCode (take (upTo 58 t) t)) (take (upTo 58 t) t) counts (selectionAfter (drop (upTo 58 t) t))
-  split-is counts = ap (λ (x : Split). splitSingle x counts) (at-colon t) ∙ go (take (upTo 58 t) t) (drop (upTo 58 t) t)
+      ≡ named (variableCode (take (firstOf 58 t) t)) (take (firstOf 58 t) t) counts (selectionAfter (drop (firstOf 58 t) t))
+  split-is counts = ap (λ (x : Split). splitSingle x counts) (split-at 58 t) ∙ go (take (firstOf 58 t) t) (drop (firstOf 58 t) t)
     where
       go : (a l : List ℕ) → splitSingle (joined a l) counts ≡ named (variableCode a) a counts (selectionAfter l)
       go a [] = refl
       go a (b ∷ r) = refl
 
-  front-is : frontOf (atColon t) ≡ take (upTo 58 t) t
-  front-is = ap frontOf (at-colon t) ∙ go (take (upTo 58 t) t) (drop (upTo 58 t) t)
+  front-is : frontOf (atColon t) ≡ take (firstOf 58 t) t
+  front-is = ap frontOf (split-at 58 t) ∙ go (take (firstOf 58 t) t) (drop (firstOf 58 t) t)
     where
       go : (a l : List ℕ) → frontOf (joined a l) ≡ a
       go a [] = refl
@@ -136,20 +116,20 @@ module _ (p : List ℕ) (colon : ℕ) where
 
 -- ---- a variable's name
 
-module _ (p : List ℕ) (first q : ℕ) (counts : Bool) (h : first ≤ length p) (e : q ≡ upTo 58 (take (length p - first) (drop first p))) where
-  q-is : q ≡ upTo 58 (drop first p)
-  q-is = e ∙ ap (upTo 58) (rest-is p first)
+module _ (p : List ℕ) (first q : ℕ) (counts : Bool) (h : first ≤ length p) (e : q ≡ firstOf 58 (take (length p - first) (drop first p))) where
+  q-is : q ≡ firstOf 58 (drop first p)
+  q-is = e ∙ ap (firstOf 58) (rest-is p first)
 
   pub colon-fits : first + q ≤ length p
-  colon-fits = omega (arith, q-is, leading-fits (other 58) (drop first p), length-drop first p)
+  colon-fits = omega (arith, q-is, first-fits 58 (drop first p), length-drop first p)
 
-  pub name-is : take (first + q - first) (drop first p) ≡ take (upTo 58 (drop first p)) (drop first p)
-  name-is = let k : first + q - first ≡ upTo 58 (drop first p) = omega (arith, q-is) in ap (λ (n : ℕ). take n (drop first p)) k
+  pub name-is : take (first + q - first) (drop first p) ≡ take (firstOf 58 (drop first p)) (drop first p)
+  name-is = let k : first + q - first ≡ firstOf 58 (drop first p) = omega (arith, q-is) in ap (λ (n : ℕ). take n (drop first p)) k
 
   module _ (l : Lookup) (f : l ≡ variableCode (take (first + q - first) (drop first p))) where
     by-lookup : splitSingle (atColon (drop first p)) counts ≡ named l (take (first + q - first) (drop first p)) counts (selectionAfter (drop (first + q) p))
     by-lookup =
-        let n = upTo 58 (drop first p) in
+        let n = firstOf 58 (drop first p) in
         split-is (drop first p) counts
         ∙ ap (λ (x : List ℕ). named (variableCode x) x counts (selectionAfter (drop n (drop first p)))) (sym name-is)
         ∙ ap (λ (x : Lookup). named x (take (first + q - first) (drop first p)) counts (selectionAfter (drop n (drop first p)))) (sym f)
@@ -235,7 +215,7 @@ module _ (p : List ℕ) (l : 0 < length p) (e : getD p 0 0 ≡ 33) where
   pub marked-written : IsExclusion asWritten p
   marked-written = record { is = marked-by asWritten p l e; mark = has-mark p l e }
 
-  module _ (q : ℕ) (f : q ≡ upTo 58 (take (length p - 1) (drop 1 p))) (k : Lookup) (g : k ≡ variableCode (take (1 + q - 1) (drop 1 p))) where
+  module _ (q : ℕ) (f : q ≡ firstOf 58 (take (length p - 1) (drop 1 p))) (k : Lookup) (g : k ≡ variableCode (take (1 + q - 1) (drop 1 p))) where
     looked : (ts : Targets) → piece lookedUp p ts ≡ ifKnown k (take (1 + q - 1) (drop 1 p)) (withExclusion (drop 1 p) ts)
     looked ts =
         let n = front-is (drop 1 p) ∙ sym (name-is p 1 q false (omega arith) f) in

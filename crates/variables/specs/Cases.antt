@@ -7,14 +7,15 @@ use Rattle.ascii.specs.Text.{bytes}
 use Rattle.ascii.specs.Classes.{white}
 use Rattle.ascii.specs.Fold.{upper, same}
 use Rattle.ascii.specs.Trim.{stripStart, stripEnd}
+use Rattle.ascii.specs.Splits.{split}
 use Rattle.names.specs.Tables.{find}
 use Rattle.names.specs.Variables.{variables, variableCode}
 use Rattle.variables.specs.Parts.{cut, filled, pieces}
-use Rattle.variables.specs.Variables.{none, key, regex, Targets, targets, refused, Excluding, asWritten, lookedUp, atColon, selection, single, readAll}
+use Rattle.variables.specs.Variables.{none, key, regex, Targets, targets, refused, Excluding, asWritten, lookedUp, selection, single, readAll}
 
 -- A list read. To unfold it is to unfold every definition that a list is read by.
 unfoldable pub Reads : Excluding → String → Targets → Type 0
-unfolding bytes white upper same stripStart stripEnd find variables variableCode cut filled pieces atColon selection single readAll
+unfolding bytes white upper same stripStart stripEnd find variables variableCode cut filled pieces split selection single readAll
 Reads ex s t = readAll ex (pieces (bytes s)) ≡ t
 
 -- P: two variables, and the exclusion `ARGS:p`

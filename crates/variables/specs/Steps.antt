@@ -1,12 +1,10 @@
 -- What the functions below the two parsers promise.
 use mathlib.Core.Path.{_≡_}
 use Prim.Native.Nat.{ℕ, _+_, _-_, _*_, _≤_, _<_}
-use mathlib.Core.Bool.{Bool, true, false}
 use mathlib.Core.List.{List, [], _∷_}
 use lib.ListN.{length, take, drop}
 use lib.Dec.{eqb}
 use Rattle.ascii.specs.Choice.{pick}
-use Rattle.ascii.specs.Trim.{leading}
 use Rattle.lent.specs.Sizes.{limit, spanWord, variableWords}
 use Rattle.lent.specs.Buffers.{placed}
 use Rattle.lent.specs.Gates.{gateOf}
@@ -31,13 +29,6 @@ use Rattle.variables.specs.declared.writing.Tally.the-variants as Tally
 -- from one place up to another
 abbrev pub part : List ℕ → ℕ → ℕ → List ℕ
 part s from past = take (past - from) (drop from s)
-
--- how many bytes stand before the first b
-abbrev pub other : ℕ → ℕ → Bool
-other b x = pick (eqb x b) false true
-
-abbrev pub upTo : ℕ → List ℕ → ℕ
-upTo b = leading (other b)
 
 -- the next piece from `at` on, and where the parts after it start
 pub record NextPiece (s : List ℕ) (at first past next : ℕ) : Type 0 where

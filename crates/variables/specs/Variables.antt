@@ -5,6 +5,7 @@ use mathlib.Core.List.{List, [], _∷_}
 use lib.ListN.{length, take, drop, getD}
 use lib.Dec.{eqb, ltb}
 use Rattle.ascii.specs.Choice.{pick, and}
+use Rattle.ascii.specs.Splits.{Split, whole, halves, split}
 use Rattle.names.specs.Variables.{variableCode}
 use Rattle.names.specs.declared.Lookup.{Lookup}
 use Rattle.names.specs.declared.Lookup.the-variants.{Code, Unknown}
@@ -12,17 +13,8 @@ use Rattle.names.specs.declared.Lookup.the-variants.{Code, Unknown}
 -- ---- one variable
 
 -- A text before the first colon, and what follows it if there is one: bytes().position(|b| b == b':').
-pub data Split : Type 0 where
-  whole : List ℕ → Split
-  parted : List ℕ → List ℕ → Split
-
-abbrev pub before : ℕ → Split → Split
-before b (whole s) = whole (b ∷ s)
-before b (parted s t) = parted (b ∷ s) t
-
-unfoldable pub atColon : List ℕ → Split
-atColon [] = whole []
-atColon (b ∷ r) = pick (eqb b 58) (parted [] r) (before b (atColon r))
+abbrev pub atColon : List ℕ → Split
+atColon = split 58
 
 -- The Rust's Selection, or none.
 pub data Selection : Type 0 where
@@ -54,7 +46,7 @@ named Unknown name counts chosen = unknown name
 
 abbrev pub splitSingle : Split → Bool → Single
 splitSingle (whole name) counts = named (variableCode name) name counts none
-splitSingle (parted name t) counts = named (variableCode name) name counts (selection t)
+splitSingle (halves name t) counts = named (variableCode name) name counts (selection t)
 
 -- parse_single_variable, on a part that is trimmed: `&` first is count mode.
 unfoldable pub single : List ℕ → Single
@@ -82,7 +74,7 @@ withExclusion e (refused i n) = refused (suc i) n
 -- An exclusion's name up to a colon, looked up: only parse_update_targets does.
 abbrev pub frontOf : Split → List ℕ
 frontOf (whole s) = s
-frontOf (parted s t) = s
+frontOf (halves s t) = s
 
 abbrev pub ifKnown : Lookup → List ℕ → Targets → Targets
 ifKnown (Code c) n ts = ts

@@ -1,20 +1,5 @@
 // Where the pieces of a list stand, by places, so that a piece is a part of the input and no copy.
-ghost use mathlib.Core.Path.{_≡_};
-ghost use Rattle.variables.specs.Steps.{upTo, Nexts};
-
-// How many bytes stand before the first `b`: all, where there is none.
-pub fn length_before(s: &[u8], b: u8) -> usize
-    ensures { λ r. ⌜ r ≡ upTo b (now (s .entry)) ⌝ }
-{
-    let mut i = 0;
-    while i < s.len() {
-        if s[i] == b {
-            return i;
-        }
-        i += 1;
-    }
-    i
-}
+ghost use Rattle.variables.specs.Steps.{Nexts};
 
 // The next piece runs from `first` up to `past`, and the part after its bar starts at `next`.
 pub enum Next {
@@ -32,7 +17,7 @@ pub fn next_piece(s: &[u8], from: usize) -> Next
 {
     let mut at = from;
     while at < s.len() {
-        let bar = at + length_before(&s[at..], b'|');
+        let bar = at + ascii::first_of(&s[at..], b'|');
         let part = ascii::trimmed(&s[at..bar]);
         if part.first < part.past {
             return Next::Piece {

@@ -4,7 +4,6 @@ ghost use Prim.Native.Nat.{_≤_, _<_};
 ghost use lib.ListN.{length, drop, getD};
 ghost use Rattle.variables.specs.Variables.{isRegex, splitSingle, atColon};
 ghost use Rattle.variables.specs.Steps.{selectionAfter, excludingOf, Chose, Singles, Pieced};
-use crate::finding::length_before;
 use names::Lookup;
 
 // What a parser does with the names of exclusions: parse_variables keeps them as written, parse_update_targets looks them up.
@@ -90,7 +89,7 @@ fn named(p: &[u8], first: usize, counts: bool) -> Reading
     requires { ⌜ first ≤ length (now p) ⌝ }
     ensures { λ r. ⌜ Singles (now (p .entry)) (splitSingle (atColon (drop first (now (p .entry)))) counts) r ⌝ }
 {
-    let colon = first + length_before(&p[first..], b':');
+    let colon = first + ascii::first_of(&p[first..], b':');
     match names::variable_code(&p[first..colon]) {
         Lookup::Unknown => Reading::Unknown {
             begin: first,
@@ -120,7 +119,7 @@ fn marked(p: &[u8], exclusions: Exclusions) -> Reading
     match exclusions {
         Exclusions::AsWritten => Reading::Exclusion,
         Exclusions::LookedUp => {
-            let end = 1 + length_before(&p[1..], b':');
+            let end = 1 + ascii::first_of(&p[1..], b':');
             match names::variable_code(&p[1..end]) {
                 Lookup::Code(_) => Reading::Exclusion,
                 Lookup::Unknown => Reading::Unknown { begin: 1, end },

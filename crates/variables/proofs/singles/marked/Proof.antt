@@ -13,20 +13,20 @@ enum-told c = search needs
 enum-told-2 : tie.Need-enum-told-2
 enum-told-2 c = search needs
 
-sub-length-before : tie.Need-sub-length-before
-sub-length-before c = search needs
+sub-first-of : tie.Need-sub-first-of
+sub-first-of c = search needs
 
-part-length-before-start : tie.Need-part-length-before-start
-part-length-before-start c = search needs
+part-first-of-start : tie.Need-part-first-of-start
+part-first-of-start c = search needs
 
-part-length-before-end : tie.Need-part-length-before-end
-part-length-before-end c = search needs
+part-first-of-end : tie.Need-part-first-of-end
+part-first-of-end c = search needs
 
-length-before-requires : tie.Need-length-before-requires
-length-before-requires c κs = search needs
+first-of-requires : tie.Need-first-of-requires
+first-of-requires c κs = search needs
 
 add-end : tie.Need-add-end
-add-end c = omega (arith, colon-fits (now (c .before .before .before .before .before .args .p)) 1 _ false (omega arith) (c .length-before .ensures))
+add-end c = omega (arith, colon-fits (now (c .before .before .before .before .before .args .p)) 1 _ false (omega arith) (c .first-of .ensures))
 
 sub-variable-code : tie.Need-sub-variable-code
 sub-variable-code c = search needs
@@ -35,7 +35,7 @@ part-variable-code-start : tie.Need-part-variable-code-start
 part-variable-code-start c = search needs
 
 part-variable-code-end : tie.Need-part-variable-code-end
-part-variable-code-end c = colon-fits (now (c .before .before .before .before .before .args .p)) 1 _ false (omega arith) (c .length-before .ensures)
+part-variable-code-end c = colon-fits (now (c .before .before .before .before .before .args .p)) 1 _ false (omega arith) (c .first-of .ensures)
 
 variable-code-requires : tie.Need-variable-code-requires
 variable-code-requires c κs = search needs
@@ -52,18 +52,18 @@ returns c = rw (c .enum-told .given .1) (marked-written (now (c .before .before 
 returns-2 : tie.Need-returns-2
 returns-2 c =
     let at-variable-code = c .before .before in
-    let at-length-before = at-variable-code .before .before in
-    let at-enum-told2 = at-length-before .before .before in
+    let at-first-of = at-variable-code .before .before in
+    let at-enum-told2 = at-first-of .before .before in
     let start = at-enum-told2 .before .before .before in
-    rw (at-enum-told2 .enum-told2 .given .1) (marked-known (now (start .args .p)) (start .pre .0) (start .pre .1) _ (at-length-before .length-before .ensures) _ (at-variable-code .variable-code .ensures) _ (c .enum-told3 .given .1))
+    rw (at-enum-told2 .enum-told2 .given .1) (marked-known (now (start .args .p)) (start .pre .0) (start .pre .1) _ (at-first-of .first-of .ensures) _ (at-variable-code .variable-code .ensures) _ (c .enum-told3 .given .1))
 
 returns-3 : tie.Need-returns-3
 returns-3 c =
     let at-variable-code = c .before .before in
-    let at-length-before = at-variable-code .before .before in
-    let at-enum-told2 = at-length-before .before .before in
+    let at-first-of = at-variable-code .before .before in
+    let at-enum-told2 = at-first-of .before .before in
     let start = at-enum-told2 .before .before .before in
-    rw (at-enum-told2 .enum-told2 .given .1) (marked-unknown (now (start .args .p)) (start .pre .0) (start .pre .1) _ (at-length-before .length-before .ensures) _ (at-variable-code .variable-code .ensures) (c .enum-told4 .given .1))
+    rw (at-enum-told2 .enum-told2 .given .1) (marked-unknown (now (start .args .p)) (start .pre .0) (start .pre .1) _ (at-first-of .first-of .ensures) _ (at-variable-code .variable-code .ensures) (c .enum-told4 .given .1))
 
 pub marked-spec : {M : Type 1} → statement M
 marked-spec =
@@ -71,10 +71,10 @@ marked-spec =
     (tie.spec
     enum-told
     enum-told-2
-    sub-length-before
-    part-length-before-start
-    part-length-before-end
-    length-before-requires
+    sub-first-of
+    part-first-of-start
+    part-first-of-end
+    first-of-requires
     add-end
     sub-variable-code
     part-variable-code-start

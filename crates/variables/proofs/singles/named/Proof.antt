@@ -6,20 +6,20 @@ use borrow.Author.Needs.{needs}
 use Rattle.variables.proofs.singles.named.Statement.{statement}
 use Rattle.variables.proofs.singles.named.Tie as tie
 
-sub-length-before : tie.Need-sub-length-before
-sub-length-before c = search needs
+sub-first-of : tie.Need-sub-first-of
+sub-first-of c = search needs
 
-part-length-before-start : tie.Need-part-length-before-start
-part-length-before-start c = search needs
+part-first-of-start : tie.Need-part-first-of-start
+part-first-of-start c = search needs
 
-part-length-before-end : tie.Need-part-length-before-end
-part-length-before-end c = search needs
+part-first-of-end : tie.Need-part-first-of-end
+part-first-of-end c = search needs
 
-length-before-requires : tie.Need-length-before-requires
-length-before-requires c κs = search needs
+first-of-requires : tie.Need-first-of-requires
+first-of-requires c κs = search needs
 
 add-colon : tie.Need-add-colon
-add-colon c = omega (arith, colon-fits (now (c .before .before .before .args .p)) (c .before .before .before .args .first) _ (c .before .before .before .args .counts) (c .before .before .before .pre .1) (c .length-before .ensures))
+add-colon c = omega (arith, colon-fits (now (c .before .before .before .args .p)) (c .before .before .before .args .first) _ (c .before .before .before .args .counts) (c .before .before .before .pre .1) (c .first-of .ensures))
 
 sub-variable-code : tie.Need-sub-variable-code
 sub-variable-code c = search needs
@@ -28,7 +28,7 @@ part-variable-code-start : tie.Need-part-variable-code-start
 part-variable-code-start c = search needs
 
 part-variable-code-end : tie.Need-part-variable-code-end
-part-variable-code-end c = colon-fits (now (c .before .before .before .args .p)) (c .before .before .before .args .first) _ (c .before .before .before .args .counts) (c .before .before .before .pre .1) (c .length-before .ensures)
+part-variable-code-end c = colon-fits (now (c .before .before .before .args .p)) (c .before .before .before .args .first) _ (c .before .before .before .args .counts) (c .before .before .before .pre .1) (c .first-of .ensures)
 
 variable-code-requires : tie.Need-variable-code-requires
 variable-code-requires c κs = search needs
@@ -41,33 +41,33 @@ enum-known-code c = search needs
 
 selection-at-requires : tie.Need-selection-at-requires
 selection-at-requires c κs =
-    let at-length-before = c .before .before .before .before .before in
-    let start = at-length-before .before .before .before in
-    (start .pre .0, colon-fits (now (start .args .p)) (start .args .first) _ (start .args .counts) (start .pre .1) (at-length-before .length-before .ensures))
+    let at-first-of = c .before .before .before .before .before in
+    let start = at-first-of .before .before .before in
+    (start .pre .0, colon-fits (now (start .args .p)) (start .args .first) _ (start .args .counts) (start .pre .1) (at-first-of .first-of .ensures))
 
 returns : tie.Need-returns
 returns c =
     let at-variable-code = c .before .before in
-    let at-length-before = at-variable-code .before .before in
-    let start = at-length-before .before .before .before in
-    named-unknown (now (start .args .p)) (start .args .first) _ (start .args .counts) (start .pre .1) (at-length-before .length-before .ensures) _ (at-variable-code .variable-code .ensures) (c .enum-told .given .1)
+    let at-first-of = at-variable-code .before .before in
+    let start = at-first-of .before .before .before in
+    named-unknown (now (start .args .p)) (start .args .first) _ (start .args .counts) (start .pre .1) (at-first-of .first-of .ensures) _ (at-variable-code .variable-code .ensures) (c .enum-told .given .1)
 
 returns-2 : tie.Need-returns-2
 returns-2 c =
     let at-code = c .before .before in
     let at-variable-code = at-code .before .before in
-    let at-length-before = at-variable-code .before .before in
-    let start = at-length-before .before .before .before in
-    named-code (now (start .args .p)) (start .args .first) _ (start .args .counts) (start .pre .1) (at-length-before .length-before .ensures) _ (at-variable-code .variable-code .ensures) _ (at-code .code .given .1) _ (c .selection-at .ensures)
+    let at-first-of = at-variable-code .before .before in
+    let start = at-first-of .before .before .before in
+    named-code (now (start .args .p)) (start .args .first) _ (start .args .counts) (start .pre .1) (at-first-of .first-of .ensures) _ (at-variable-code .variable-code .ensures) _ (at-code .code .given .1) _ (c .selection-at .ensures)
 
 pub named-spec : {M : Type 1} → statement M
 named-spec =
     tie.close
     (tie.spec
-    sub-length-before
-    part-length-before-start
-    part-length-before-end
-    length-before-requires
+    sub-first-of
+    part-first-of-start
+    part-first-of-end
+    first-of-requires
     add-colon
     sub-variable-code
     part-variable-code-start
