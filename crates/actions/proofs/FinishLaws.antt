@@ -11,13 +11,12 @@ use borrow.Author.Tests.{lt-ltb, le-ltb}
 use borrow.Rule.Slice.PartMut.{midOf, putMid}
 use Rattle.lent.specs.Sizes.{actionWords, roomFor}
 use Rattle.lent.specs.Buffers.{zeros, padded, stored}
-use Rattle.lent.proofs.BufferLaws.{cleared, front-fits, padded-length, padded-front}
+use Rattle.lent.proofs.BufferLaws.{cleared, front-fits, padded-length, padded-front, stored-cleared}
 use Rattle.actions.specs.Normal.{normalised}
 use Rattle.actions.specs.Steps.{Normalises}
 use Rattle.actions.specs.Listing.{overfull, Finished}
 use Rattle.actions.specs.declared.Answer.the-variants as Answer
 use Rattle.actions.proofs.NormalLaws.{normalised-length}
-use Rattle.actions.proofs.WritingLaws.{stored-cleared}
 
 -- a name stored in a buffer that was cleared
 pub refused-text : (old w : List ℕ) {empty new : List ℕ} → empty ≡ zeros (length old) → new ≡ stored empty 0 w → length w ≤ length old → new ≡ padded (length old) w

@@ -2,17 +2,16 @@
 use mathlib.Core.Path.{_≡_, refl, sym, ap, _∙_}
 use mathlib.Core.Bool.{Bool, true, false}
 use mathlib.Core.List.{List, [], _∷_, _++_, append-assoc}
-use Prim.Native.Nat.{ℕ, zero, suc, _+_, _-_, _≤_}
-use native.Mathlib.Nat.{sub-zero, zero-sub, suc-sub-suc, zero-add}
+use Prim.Native.Nat.{ℕ, _+_, _-_, _≤_}
 use native.Mathlib.Omega.{arith}
-use lib.ListN.{length, take, drop, length-append, length-drop, length-map, length-replicate, take-append-drop}
+use lib.ListN.{length, take, drop, length-append, length-drop, length-map, take-append-drop}
 use lib.Seq.{length-take-le}
 use lib.Dec.{leb}
 use Rattle.ascii.specs.Choice.{pick}
 use Rattle.ascii.specs.Fold.{lower, lowered}
 use Rattle.lent.specs.Sizes.{spanWord}
-use Rattle.lent.specs.Buffers.{zeros, padded, placed, stored}
-use Rattle.lent.proofs.BufferLaws.{Written, stored-fits, stored-length, written-stored, taken-stored, written-all}
+use Rattle.lent.specs.Buffers.{placed, stored}
+use Rattle.lent.proofs.BufferLaws.{Written, stored-length, written-stored, taken-stored, written-all}
 use Rattle.actions.specs.Layout.{slotWord, actionText, actionRecord}
 use Rattle.actions.specs.Plans.{cut, originSlot, originText, originWord, Lies, planAction, Put}
 use Rattle.actions.specs.declared.plans.Plan.{Plan}
@@ -49,15 +48,6 @@ module _ (old : List ℕ) (i : ℕ) (xs ys : List ℕ) (h : i + length xs + leng
   stored-twice =
       written-all (written-stored once ys h) both
       ∙ sym (written-all (written-stored start (xs ++ ys) together) (taken-stored start (xs ++ ys) together))
-
--- a name in a buffer that was cleared
-drop-zeros : (i n : ℕ) → drop i (zeros n) ≡ zeros (n - i)
-drop-zeros zero n = rw sub-zero
-drop-zeros (suc i) zero = rw zero-sub
-drop-zeros (suc i) (suc n) = rw suc-sub-suc (drop-zeros i n)
-
-pub stored-cleared : (n : ℕ) (w : List ℕ) → length w ≤ n → stored (zeros n) 0 w ≡ padded n w
-stored-cleared n w h = stored-fits (zeros n) 0 w (rw length-replicate (omega arith)) ∙ rw (zero-add, drop-zeros)
 
 -- ---- one text
 

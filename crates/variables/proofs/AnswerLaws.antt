@@ -2,20 +2,20 @@
 use mathlib.Core.Path.{_≡_, _∙_, refl, sym, ap, ap₂, subst}
 use mathlib.Core.Bool.{Bool, true, false}
 use mathlib.Core.List.{List, [], _∷_, _++_}
-use Prim.Native.Nat.{ℕ, zero, suc, _+_, _-_, _*_, _≤_, _<_}
+use Prim.Native.Nat.{ℕ, _+_, _-_, _*_, _≤_, _<_}
 use native.Mathlib.Omega.{arith}
-use lib.ListN.{length, drop, length-append, length-replicate}
+use lib.ListN.{length, drop, length-append}
 use lib.Dec.{eqb, lit<}
 use borrow.Author.Tests.{lt-ltb, le-ltb, ne-eqb}
 use borrow.Rule.Slice.PartMut.{midOf, putMid}
 use Rattle.ascii.specs.Choice.{pick}
 use Rattle.lent.specs.Sizes.{variableWords, roomFor}
-use Rattle.lent.specs.Buffers.{zeros, padded, stored}
+use Rattle.lent.specs.Buffers.{zeros, stored}
 use Rattle.lent.specs.Gates.{gateOf}
 use Rattle.lent.specs.Table.{unknownVariable, refuses}
 use Rattle.lent.specs.declared.gating.Gate.{Gate}
 use Rattle.lent.specs.declared.gating.Gate.the-variants as Gate
-use Rattle.lent.proofs.BufferLaws.{written-all, written-first, taken-first, cleared}
+use Rattle.lent.proofs.BufferLaws.{cleared, stored-cleared}
 use Rattle.lent.proofs.SpanLaws.{room-is}
 use Rattle.variables.specs.Parts.{pieces}
 use Rattle.variables.specs.Variables.{Variable, Targets, targets, refused, readAll}
@@ -73,18 +73,6 @@ pub used-fits : {n : Exclusions} {s text text₁ records records₁ : List ℕ} 
     → AllRead n s text text₁ records records₁ variables excluded used → used ≤ length s
 used-fits {n} {s} x = omega (arith, x .wrote .used-is, x .fits, length-append (selectionTexts (x .vs)) (textsOf itself (excludedOf (pieces s))))
 
--- zeros with a text at the front
-zeros-rest : (k n : ℕ) → drop k (zeros n) ≡ zeros (n - k)
-zeros-rest zero n = let e : n - 0 ≡ n = omega arith in rw e
-zeros-rest (suc k) zero = let e : 0 - suc k ≡ 0 = omega arith in rw e
-zeros-rest (suc k) (suc n) = let e : suc n - suc k ≡ n - k = omega arith in rw e (zeros-rest k n)
-
-zeros-stored : (n : ℕ) (xs : List ℕ) → length xs ≤ n → stored (zeros n) 0 xs ≡ padded n xs
-zeros-stored n xs h =
-    let l = length-replicate {A = ℕ} n 0 in
-    let k : length xs ≤ length (zeros n) = omega arith in
-    written-all (written-first (zeros n) xs k) (taken-first (zeros n) xs k) ∙ ap (λ (r : List ℕ). xs ++ r) (zeros-rest (length xs) n)
-
 pub refused-is : (n : Exclusions) (s : List ℕ) (m i : ℕ) (name : List ℕ) → readAll (excludingOf n) (pieces s) ≡ refused i name
     → readOutcome n s m ≡ refuses (unknownVariable i name)
 unfolding readOutcome
@@ -105,7 +93,7 @@ module _ (n : Exclusions) (s text records : List ℕ) where
       let k = part-length s first past (x .inside) in
       record {
         answer = rw (e, k);
-        texts = rw e (d ∙ ap (λ (t : List ℕ). stored t 0 (part s first past)) (a ∙ ap zeros l) ∙ zeros-stored (length text) (part s first past) (omega (arith, k, x .inside)));
+        texts = rw e (d ∙ ap (λ (t : List ℕ). stored t 0 (part s first past)) (a ∙ ap zeros l) ∙ stored-cleared (length text) (part s first past) (omega (arith, k, x .inside)));
         words = rw e (b ∙ ap zeros m);
       }
 
