@@ -5,7 +5,7 @@ use mathlib.Core.Bool.{Bool, true, false}
 use mathlib.Core.List.{List, [], _∷_, _++_}
 use lib.ListN.{length, drop}
 use lib.Dec.{ltb, leb, eqb}
-use Rattle.ascii.specs.Choice.{pick}
+use Rattle.ascii.specs.Choice.{pick, bit}
 use Rattle.lent.specs.Sizes.{cursorMost, tokenWords, roomFor}
 use Rattle.lent.specs.Gates.{gateOf}
 use Rattle.lent.specs.Table.{Given, given, tooLong, notAscii, shortBuffer, noRoom, badCursor, refused, refusedText, Outcome, refuses, reads, pastGate, Filled, givenBy, textBy, recordsBy}
@@ -20,10 +20,6 @@ use Rattle.lexer.specs.declared.writing.Answer.{Answer}
 use Rattle.lexer.specs.declared.writing.Answer.the-variants as Answer
 
 -- ---- one token
-
-abbrev pub bit : Bool → ℕ
-bit true = 1
-bit false = 0
 
 -- A cursor's values: place, line, column and mark.
 abbrev pub cursorValues : Cursor → List ℕ

@@ -6,7 +6,7 @@ use Prim.Native.Nat.{ℕ, _-_, _≤_}
 use native.Mathlib.Omega.{arith}
 use lib.ListN.{length, drop, take}
 use lib.Seq.{length-take-le}
-use Rattle.ascii.specs.Choice.{pick}
+use Rattle.ascii.specs.Choice.{pick, bit}
 use Rattle.ascii.specs.Classes.{white}
 use Rattle.ascii.specs.Trim.{trimStart, trimEnds}
 use Rattle.ascii.proofs.TrimLaws.{ends-fit, leading-fits}
@@ -15,7 +15,7 @@ use Rattle.names.specs.Operators.{operatorCode}
 use Rattle.names.specs.declared.Lookup.the-variants as Lookup
 use Rattle.operators.specs.Operators.{Reading, spec, unknown, starts, nameLength, nameOf, afterName, unsigned, operator, inName}
 use Rattle.operators.specs.Places.{textEnd, bodyPlace, afterAt, namePlace, namePast, isNamed, argumentPlace, foundOf}
-use Rattle.operators.specs.Promises.{bit, answerGiven, outcomeOf, givenBy}
+use Rattle.operators.specs.Promises.{answerGiven, outcomeOf, givenBy}
 use Rattle.operators.specs.declared.finding.Found.{Found}
 use Rattle.operators.specs.declared.Answer.the-variants as Answer
 use Rattle.operators.proofs.PlaceLaws.{past-fits, name-stands, argumentText, argument-stands, argument-fits}

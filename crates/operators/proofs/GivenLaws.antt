@@ -1,21 +1,16 @@
 -- What is given back tells the answer: the paper's number and values lose nothing of it, so a promise is met by one answer only.
 -- The idea: `answerFrom` reads an answer back from its number and values.
 use mathlib.Core.Path.{_≡_, _∙_, refl, sym, ap}
-use mathlib.Core.Bool.{Bool, true, false}
 use mathlib.Core.List.{List}
 use Prim.Native.Nat.{ℕ}
 use lib.ListN.{getD}
 use lib.Dec.{eqb}
 use Rattle.ascii.specs.Choice.{pick}
-use Rattle.ascii.proofs.OneAnswer.{one-answer}
+use Rattle.ascii.proofs.OneAnswer.{one-answer, bit-back}
 use Rattle.lent.specs.Table.{Given}
-use Rattle.operators.specs.Promises.{bit, answerGiven, ParseOperator, OperatorArgument}
+use Rattle.operators.specs.Promises.{answerGiven, ParseOperator, OperatorArgument}
 use Rattle.operators.specs.declared.Answer.{Answer}
 use Rattle.operators.specs.declared.Answer.the-variants as Answer
-
-bit-back : (m : Bool) → eqb (bit m) 1 ≡ m
-bit-back true = refl
-bit-back false = refl
 
 answerFrom : Given → Answer
 answerFrom g =

@@ -1,19 +1,15 @@
 -- What the two public calls promise, by document 01's table.
 use mathlib.Core.Path.{_≡_}
 use Prim.Native.Nat.{ℕ}
-use mathlib.Core.Bool.{Bool, true, false}
 use mathlib.Core.List.{List, [], _∷_}
 use lib.ListN.{length}
+use Rattle.ascii.specs.Choice.{bit}
 use Rattle.lent.specs.Gates.{gateOf}
 use Rattle.lent.specs.Table.{Given, given, refused, tooLong, notAscii, unknownOperator, Outcome, refuses, reads, pastGate}
 use Rattle.operators.specs.Operators.{Spec, Reading, accepted, unknown, operator}
 use Rattle.operators.specs.Places.{namePlace, argumentPlace}
 use Rattle.operators.specs.declared.Answer.{Answer}
 use Rattle.operators.specs.declared.Answer.the-variants as Answer
-
-abbrev pub bit : Bool → ℕ
-bit true = 1
-bit false = 0
 
 -- The paper's number and values for each answer: with 0, whether it is negated and the name's code.
 abbrev pub answerGiven : Answer → Given

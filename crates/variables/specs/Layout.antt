@@ -1,14 +1,10 @@
 -- How targets become records and texts: variables first, then the exclusions, and their texts in that order.
 use Prim.Native.Nat.{ℕ, _+_}
-use mathlib.Core.Bool.{Bool, true, false}
 use mathlib.Core.List.{List, [], _∷_, _++_}
 use lib.ListN.{length}
+use Rattle.ascii.specs.Choice.{bit}
 use Rattle.lent.specs.Sizes.{spanWord}
 use Rattle.variables.specs.Variables.{Selection, none, key, regex, Variable}
-
-abbrev pub bit : Bool → ℕ
-bit true = 1
-bit false = 0
 
 -- The number of a selection's kind, and its text.
 abbrev pub selectionCode : Selection → ℕ

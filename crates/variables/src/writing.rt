@@ -2,9 +2,9 @@
 ghost use mathlib.Core.Path.{_≡_};
 ghost use Prim.Native.Nat.{_+_, _*_, _≤_};
 ghost use lib.ListN.{length};
+ghost use Rattle.ascii.specs.Choice.{bit};
 ghost use Rattle.lent.specs.Sizes.{limit, variableWords};
 ghost use Rattle.lent.specs.Buffers.{stored};
-ghost use Rattle.variables.specs.Layout.{bit};
 ghost use Rattle.variables.specs.Parts.{pieces};
 ghost use Rattle.variables.specs.Steps.{part, entrySpan, entryWords, Narrow, Scanned, excludedOf, keptOf, Added};
 use crate::finding::Next;
