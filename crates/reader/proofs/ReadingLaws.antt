@@ -29,12 +29,12 @@ use denote.Triple.Clauses.{Clauses, Ended, closing}
 use denote.Triple.Entry.{Args, onEntry}
 use denote.Triple.Spec.{Meets}
 use denote.Triple.Walked.{Stays, AllGo, walkOf, walked, walk-meets}
 use Rattle.lexer.specs.declared.Cursor.{Cursor}
-use Rattle.lexer.specs.declared.reading.Reader.{Reader}
+use Rattle.reader.specs.declared.Reader.{Reader}
 use Rattle.lexer.proofs.Cursor as Cur
 use Rattle.lexer.proofs.Cursor.Laws as Cur′
-use Rattle.lexer.proofs.reading.Reader as T
-use Rattle.lexer.proofs.reading.Reader.Laws as T′
+use Rattle.reader.proofs.Reader as T
+use Rattle.reader.proofs.Reader.Laws as T′
 
 -- the lifetime that a reader names: the first of a signature, however many it has
 abbrev first : Lft → NamedLft

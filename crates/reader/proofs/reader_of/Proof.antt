@@ -35,20 +35,20 @@ use denote.Triple.Spec.{tripleOf}
 use denote.Triple.Table.{entered, cited}
 use denote.Triple.Walked.{says, Stays, stay-none-slice, walkOf, goes-none-slice, ends-at}
 use denote.Exit.{yes}
 use Rattle.lexer.specs.Cursors.{fresh}
 use Rattle.lexer.specs.declared.Cursor.{Cursor}
-use Rattle.lexer.specs.declared.reading.Reader.{Reader}
+use Rattle.reader.specs.declared.Reader.{Reader}
 use Rattle.lexer.proofs.Cursor as Cur
 use Rattle.lexer.proofs.Cursor.Laws as Cur′
-use Rattle.lexer.proofs.reading.Reader.Laws as T′
-use Rattle.lexer.proofs.ReadingLaws.{TextT, slice, IsCursor, cursor-typed, put-in, meets}
-use Rattle.lexer.proofs.writing.start as start
-use Rattle.lexer.proofs.writing.start.Symbol as start-def
-use Rattle.lexer.proofs.writing.start.Met as start-thm
-use Rattle.lexer.proofs.reading.reader_of.Key.{name as key}
-use Rattle.lexer.proofs.reading.reader_of as f
-use Rattle.lexer.proofs.reading.reader_of.Statement as stated
-use Rattle.lexer.proofs.reading.reader_of.Code as code
+use Rattle.reader.proofs.Reader.Laws as T′
+use Rattle.reader.proofs.ReadingLaws.{TextT, slice, IsCursor, cursor-typed, put-in, meets}
+use Rattle.lexer.proofs.start as start
+use Rattle.lexer.proofs.start.Symbol as start-def
+use Rattle.lexer.proofs.start.Met as start-thm
+use Rattle.reader.proofs.reader_of.Key.{name as key}
+use Rattle.reader.proofs.reader_of as f
+use Rattle.reader.proofs.reader_of.Statement as stated
+use Rattle.reader.proofs.reader_of.Code as code
 
 abbrev stayed : Stays (f.ended .signature .params) (f.ended .kept)
 stayed = (stay-none-slice (0 ∷ []) tt (plain (λ _. u8)) yes, tt)
@@ -112,4 +112,4 @@ reader-of-spec 𝓤 H 𝓜 𝓖 𝓡 =
     entered 𝓤 H (tripleOf 𝓤 H (𝓖 .A) f.signature (f.spec 𝓤 H (𝓖 .A) (𝓜 .mem) (𝓡 .run))) (tables 𝓤 H 𝓜 𝓡 code.env .C) (tables 𝓤 H 𝓜 𝓡 code.env .Λ) key code.function (code.unfolded 𝓤 H 𝓜 𝓡)
     (meets 𝓤 H (𝓖 .A) W f.ended stayed (f.clauses 𝓤 H (𝓖 .A) (𝓜 .mem) (𝓡 .run)) code.function 𝓣 (goes-none-slice 𝓤 H (𝓖 .A) W 1 (0 ∷ []) tt (plain (λ _. u8)) yes, tt)
     (λ κs. (slice-vals, tt)) (λ κs. (shr-slice-tells (named 0) (κs .0) u8, tt)) (λ κs qs bounds a g are. walk 𝓤 H (𝓖 .A) W (𝓜 .mem) (𝓡 .run) (κs .0) (qs .0) (a .0) 𝓣
-    (cited 𝓤 H (Start 𝓤 H (𝓖 .A) (𝓜 .mem) (𝓡 .run)) 𝓜 𝓡 code.env start-def.name start-def.routine code.calls-lexer·writing·start (start-thm.met 𝓤 H 𝓜 𝓖 𝓡)) (are .0)))
+    (cited 𝓤 H (Start 𝓤 H (𝓖 .A) (𝓜 .mem) (𝓡 .run)) 𝓜 𝓡 code.env start-def.name start-def.routine code.calls-lexer·start (start-thm.met 𝓤 H 𝓜 𝓖 𝓡)) (are .0)))

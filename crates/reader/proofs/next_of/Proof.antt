@@ -38,22 +38,22 @@ use denote.Triple.Spec.{tripleOf}
 use denote.Triple.Table.{entered, cited}
 use denote.Triple.Walked.{says, Stays, stay-none, gave-slice, walkOf, goes-none, goes-gave-slice, ends-at}
 use denote.Exit.{yes}
 use Rattle.lexer.specs.Promises.{NextToken}
-use Rattle.lexer.specs.declared.reading.Reader.{Reader}
+use Rattle.reader.specs.declared.Reader.{Reader}
 use Rattle.lexer.specs.declared.stepping.Step.{Step}
 use Rattle.lexer.proofs.Cursor as Cur
 use Rattle.lexer.proofs.Cursor.Laws as Cur′
 use Rattle.lexer.proofs.stepping.Step as S
 use Rattle.lexer.proofs.stepping.Step.Laws as S′
-use Rattle.lexer.proofs.reading.Reader.Laws as T′
-use Rattle.lexer.proofs.ReadingLaws.{ReaderT, ReaderD, ReaderL, TextT, BufferT, textTy, fieldTys, slice, IsReader, cursor-of, cursor-made, reader-typed, text-out, meets}
-use Rattle.lexer.proofs.stepping.next_token as next
-use Rattle.lexer.proofs.stepping.next_token.Symbol as next-def
-use Rattle.lexer.proofs.stepping.next_token.Met as next-thm
-use Rattle.lexer.proofs.reading.next_of.Key.{name as key}
-use Rattle.lexer.proofs.reading.next_of as f
-use Rattle.lexer.proofs.reading.next_of.Statement as stated
-use Rattle.lexer.proofs.reading.next_of.Code as code
+use Rattle.reader.proofs.Reader.Laws as T′
+use Rattle.reader.proofs.ReadingLaws.{ReaderT, ReaderD, ReaderL, TextT, BufferT, textTy, fieldTys, slice, IsReader, cursor-of, cursor-made, reader-typed, text-out, meets}
+use Rattle.lexer.proofs.next_token as next
+use Rattle.lexer.proofs.next_token.Symbol as next-def
+use Rattle.lexer.proofs.next_token.Met as next-thm
+use Rattle.reader.proofs.next_of.Key.{name as key}
+use Rattle.reader.proofs.next_of as f
+use Rattle.reader.proofs.next_of.Statement as stated
+use Rattle.reader.proofs.next_of.Code as code
 
 abbrev stayed : Stays (f.ended .signature .params) (f.ended .kept)
 stayed = (stay-none (λ κs. ReaderT (κs .0)) yes, (gave-slice (1 ∷ []) tt (plain (λ _. u8)), tt))
@@ -141,4 +141,4 @@ next-of-spec 𝓤 H 𝓜 𝓖 𝓡 =
     (goes-none 𝓤 H (𝓖 .A) W 2 (λ κs. ReaderT (κs .0)) yes (λ κs x f. refl), (goes-gave-slice 𝓤 H (𝓖 .A) W 2 1 tt (plain (λ _. u8)), tt))
     (λ κs. (LL.vals (ReaderD (κs .0)) (ReaderL (κs .0)), (slice-vals, tt))) (λ κs. (LL.tells (ReaderD (κs .0)) (ReaderL (κs .0)), (mut-slice-tells (named 1) (κs .1 .0) u8, tt)))
     (λ κs qs bounds a g are. walk 𝓤 H (𝓖 .A) W (𝓜 .mem) (𝓡 .run) (κs .0) (κs .1 .0) (qs .0) (qs .1 .0) (a .0) (a .1 .0) 𝓣
-    (cited 𝓤 H (Next 𝓤 H (𝓖 .A) (𝓜 .mem) (𝓡 .run)) 𝓜 𝓡 code.env next-def.name next-def.routine code.calls-lexer·stepping·next-token (next-thm.met 𝓤 H 𝓜 𝓖 𝓡)) (are .0) (are .1 .0)))
+    (cited 𝓤 H (Next 𝓤 H (𝓖 .A) (𝓜 .mem) (𝓡 .run)) 𝓜 𝓡 code.env next-def.name next-def.routine code.calls-lexer·next-token (next-thm.met 𝓤 H 𝓜 𝓖 𝓡)) (are .0) (are .1 .0)))

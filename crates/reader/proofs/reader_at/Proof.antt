@@ -22,16 +22,16 @@ use denote.Triple.Spec.{tripleOf}
 use denote.Triple.Table.{entered}
 use denote.Triple.Walked.{says, Stays, stay-none, walkOf, goes-none, ends-at}
 use denote.Exit.{yes}
 use Rattle.lexer.specs.declared.Cursor.{Cursor}
-use Rattle.lexer.specs.declared.reading.Reader.{Reader}
+use Rattle.reader.specs.declared.Reader.{Reader}
 use Rattle.lexer.proofs.Cursor as Cur
 use Rattle.lexer.proofs.Cursor.Laws as Cur′
-use Rattle.lexer.proofs.reading.Reader.Laws as T′
-use Rattle.lexer.proofs.ReadingLaws.{ReaderT, ReaderD, ReaderL, TextT, slice, IsCursor, IsReader, cursor-typed, reader-typed, text-out, put-in, meets}
-use Rattle.lexer.proofs.reading.reader_at.Key.{name as key}
-use Rattle.lexer.proofs.reading.reader_at as f
-use Rattle.lexer.proofs.reading.reader_at.Statement as stated
-use Rattle.lexer.proofs.reading.reader_at.Code as code
+use Rattle.reader.proofs.Reader.Laws as T′
+use Rattle.reader.proofs.ReadingLaws.{ReaderT, ReaderD, ReaderL, TextT, slice, IsCursor, IsReader, cursor-typed, reader-typed, text-out, put-in, meets}
+use Rattle.reader.proofs.reader_at.Key.{name as key}
+use Rattle.reader.proofs.reader_at as f
+use Rattle.reader.proofs.reader_at.Statement as stated
+use Rattle.reader.proofs.reader_at.Code as code
 
 abbrev stayed : Stays (f.ended .signature .params) (f.ended .kept)
 stayed = (stay-none (λ κs. ReaderT (κs .0)) yes, (stay-none (λ _. Cur.the-row) yes, tt))

@@ -1,11 +1,11 @@
 // A reader that holds its text, as the Rust's lexer does; the work is next_token's.
 ghost use mathlib.Core.Path.{_≡_};
 ghost use Rattle.lexer.specs.Cursors.{fresh};
 ghost use Rattle.lexer.specs.Promises.{NextToken};
-use crate::Cursor;
-use crate::stepping::Step;
-use crate::stepping::next_token;
-use crate::writing::start;
+use lexer::Cursor;
+use lexer::Step;
+use lexer::next_token;
+use lexer::start;
 
 // The Rust's Lexer<'a>: the text, and where reading stands in it.
 pub struct Reader<'a> {

@@ -37,25 +37,25 @@ use denote.Triple.Spec.{tripleOf}
 use denote.Triple.Table.{entered, cited}
 use denote.Triple.Walked.{says, Stays, stay-none-slice, gave-slice, walkOf, goes-none-slice, goes-gave-slice, ends-at}
 use denote.Exit.{yes}
 use Rattle.lexer.specs.Cursors.{fresh}
 use Rattle.lexer.specs.Promises.{NextToken}
-use Rattle.lexer.specs.declared.reading.Reader.{Reader}
+use Rattle.reader.specs.declared.Reader.{Reader}
 use Rattle.lexer.specs.declared.stepping.Step.{Step}
 use Rattle.lexer.proofs.stepping.Step as S
 use Rattle.lexer.proofs.stepping.Step.Laws as S′
-use Rattle.lexer.proofs.reading.Reader as T
-use Rattle.lexer.proofs.reading.Reader.Laws as T′
-use Rattle.lexer.proofs.ReadingLaws.{ReaderT, TextT, BufferT, slice, meets}
-use Rattle.lexer.proofs.reading.reader_of as of
-use Rattle.lexer.proofs.reading.reader_of.Symbol as of-def
-use Rattle.lexer.proofs.reading.reader_of.Met as of-thm
-use Rattle.lexer.proofs.reading.next_of as next
-use Rattle.lexer.proofs.reading.next_of.Symbol as next-def
-use Rattle.lexer.proofs.reading.next_of.Met as next-thm
-use Rattle.lexer.proofs.reading.first_token.Key.{name as key}
-use Rattle.lexer.proofs.reading.first_token as f
-use Rattle.lexer.proofs.reading.first_token.Statement as stated
-use Rattle.lexer.proofs.reading.first_token.Code as code
+use Rattle.reader.proofs.Reader as T
+use Rattle.reader.proofs.Reader.Laws as T′
+use Rattle.reader.proofs.ReadingLaws.{ReaderT, TextT, BufferT, slice, meets}
+use Rattle.reader.proofs.reader_of as of
+use Rattle.reader.proofs.reader_of.Symbol as of-def
+use Rattle.reader.proofs.reader_of.Met as of-thm
+use Rattle.reader.proofs.next_of as next
+use Rattle.reader.proofs.next_of.Symbol as next-def
+use Rattle.reader.proofs.next_of.Met as next-thm
+use Rattle.reader.proofs.first_token.Key.{name as key}
+use Rattle.reader.proofs.first_token as f
+use Rattle.reader.proofs.first_token.Statement as stated
+use Rattle.reader.proofs.first_token.Code as code
 
 abbrev stayed : Stays (f.ended .signature .params) (f.ended .kept)
 stayed = (stay-none-slice (0 ∷ []) tt (plain (λ _. u8)) yes, (gave-slice (1 ∷ []) tt (plain (λ _. u8)), tt))
@@ -162,5 +162,5 @@ first-token-spec 𝓤 H 𝓜 𝓖 𝓡 =
     (goes-none-slice 𝓤 H (𝓖 .A) W 2 (0 ∷ []) tt (plain (λ _. u8)) yes, (goes-gave-slice 𝓤 H (𝓖 .A) W 2 1 tt (plain (λ _. u8)), tt))
     (λ κs. (slice-vals, (slice-vals, tt))) (λ κs. (shr-slice-tells (named 0) (κs .0) u8, (mut-slice-tells (named 1) (κs .1 .0) u8, tt)))
     (λ κs qs bounds a g are. walk 𝓤 H (𝓖 .A) W (𝓜 .mem) (𝓡 .run) (κs .0) (κs .1 .0) (qs .0) (qs .1 .0) (a .0) (a .1 .0) 𝓣
-    (cited 𝓤 H (Of 𝓤 H (𝓖 .A) (𝓜 .mem) (𝓡 .run)) 𝓜 𝓡 code.env of-def.name of-def.routine code.calls-lexer·reading·reader-of (of-thm.met 𝓤 H 𝓜 𝓖 𝓡))
-    (cited 𝓤 H (Next 𝓤 H (𝓖 .A) (𝓜 .mem) (𝓡 .run)) 𝓜 𝓡 code.env next-def.name next-def.routine code.calls-lexer·reading·next-of (next-thm.met 𝓤 H 𝓜 𝓖 𝓡)) (are .0) (are .1 .0)))
+    (cited 𝓤 H (Of 𝓤 H (𝓖 .A) (𝓜 .mem) (𝓡 .run)) 𝓜 𝓡 code.env of-def.name of-def.routine code.calls-reader·reader-of (of-thm.met 𝓤 H 𝓜 𝓖 𝓡))
+    (cited 𝓤 H (Next 𝓤 H (𝓖 .A) (𝓜 .mem) (𝓡 .run)) 𝓜 𝓡 code.env next-def.name next-def.routine code.calls-reader·next-of (next-thm.met 𝓤 H 𝓜 𝓖 𝓡)) (are .0) (are .1 .0)))
