@@ -1,0 +1,111 @@
+-- The promises of parse_actions and parse_setvar are total, have no second answer, and keep to document 01's table.
+-- The idea: a list is refused at a piece with 5 or 6 or not at all, and past it only for its room, so that there is an answer for each.
+use mathlib.Core.Path.{refl, ap₂}
+use mathlib.Core.Bool.{Bool, true, false}
+use mathlib.Core.List.{List, [], _∷_}
+use Prim.Native.Nat.{ℕ, suc, _+_}
+use lib.ListN.{length}
+use lib.Dec.{ltb}
+use Rattle.ascii.specs.Choice.{pick}
+use Rattle.lent.specs.Sizes.{actionWords, roomFor}
+use Rattle.lent.specs.Gates.{gateOf}
+use Rattle.lent.specs.Table.{noRoom, Outcome, refuses, reads, Filled, textBy, recordsBy}
+use Rattle.actions.specs.Normal.{normalised}
+use Rattle.actions.specs.Pieces.{pieces}
+use Rattle.actions.specs.Actions.{Action, Single, done, bad, unknown, single}
+use Rattle.actions.specs.Lists.{actionThen, singleThen, actionsFrom, actionsOf}
+use Rattle.actions.specs.Promises as A
+use Rattle.actions.specs.declared.Answer.{Answer}
+use Rattle.actions.specs.declared.Answer.the-variants as Answer
+use Rattle.actions.proofs.GivenLaws.{parse-actions-once, setvar-once}
+use Rattle.demands.specs.Fixed.{Fixed}
+use Rattle.demands.specs.Calls.{Lent, Left, parse-actions-promise, parse-setvar-promise}
+use Rattle.demands.specs.Rows.{Row}
+use Rattle.demands.proofs.FixedLaws.{left-same}
+use Rattle.demands.proofs.RowLaws.{row-of}
+use Rattle.demands.proofs.AnswerLaws.{Answered, Gated, past-gate}
+
+abbrev AnsweredActions : Outcome Filled → Type 0
+AnsweredActions = Answered A.answerGiven
+
+-- a list's refusal has an answer
+abbrev Told : Outcome (List Action) → Type 0
+Told (refuses f) = AnsweredActions (refuses f)
+Told (reads xs) = Unit {0}
+
+then-told : (x : Action) (o : Outcome (List Action)) → Told o → Told (actionThen x o)
+then-told x (refuses f) t = t
+then-told x (reads xs) t = tt
+
+single-told : (k : ℕ) (x : Single) (o : Outcome (List Action)) → Told o → Told (singleThen k x o)
+single-told k (done x) o t = then-told x o t
+single-told k (bad name) o t = record { answer = Answer.BadArgument k (length name); is = refl; filling = tt }
+single-told k (unknown name) o t = record { answer = Answer.UnknownAction k (length name); is = refl; filling = tt }
+
+from-told : (k : ℕ) (ps : List (List ℕ)) → Told (actionsFrom k ps)
+unfolding actionsFrom
+from-told k [] = tt
+from-told k (p ∷ ps) = single-told k (single p) (actionsFrom (suc k) ps) (from-told (suc k) ps)
+
+room-told : (m : ℕ) (o : Outcome (List Action)) → Told o → AnsweredActions (A.roomed m o)
+room-told m (refuses f) t = t
+room-told m (reads xs) t = go (ltb (roomFor actionWords m) (length xs))
+  where
+    go : (b : Bool) → AnsweredActions (pick b (refuses (noRoom (length xs))) (reads (A.laidOut xs)))
+    go true = record { answer = Answer.NoRoom (length xs); is = refl; filling = tt }
+    go false = record { answer = Answer.Read (length xs) _; is = refl; filling = tt }
+
+gated : Gated A.answerGiven
+gated = record { long = (Answer.TooLong, refl); high = λ p. (Answer.NotAscii p, refl); short = (Answer.Short, refl) }
+
+-- ---- a list
+
+abbrev listOutcome : Lent × List ℕ → Outcome Filled
+listOutcome i = A.actionsOutcome (i .0 .input) (length (i .0 .text)) (length (i .1)) (length (i .0 .records))
+
+list-answered : (i : Lent × List ℕ) → AnsweredActions (listOutcome i)
+unfolding A.actionsOutcome actionsOf
+list-answered i =
+    past-gate A.answerGiven gated (A.actionsGate (i .0 .input) (length (i .0 .text)) (length (i .1))) _
+    (room-told (length (i .0 .records)) (actionsOf (i .0 .input)) (from-told 0 (pieces (normalised (i .0 .input)))))
+
+pub parse-actions-fixed : Fixed (Lent × List ℕ) (Left Answer × List ℕ) parse-actions-promise
+parse-actions-fixed = record {
+  total = λ i.
+      let o = listOutcome i in
+      let a = list-answered i in
+      let scratch = A.scratchBy (A.actionsGate (i .0 .input) (length (i .0 .text)) (length (i .1))) (i .0 .input) (i .1) in (
+        (record { answer = a .answer; text = textBy o (i .0 .text); records = recordsBy o (i .0 .records) }, scratch),
+        record { answer = a .is; texts = refl; words = refl; scratch = refl },
+      );
+  once = λ i o p x y.
+      let e = parse-actions-once x y in
+      ap₂ (λ (a : Left Answer) (b : List ℕ). (a, b)) (left-same (o .0) (p .0) (e .0, e .1, e .2)) (e .3);
+}
+
+pub parse-actions-row : (i : Lent × List ℕ) (o : Left Answer × List ℕ) → parse-actions-promise i o
+    → Row (A.answerGiven (o .0 .answer)) (i .0 .text) (o .0 .text) (i .0 .records) (o .0 .records)
+parse-actions-row i o x = row-of (listOutcome i) (list-answered i .filling) (x .answer) (x .texts) (x .words)
+
+-- ---- a setvar alone
+
+abbrev aloneOutcome : Lent → Outcome Filled
+aloneOutcome i = A.setvarOutcome (i .input) (length (i .text)) (length (i .records))
+
+alone-answered : (i : Lent) → AnsweredActions (aloneOutcome i)
+unfolding A.setvarOutcome
+alone-answered i =
+    past-gate A.answerGiven gated (gateOf (i .input) (length (i .text)) (length (i .input) + 3)) _
+    (room-told (length (i .records)) (reads (A.setvarAlone (i .input))) tt)
+
+pub parse-setvar-fixed : Fixed Lent (Left Answer) parse-setvar-promise
+parse-setvar-fixed = record {
+  total = λ i.
+      let o = aloneOutcome i in
+      let a = alone-answered i in
+      (record { answer = a .answer; text = textBy o (i .text); records = recordsBy o (i .records) }, record { answer = a .is; texts = refl; words = refl });
+  once = λ i o p x y. left-same o p (setvar-once x y);
+}
+
+pub parse-setvar-row : (i : Lent) (o : Left Answer) → parse-setvar-promise i o → Row (A.answerGiven (o .answer)) (i .text) (o .text) (i .records) (o .records)
+parse-setvar-row i o x = row-of (aloneOutcome i) (alone-answered i .filling) (x .answer) (x .texts) (x .words)

@@ -1,0 +1,89 @@
+-- Demand 1. Every public call takes any input and any lent buffers, ends, and relies on nothing that the caller must take care of.
+-- It refuses by the numbers in document 01 and leaves the buffers as that table states.
+use Rattle.lexer.specs.Cursors.{fresh}
+use Rattle.demands.specs.Demand1.{Demand1}
+use Rattle.demands.proofs.FixedLaws.{gives}
+use Rattle.demands.proofs.TokenCalls.{next-token-fixed, tokens-fixed, tokens-row}
+use Rattle.demands.proofs.ActionCalls.{parse-actions-fixed, parse-setvar-fixed, parse-actions-row, parse-setvar-row}
+use Rattle.demands.proofs.VariableCalls.{parse-variables-fixed, parse-update-targets-fixed, parse-variables-row, parse-update-targets-row}
+use Rattle.demands.proofs.OperatorCalls.{parse-operator-fixed, operator-argument-fixed}
+use Rattle.demands.proofs.ListingCalls.{write-listing-fixed, write-refusal-fixed, list-text-fixed}
+
+pub demand1 : Demand1
+demand1 = record {
+  of-bytes = record {
+    is-white = gives _;
+    ends-operator-name = gives _;
+    is-digit = gives _;
+    is-letter = gives _;
+    to-lower = gives _;
+    to-upper = gives _;
+    same-lowered = gives _;
+    leading-white = gives _;
+    trimmed-len = gives _;
+    trim-start = gives _;
+    trim-end = gives _;
+    trim = gives _;
+    trimmed = gives _;
+    first-of = gives _;
+    digits = gives _;
+    unsigned = gives _;
+    signed = gives _;
+  };
+  of-lent = record {
+    admit = gives _;
+    first-high = gives _;
+    span = gives _;
+    span-offset = gives _;
+    span-length = gives _;
+    room = gives _;
+    clear-bytes = gives _;
+    clear-words = gives _;
+    store-bytes = gives _;
+    store-words = gives _;
+  };
+  of-names = record {
+    variable-code = gives _;
+    operator-code = gives _;
+    severity-code = gives _;
+    is-collection = gives _;
+    is-implemented = gives _;
+    requires-argument = gives _;
+    xml-target = gives _;
+    matches = gives _;
+    phase = gives _;
+    grade = gives _;
+  };
+  of-lexer = record {
+    start = gives _;
+    next-token = next-token-fixed;
+    tokens = tokens-fixed;
+    reader-of = λ Ref. gives _;
+    reader-at = λ Ref. gives _;
+    next-of = next-token-fixed;
+    first-token = record {
+      total = λ i. next-token-fixed .total (record { input = i .0; from = fresh; buffer = i .1 });
+      once = λ i. next-token-fixed .once (record { input = i .0; from = fresh; buffer = i .1 });
+    };
+  };
+  of-parsers = record {
+    parse-actions = parse-actions-fixed;
+    parse-setvar = parse-setvar-fixed;
+    parse-variables = parse-variables-fixed;
+    parse-update-targets = parse-update-targets-fixed;
+    parse-operator = parse-operator-fixed;
+    operator-argument = operator-argument-fixed;
+  };
+  of-listing = record {
+    write-listing = write-listing-fixed;
+    write-refusal = write-refusal-fixed;
+    list-text = list-text-fixed;
+  };
+  by-table = record {
+    tokens = tokens-row;
+    parse-actions = parse-actions-row;
+    parse-setvar = parse-setvar-row;
+    parse-variables = parse-variables-row;
+    parse-update-targets = parse-update-targets-row;
+  };
+}

@@ -1,0 +1,171 @@
+-- Demand 2. Within 16,384 ASCII bytes tokens, records and the first error equal the Rust's: by differential runs, and by proof against
+-- definitions of its rules. Severity words follow the ModSecurity Reference Manual, listings RFC 8259.
+-- The idea: an input that the gate lets pass leaves only the definitions; the crates' own laws have the numbers.
+use mathlib.Core.Path.{_≡_, _∙_, refl, ap}
+use mathlib.Core.Bool.{Bool, true, false}
+use mathlib.Core.List.{List}
+use mathlib.Core.Logic.{_↔_, Iff·trans, inl, inr}
+use Prim.Native.Nat.{ℕ, _+_, _≤_, _<_, min}
+use native.Mathlib.Omega.{arith}
+use lib.ListN.{length}
+use lib.Dec.{ltb}
+use borrow.Author.Tests.{lt-ltb, le-ltb, ltb-true, ltb-false}
+use Rattle.lent.specs.Sizes.{actionWords, roomFor}
+use Rattle.lent.specs.Table.{Given, Outcome, refuses, reads, Filled, givenBy, textBy, recordsBy}
+use Rattle.lent.specs.declared.gating.Gate.{Gate}
+use Rattle.lent.specs.declared.gating.Gate.the-variants.{Open}
+use Rattle.lent.proofs.GateLaws.{Opened, row-gate}
+use Rattle.lent.proofs.OutcomeLaws.{numberOf, past-row}
+use Rattle.lexer.specs.Promises as Lexer
+use Rattle.lexer.proofs.ReadLaws.{tokens-0, tokens-1, tokens-2, tokens-3, tokens-4}
+use Rattle.lexer.proofs.PromiseLaws.{next-token-0, next-token-1, next-token-2, next-token-3, next-token-9, next-token-reads}
+use Rattle.actions.specs.Lists.{actionsOf}
+use Rattle.actions.specs.Promises as Actions
+use Rattle.actions.specs.declared.Answer as Listed
+use Rattle.actions.proofs.NumberLaws.{parse-actions-numbers}
+use Rattle.actions.proofs.OutcomeLaws.{alone-1, alone-2, alone-3, alone-past}
+use Rattle.variables.specs.Parts as Variable
+use Rattle.variables.specs.Variables.{asWritten, lookedUp, readAll}
+use Rattle.variables.specs.Promises as Variables
+use Rattle.variables.specs.declared.Answer as Read
+use Rattle.variables.specs.declared.singles.Exclusions.{Exclusions}
+use Rattle.variables.proofs.PromiseLaws as Targets
+use Rattle.operators.specs.Operators.{operator}
+use Rattle.operators.specs.Promises as Operators
+use Rattle.operators.proofs.PromiseLaws.{parse-operator-0, parse-operator-1, parse-operator-2, parse-operator-8}
+use Rattle.listing.proofs.JsonLaws.{printed-json}
+use Rattle.demands.specs.Calls.{Lent, Left, parse-setvar-promise}
+use Rattle.demands.specs.Demand2.{Equals, tokensIn, Equal, Exact, SetvarExact, TargetsExact, Demand2}
+
+-- ---- what is given back and left
+
+-- a call that comes to p, which is o
+same : {o p : Outcome Filled} {g : Given} {text text′ records records′ : List ℕ} → p ≡ o
+    → g ≡ givenBy p → text′ ≡ textBy p text → records′ ≡ recordsBy p records → Equals o g text text′ records records′
+same {text = text} {records = records} e a t w = record {
+  answer = a ∙ ap givenBy e;
+  texts = t ∙ ap (λ (o : Outcome Filled). textBy o text) e;
+  words = w ∙ ap (λ (o : Outcome Filled). recordsBy o records) e;
+}
+
+tokens-are : (s : List ℕ) (n m : ℕ) → Opened s n (length s) → Lexer.tokensOutcome s n m ≡ tokensIn m s
+unfolding Lexer.tokensOutcome
+tokens-are s n m h = past-row s n (length s) (tokensIn m s) Open h
+
+actions-are : (s : List ℕ) (n k m : ℕ) → Opened s (min n k) (length s) → Actions.actionsOutcome s n k m ≡ Actions.roomed m (actionsOf s)
+unfolding Actions.actionsOutcome
+actions-are s n k m h = past-row s (min n k) (length s) (Actions.roomed m (actionsOf s)) Open h
+
+setvar-is : (s : List ℕ) (n m : ℕ) → Opened s n (length s + 3) → Actions.setvarOutcome s n m ≡ Actions.roomed m (reads (Actions.setvarAlone s))
+unfolding Actions.setvarOutcome
+setvar-is s n m h = past-row s n (length s + 3) (Actions.roomed m (reads (Actions.setvarAlone s))) Open h
+
+variables-are : (s : List ℕ) (n m : ℕ) → Opened s n (length s) → Variables.variablesOutcome s n m ≡ Variables.hung m (readAll asWritten (Variable.pieces s))
+unfolding Variables.variablesOutcome
+variables-are s n m h = past-row s n (length s) (Variables.hung m (readAll asWritten (Variable.pieces s))) Open h
+
+updates-are : (s : List ℕ) (n m : ℕ) → Opened s n (length s) → Variables.updateOutcome s n m ≡ Variables.updated m (readAll lookedUp (Variable.pieces s))
+unfolding Variables.updateOutcome
+updates-are s n m h = past-row s n (length s) (Variables.updated m (readAll lookedUp (Variable.pieces s))) Open h
+
+operator-is : (s : List ℕ) → Opened s 0 0 → Operators.operatorOutcome s ≡ Operators.outcomeOf s (operator s)
+unfolding Operators.operatorOutcome
+operator-is s h = past-row s 0 0 (Operators.outcomeOf s (operator s)) Open h
+
+equal : Equal
+equal = record {
+  tokens = λ i o x h. same (tokens-are (i .input) (length (i .text)) (length (i .records)) h) (x .answer) (x .texts) (x .words);
+  next-token = λ i o x h f. next-token-reads x h f;
+  parse-actions = λ i o x h. (
+    same (actions-are (i .0 .input) (length (i .0 .text)) (length (i .1)) (length (i .0 .records)) h) (x .answer) (x .texts) (x .words),
+    x .scratch ∙ ap (λ (g : Gate). Actions.scratchBy g (i .0 .input) (i .1)) (row-gate (i .0 .input) (min (length (i .0 .text)) (length (i .1))) (length (i .0 .input)) Open h),
+  );
+  parse-setvar = λ i o x h. same (setvar-is (i .input) (length (i .text)) (length (i .records)) h) (x .answer) (x .texts) (x .words);
+  parse-variables = λ i o x h. same (variables-are (i .input) (length (i .text)) (length (i .records)) h) (x .answer) (x .texts) (x .words);
+  parse-update-targets = λ i o x h. same (updates-are (i .input) (length (i .text)) (length (i .records)) h) (x .answer) (x .texts) (x .words);
+  parse-operator = λ s r x h. x .answer ∙ ap Operators.givenBy (operator-is s h);
+  operator-argument = λ s part x h. x .argument ∙ ap Operators.argumentBy (operator-is s h);
+  listing = λ s. printed-json s;
+}
+
+-- ---- each number exactly when
+
+given-number : (o : Outcome Filled) → givenBy o .number ≡ numberOf o
+given-number (refuses f) = refl
+given-number (reads x) = refl
+
+-- one record: it fits, or it does not
+module _ (s : List ℕ) (m : ℕ) where
+  abbrev alone : Outcome Filled
+  alone = Actions.roomed m (reads (Actions.setvarAlone s))
+
+  full : roomFor actionWords m < 1 → numberOf alone ≡ 4
+  full h = rw (lt-ltb (roomFor actionWords m) 1 h)
+
+  fits : 1 ≤ roomFor actionWords m → numberOf alone ≡ 0
+  fits h = rw (le-ltb (roomFor actionWords m) 1 h)
+
+  is-full : (numberOf alone ≡ 4) ↔ (roomFor actionWords m < 1)
+  is-full = (λ e. go (ltb (roomFor actionWords m) 1) refl e, full)
+    where
+      go : (b : Bool) → ltb (roomFor actionWords m) 1 ≡ b → numberOf alone ≡ 4 → roomFor actionWords m < 1
+      go true t e = ltb-true (roomFor actionWords m) 1 t
+      go false t e = absurd (omega (arith, e, fits (ltb-false (roomFor actionWords m) 1 t)))
+
+  is-fit : (numberOf alone ≡ 0) ↔ (1 ≤ roomFor actionWords m)
+  is-fit = (λ e. go (ltb (roomFor actionWords m) 1) refl e, fits)
+    where
+      go : (b : Bool) → ltb (roomFor actionWords m) 1 ≡ b → numberOf alone ≡ 0 → 1 ≤ roomFor actionWords m
+      go true t e = absurd (omega (arith, e, full (ltb-true (roomFor actionWords m) 1 t)))
+      go false t e = ltb-false (roomFor actionWords m) 1 t
+
+-- both sides of a pair of facts, the second in other words
+second : {A B C : Type 0} → B ↔ C → (A × B) ↔ (A × C)
+second w = (λ p. (p .0, w .0 (p .1)), λ p. (p .0, w .1 (p .1)))
+
+setvar-exact : (i : Lent) (o : Left Listed.Answer) → parse-setvar-promise i o
+    → SetvarExact (i .input) (length (i .text)) (length (i .records)) (Actions.answerGiven (o .answer) .number)
+setvar-exact i o x =
+    let s = i .input in
+    let n = length (i .text) in
+    let m = length (i .records) in
+    let e : Actions.answerGiven (o .answer) .number ≡ numberOf (Actions.setvarOutcome s n m) =
+    ap (λ (g : Given). g .number) (x .answer) ∙ given-number (Actions.setvarOutcome s n m) in
+    rw e
+    (record {
+      gate = record { one = alone-1 s n m; two = alone-2 s n m; three = alone-3 s n m };
+      four = Iff·trans (alone-past s n m 4 (inr (omega arith))) (second (is-full s m));
+      zero = Iff·trans (alone-past s n m 0 (inl refl)) (second (is-fit s m));
+    })
+
+targets-exact : (x : Exclusions) (s text text′ records records′ : List ℕ) (r : Read.Answer) → Targets.Numbers x s text text′ records records′ r
+    → TargetsExact x s (length text) (length records) (Variables.answerGiven r .number)
+targets-exact x s text text′ records records′ r k = record {
+  gate = record { one = k .number-1; two = k .number-2; three = k .number-3 };
+  seven = k .number-7;
+  four = k .number-4;
+  zero = k .number-0;
+}
+
+exact : Exact
+exact = record {
+  tokens = λ i o x. record { gate = record { one = tokens-1 x; two = tokens-2 x; three = tokens-3 x }; four = tokens-4 x; zero = tokens-0 x };
+  next-token = λ i o x.
+      record { gate = record { one = next-token-1 x; two = next-token-2 x; three = next-token-3 x }; nine = next-token-9 x; zero = next-token-0 x };
+  parse-actions = λ i o x.
+      let k = parse-actions-numbers x in
+      record {
+        gate = record { one = k .number-1; two = k .number-2; three = k .number-3 };
+        five = k .number-5;
+        six = k .number-6;
+        four = k .number-4;
+        zero = k .number-0;
+      };
+  parse-setvar = setvar-exact;
+  parse-variables = λ i o x. targets-exact _ (i .input) (i .text) (o .text) (i .records) (o .records) (o .answer) (Targets.parse-variables-numbers (i .input) x);
+  parse-update-targets = λ i o x. targets-exact _ (i .input) (i .text) (o .text) (i .records) (o .records) (o .answer) (Targets.parse-update-targets-numbers (i .input) x);
+  parse-operator = λ s r x. record { one = parse-operator-1 x; two = parse-operator-2 x; eight = parse-operator-8 x; zero = parse-operator-0 x };
+}
+
+pub demand2 : Demand2
+demand2 = record { equal = equal; exact = exact }

@@ -1,0 +1,13 @@
+pub mod FixedLaws
+pub mod TokenCalls
+pub mod ActionCalls
+pub mod VariableCalls
+pub mod OperatorCalls
+pub mod ListingCalls
+pub mod RowLaws
+pub mod AnswerLaws
+pub mod Demand1
+pub mod Worked
+pub mod Demand3
+pub mod Demand2
+pub mod Functions

@@ -1,0 +1,95 @@
+-- The promises of parse_variables and parse_update_targets are total, have no second answer, and keep to document 01's table.
+use mathlib.Core.Path.{refl}
+use mathlib.Core.Bool.{Bool, true, false}
+use mathlib.Core.List.{List, [], _∷_}
+use Prim.Native.Nat.{ℕ, _+_}
+use lib.ListN.{length}
+use lib.Dec.{ltb}
+use Rattle.ascii.specs.Choice.{pick}
+use Rattle.lent.specs.Sizes.{variableWords, roomFor}
+use Rattle.lent.specs.Gates.{gateOf}
+use Rattle.lent.specs.Table.{noRoom, Outcome, refuses, reads, Filled, textBy, recordsBy}
+use Rattle.variables.specs.Parts.{pieces}
+use Rattle.variables.specs.Variables.{Variable, Targets, targets, refused, asWritten, lookedUp, readAll}
+use Rattle.variables.specs.Promises as Vars
+use Rattle.variables.specs.declared.Answer.{Answer}
+use Rattle.variables.specs.declared.Answer.the-variants as Answer
+use Rattle.variables.proofs.GivenLaws.{meets-once}
+use Rattle.demands.specs.Fixed.{Fixed}
+use Rattle.demands.specs.Calls.{Lent, Left, parse-variables-promise, parse-update-targets-promise}
+use Rattle.demands.specs.Rows.{Row}
+use Rattle.demands.proofs.FixedLaws.{left-same}
+use Rattle.demands.proofs.RowLaws.{row-of}
+use Rattle.demands.proofs.AnswerLaws.{Answered, Gated, past-gate}
+
+abbrev AnsweredVariables : Outcome Filled → Type 0
+AnsweredVariables = Answered Vars.answerGiven
+
+room-told : (m : ℕ) (vs : List Variable) (es : List (List ℕ)) → AnsweredVariables (Vars.roomed m vs es)
+room-told m vs es = go (ltb (roomFor variableWords m) (length vs + length es))
+  where
+    go : (b : Bool) → AnsweredVariables (pick b (refuses (noRoom (length vs + length es))) (reads (Vars.laidOut vs es)))
+    go true = record { answer = Answer.NoRoom (length vs + length es); is = refl; filling = tt }
+    go false = record { answer = Answer.Read (length vs + length es) _; is = refl; filling = tt }
+
+update-told : (m : ℕ) (t : Targets) → AnsweredVariables (Vars.updated m t)
+update-told m (targets vs es) = room-told m vs es
+update-told m (refused i name) = record { answer = Answer.Unknown i (length name); is = refl; filling = tt }
+
+hung-told : (m : ℕ) (t : Targets) → AnsweredVariables (Vars.hung m t)
+hung-told m (targets [] es) = room-told m [] []
+hung-told m (targets (v ∷ vs) es) = room-told m (v ∷ vs) es
+hung-told m (refused i name) = record { answer = Answer.Unknown i (length name); is = refl; filling = tt }
+
+gated : Gated Vars.answerGiven
+gated = record { long = (Answer.TooLong, refl); high = λ p. (Answer.NotAscii p, refl); short = (Answer.Short, refl) }
+
+-- either, by what a call comes to
+module _ (o : Lent → Outcome Filled) (a : (i : Lent) → AnsweredVariables (o i)) where
+  abbrev Met : Lent → Left Answer → Type 0
+  Met i l = Vars.Meets (o i) (i .text) (l .text) (i .records) (l .records) (l .answer)
+
+  met-fixed : Fixed Lent (Left Answer) Met
+  met-fixed = record {
+    total = λ i.
+        (record { answer = a i .answer; text = textBy (o i) (i .text); records = recordsBy (o i) (i .records) }, record { answer = a i .is; texts = refl; words = refl });
+    once = λ i l k x y. left-same l k (meets-once x y);
+  }
+
+  met-row : (i : Lent) (l : Left Answer) → Met i l → Row (Vars.answerGiven (l .answer)) (i .text) (l .text) (i .records) (l .records)
+  met-row i l x = row-of (o i) (a i .filling) (x .answer) (x .texts) (x .words)
+
+-- ---- parse_variables
+
+abbrev listOutcome : Lent → Outcome Filled
+listOutcome i = Vars.variablesOutcome (i .input) (length (i .text)) (length (i .records))
+
+list-answered : (i : Lent) → AnsweredVariables (listOutcome i)
+unfolding Vars.variablesOutcome
+list-answered i =
+    past-gate Vars.answerGiven gated (gateOf (i .input) (length (i .text)) (length (i .input))) _
+    (hung-told (length (i .records)) (readAll asWritten (pieces (i .input))))
+
+pub parse-variables-fixed : Fixed Lent (Left Answer) parse-variables-promise
+parse-variables-fixed = met-fixed listOutcome list-answered
+
+pub parse-variables-row : (i : Lent) (o : Left Answer) → parse-variables-promise i o → Row (Vars.answerGiven (o .answer)) (i .text) (o .text) (i .records) (o .records)
+parse-variables-row = met-row listOutcome list-answered
+
+-- ---- parse_update_targets
+
+abbrev updatesOutcome : Lent → Outcome Filled
+updatesOutcome i = Vars.updateOutcome (i .input) (length (i .text)) (length (i .records))
+
+updates-answered : (i : Lent) → AnsweredVariables (updatesOutcome i)
+unfolding Vars.updateOutcome
+updates-answered i =
+    past-gate Vars.answerGiven gated (gateOf (i .input) (length (i .text)) (length (i .input))) _
+    (update-told (length (i .records)) (readAll lookedUp (pieces (i .input))))
+
+pub parse-update-targets-fixed : Fixed Lent (Left Answer) parse-update-targets-promise
+parse-update-targets-fixed = met-fixed updatesOutcome updates-answered
+
+pub parse-update-targets-row : (i : Lent) (o : Left Answer) → parse-update-targets-promise i o
+    → Row (Vars.answerGiven (o .answer)) (i .text) (o .text) (i .records) (o .records)
+parse-update-targets-row = met-row updatesOutcome updates-answered

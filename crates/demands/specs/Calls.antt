@@ -1,0 +1,95 @@
+-- What the readers are lent, and what they leave.
+use Prim.Native.Nat.{ℕ}
+use mathlib.Core.List.{List}
+use Rattle.lexer.specs.declared.Cursor.{Cursor}
+use Rattle.lexer.specs.Promises.{NextToken, Tokens}
+use Rattle.lexer.specs.declared.stepping.Step.{Step}
+use Rattle.lexer.specs.declared.writing.Answer as Lexer
+use Rattle.actions.specs.Promises.{ParseActions, SetvarAlone}
+use Rattle.actions.specs.declared.Answer as Actions
+use Rattle.variables.specs.Promises.{ParseVariables, ParseUpdateTargets}
+use Rattle.variables.specs.declared.Answer as Variables
+use Rattle.operators.specs.Promises.{ParseOperator, OperatorArgument}
+use Rattle.operators.specs.declared.Answer as Operators
+use Rattle.listing.specs.declared.Stop.{Stop}
+use Rattle.listing.specs.Promises.{WriteListing, WriteRefusal, ListText}
+use Rattle.listing.specs.declared.Answer as Listing
+
+-- ---- what goes in, and what comes out
+
+-- An input, a text buffer and a record buffer.
+pub record Lent : Type 0 where
+  pub input : List ℕ
+  pub text : List ℕ
+  pub records : List ℕ
+
+-- An answer, and both buffers afterwards.
+pub record Left (Answer : Type 0) : Type 0 where
+  pub answer : Answer
+  pub text : List ℕ
+  pub records : List ℕ
+
+-- An answer, and the one buffer lent.
+pub record Wrote (Answer : Type 0) : Type 0 where
+  pub answer : Answer
+  pub buffer : List ℕ
+
+-- ---- the readers
+
+-- next_token, next_of and first_token: a text, a cursor and a buffer for the token's text.
+pub record Place : Type 0 where
+  pub input : List ℕ
+  pub from : Cursor
+  pub buffer : List ℕ
+
+abbrev pub next-token-promise : Place → Wrote Step → Type 0
+next-token-promise i o = NextToken (i .input) (i .from) (i .buffer) (o .buffer) (o .answer)
+
+abbrev pub tokens-promise : Lent → Left Lexer.Answer → Type 0
+tokens-promise i o = Tokens (i .input) (i .text) (o .text) (i .records) (o .records) (o .answer)
+
+-- parse_actions has a scratch buffer besides.
+abbrev pub parse-actions-promise : Lent × List ℕ → Left Actions.Answer × List ℕ → Type 0
+parse-actions-promise i o =
+    ParseActions (i .0 .input) (i .0 .text) (o .0 .text) (i .1) (o .1) (i .0 .records) (o .0 .records) (o .0 .answer)
+
+abbrev pub parse-setvar-promise : Lent → Left Actions.Answer → Type 0
+parse-setvar-promise i o = SetvarAlone (i .input) (i .text) (o .text) (i .records) (o .records) (o .answer)
+
+abbrev pub parse-variables-promise : Lent → Left Variables.Answer → Type 0
+parse-variables-promise i o = ParseVariables (i .input) (i .text) (o .text) (i .records) (o .records) (o .answer)
+
+abbrev pub parse-update-targets-promise : Lent → Left Variables.Answer → Type 0
+parse-update-targets-promise i o = ParseUpdateTargets (i .input) (i .text) (o .text) (i .records) (o .records) (o .answer)
+
+-- Nothing is lent but the input.
+abbrev pub parse-operator-promise : List ℕ → Operators.Answer → Type 0
+parse-operator-promise = ParseOperator
+
+abbrev pub operator-argument-promise : List ℕ → List ℕ → Type 0
+operator-argument-promise = OperatorArgument
+
+-- ---- the listings
+
+-- Token records, their texts, where reading stopped, and the buffer for the listing.
+pub record Records : Type 0 where
+  pub words : List ℕ
+  pub texts : List ℕ
+  pub stop : Stop
+  pub buffer : List ℕ
+
+abbrev pub write-listing-promise : Records → Wrote Listing.Answer → Type 0
+write-listing-promise i o = WriteListing (i .words) (i .texts) (i .stop) (i .buffer) (o .buffer) (o .answer)
+
+-- A refusal's number and place, and the buffer.
+pub record Refusal : Type 0 where
+  pub number : ℕ
+  pub place : ℕ
+  pub buffer : List ℕ
+
+abbrev pub write-refusal-promise : Refusal → Wrote Listing.Answer → Type 0
+write-refusal-promise i o = WriteRefusal (i .number) (i .place) (i .buffer) (o .buffer) (o .answer)
+
+-- The reader's buffers, and one for the line.
+abbrev pub list-text-promise : Lent × List ℕ → Left Listing.Answer × List ℕ → Type 0
+list-text-promise i o = ListText (i .0 .input) (i .0 .text) (o .0 .text) (i .0 .records) (o .0 .records) (i .1) (o .1) (o .0 .answer)

@@ -1,0 +1,147 @@
+-- Demand 2. Within 16,384 ASCII bytes tokens, records and the first error equal the Rust's: by differential runs, and by proof against
+-- definitions of its rules. Severity words follow the ModSecurity Reference Manual, listings RFC 8259.
+-- Said here of every reader, in two parts. What is given back and left is what the definitions say (`Equals`): `reading`, `actionsOf`,
+-- `setvar`, `readAll` and `operator` are the Rust's rules. And each number is given exactly when document 01 says so (`Exact`).
+use mathlib.Core.Path.{_≡_}
+use mathlib.Core.List.{List, _++_}
+use mathlib.Core.Logic.{_↔_}
+use Prim.Native.Nat.{ℕ, _+_, _≤_, _<_, min}
+use lib.ListN.{length, drop}
+use lib.Dec.{ltb}
+use Rattle.ascii.specs.Choice.{pick}
+use Rattle.lent.specs.Sizes.{limit, tokenWords, actionWords, variableWords, roomFor}
+use Rattle.lent.specs.Buffers.{padded}
+use Rattle.lent.specs.Table.{Given, given, noRoom, Outcome, refuses, reads, Filled, givenBy, textBy, recordsBy}
+use Rattle.lent.proofs.HighLaws.{FirstAt}
+use Rattle.lent.proofs.GateLaws.{Opened, Shortened}
+use Rattle.lexer.specs.Tokens.{next, reading}
+use Rattle.lexer.specs.Calls.{Fit, Astray, needed}
+use Rattle.lexer.specs.Promises as Lexer
+use Rattle.lexer.specs.declared.stepping.Step.{Step}
+use Rattle.lexer.specs.declared.writing.Answer as Tokens
+use Rattle.actions.specs.Normal.{normalised}
+use Rattle.actions.specs.Pieces as Action
+use Rattle.actions.specs.Actions.{bad, unknown}
+use Rattle.actions.specs.Lists.{actionsOf}
+use Rattle.actions.specs.Calls.{AllDone, FirstRefused}
+use Rattle.actions.specs.Promises as Actions
+use Rattle.actions.specs.declared.Answer as Listed
+use Rattle.variables.specs.Parts as Variable
+use Rattle.variables.specs.Variables.{asWritten, lookedUp, readAll}
+use Rattle.variables.specs.Calls as Targets
+use Rattle.variables.specs.Promises as Variables
+use Rattle.variables.specs.declared.Answer as Read
+use Rattle.variables.specs.declared.singles.Exclusions.{Exclusions}
+use Rattle.variables.specs.declared.singles.Exclusions.the-variants.{AsWritten, LookedUp}
+use Rattle.operators.specs.Operators.{operator}
+use Rattle.operators.specs.Calls as Operator
+use Rattle.operators.specs.Promises as Operators
+use Rattle.operators.specs.declared.Answer as Parsed
+use Rattle.listing.specs.Grammar.{JsonText}
+use Rattle.listing.specs.Listings.{printed}
+use Rattle.demands.specs.Calls.{Lent, Left, Wrote, Place, next-token-promise, tokens-promise, parse-actions-promise, parse-setvar-promise, parse-variables-promise, parse-update-targets-promise, parse-operator-promise, operator-argument-promise}
+
+-- ---- what is given back and left
+
+-- A number and values, and both buffers, as an outcome of the definitions has them.
+pub record Equals (o : Outcome Filled) (g : Given) (text text′ records records′ : List ℕ) : Type 0 where
+  pub answer : g ≡ givenBy o
+  pub texts : text′ ≡ textBy o text
+  pub words : records′ ≡ recordsBy o records
+
+-- What a text's tokens come to in a record buffer of m words: 4 where they do not fit.
+abbrev pub tokensIn : ℕ → List ℕ → Outcome Filled
+tokensIn m s =
+    pick (ltb (roomFor tokenWords m) (length (reading s .tokens))) (refuses (noRoom (length (reading s .tokens)))) (reads (Lexer.laidOut (reading s)))
+
+-- Within the limit, in ASCII, and with buffers as long as asked (`Opened`), whatever the record buffer.
+pub record Equal : Type 0 where
+  pub tokens : (i : Lent) (o : Left Tokens.Answer) → tokens-promise i o → Opened (i .input) (length (i .text)) (length (i .input))
+      → Equals (tokensIn (length (i .records)) (i .input)) (Lexer.answerGiven (o .answer)) (i .text) (o .text) (i .records) (o .records)
+  -- at every cursor that fits; the text is written at the buffer's front, and nothing beyond is touched
+  pub next-token : (i : Place) (o : Wrote Step) → next-token-promise i o → Opened (i .input) (length (i .buffer)) (length (i .input)) → Fit (i .input) (i .from)
+      → (Lexer.stepGiven (o .answer) ≡ given 0 (Lexer.stepValues (next (drop (i .from .place) (i .input)) (i .from))))
+      × (o .buffer ≡ Lexer.stepText (next (drop (i .from .place) (i .input)) (i .from)) ++ drop (length (Lexer.stepText (next (drop (i .from .place) (i .input)) (i .from)))) (i .buffer))
+  -- with the normalised text in the scratch buffer, on a refusal too
+  pub parse-actions : (i : Lent × List ℕ) (o : Left Listed.Answer × List ℕ) → parse-actions-promise i o
+      → Opened (i .0 .input) (min (length (i .0 .text)) (length (i .1))) (length (i .0 .input))
+      → Equals (Actions.roomed (length (i .0 .records)) (actionsOf (i .0 .input))) (Actions.answerGiven (o .0 .answer)) (i .0 .text) (o .0 .text) (i .0 .records) (o .0 .records)
+      × (o .1 ≡ padded (length (i .1)) (normalised (i .0 .input)))
+  pub parse-setvar : (i : Lent) (o : Left Listed.Answer) → parse-setvar-promise i o → Opened (i .input) (length (i .text)) (length (i .input) + 3)
+      → Equals (Actions.roomed (length (i .records)) (reads (Actions.setvarAlone (i .input)))) (Actions.answerGiven (o .answer)) (i .text) (o .text) (i .records) (o .records)
+  pub parse-variables : (i : Lent) (o : Left Read.Answer) → parse-variables-promise i o → Opened (i .input) (length (i .text)) (length (i .input))
+      → Equals (Variables.hung (length (i .records)) (readAll asWritten (Variable.pieces (i .input)))) (Variables.answerGiven (o .answer)) (i .text) (o .text) (i .records) (o .records)
+  pub parse-update-targets : (i : Lent) (o : Left Read.Answer) → parse-update-targets-promise i o → Opened (i .input) (length (i .text)) (length (i .input))
+      → Equals (Variables.updated (length (i .records)) (readAll lookedUp (Variable.pieces (i .input)))) (Variables.answerGiven (o .answer)) (i .text) (o .text) (i .records) (o .records)
+  pub parse-operator : (s : List ℕ) (r : Parsed.Answer) → parse-operator-promise s r → Opened s 0 0
+      → Operators.answerGiven r ≡ Operators.givenBy (Operators.outcomeOf s (operator s))
+  pub operator-argument : (s part : List ℕ) → operator-argument-promise s part → Opened s 0 0 → part ≡ Operators.argumentBy (Operators.outcomeOf s (operator s))
+  -- RFC 8259: whatever bytes are read, what the listing program prints is a JSON text
+  pub listing : (s : List ℕ) → JsonText (printed s)
+
+-- ---- each number exactly when
+
+-- Numbers 1, 2 and 3 of a call that lends so much where so much is asked for.
+pub record ByGate (s : List ℕ) (lent asked number : ℕ) : Type 0 where
+  pub one : (number ≡ 1) ↔ (limit < length s)
+  pub two : (number ≡ 2) ↔ ((length s ≤ limit) × ((p : ℕ) × FirstAt s p))
+  pub three : (number ≡ 3) ↔ Shortened s lent asked
+
+-- A later number k: none of these, and what B says.
+abbrev pub Past : List ℕ → ℕ → ℕ → ℕ → ℕ → Type 0 → Type 0
+Past s lent asked number k B = (number ≡ k) ↔ (Opened s lent asked × B)
+
+pub record TokensExact (s text records : List ℕ) (n : ℕ) : Type 0 where
+  pub gate : ByGate s (length text) (length s) n
+  pub four : Past s (length text) (length s) n 4 (length records < needed s)
+  pub zero : Past s (length text) (length s) n 0 (needed s ≤ length records)
+
+pub record StepExact (i : Place) (n : ℕ) : Type 0 where
+  pub gate : ByGate (i .input) (length (i .buffer)) (length (i .input)) n
+  pub nine : Past (i .input) (length (i .buffer)) (length (i .input)) n 9 (Astray (i .input) (i .from))
+  pub zero : Past (i .input) (length (i .buffer)) (length (i .input)) n 0 (Fit (i .input) (i .from))
+
+-- 5 and 6 at the first piece that gives no action, and then 4
+pub record ActionsExact (s : List ℕ) (lent m n : ℕ) : Type 0 where
+  pub gate : ByGate s lent (length s) n
+  pub five : Past s lent (length s) n 5 (FirstRefused unknown (Action.pieces (normalised s)))
+  pub six : Past s lent (length s) n 6 (FirstRefused bad (Action.pieces (normalised s)))
+  pub four : Past s lent (length s) n 4 (AllDone (Action.pieces (normalised s)) × (roomFor actionWords m < length (Action.pieces (normalised s))))
+  pub zero : Past s lent (length s) n 0 (AllDone (Action.pieces (normalised s)) × (length (Action.pieces (normalised s)) ≤ roomFor actionWords m))
+
+-- one record is all that a setvar alone needs
+pub record SetvarExact (s : List ℕ) (lent m n : ℕ) : Type 0 where
+  pub gate : ByGate s lent (length s + 3) n
+  pub four : Past s lent (length s + 3) n 4 (roomFor actionWords m < 1)
+  pub zero : Past s lent (length s + 3) n 0 (1 ≤ roomFor actionWords m)
+
+-- 7 at the first piece whose name is no variable's, and then 4
+pub record TargetsExact (x : Exclusions) (s : List ℕ) (lent m n : ℕ) : Type 0 where
+  pub gate : ByGate s lent (length s) n
+  pub seven : Past s lent (length s) n 7 (Targets.Missing x (Variable.pieces s))
+  pub four : Past s lent (length s) n 4 (Targets.AllMeant x (Variable.pieces s) × (roomFor variableWords m < Targets.needed x s))
+  pub zero : Past s lent (length s) n 0 (Targets.AllMeant x (Variable.pieces s) × (Targets.needed x s ≤ roomFor variableWords m))
+
+-- no buffer is lent, so that there is neither 3 nor 4
+pub record OperatorExact (s : List ℕ) (n : ℕ) : Type 0 where
+  pub one : (n ≡ 1) ↔ (limit < length s)
+  pub two : (n ≡ 2) ↔ ((length s ≤ limit) × ((p : ℕ) × FirstAt s p))
+  pub eight : Past s 0 0 n 8 (Operator.Missing s)
+  pub zero : Past s 0 0 n 0 (Operator.Meant s)
+
+pub record Exact : Type 0 where
+  pub tokens : (i : Lent) (o : Left Tokens.Answer) → tokens-promise i o → TokensExact (i .input) (i .text) (i .records) (Lexer.answerGiven (o .answer) .number)
+  pub next-token : (i : Place) (o : Wrote Step) → next-token-promise i o → StepExact i (Lexer.stepGiven (o .answer) .number)
+  pub parse-actions : (i : Lent × List ℕ) (o : Left Listed.Answer × List ℕ) → parse-actions-promise i o
+      → ActionsExact (i .0 .input) (min (length (i .0 .text)) (length (i .1))) (length (i .0 .records)) (Actions.answerGiven (o .0 .answer) .number)
+  pub parse-setvar : (i : Lent) (o : Left Listed.Answer) → parse-setvar-promise i o
+      → SetvarExact (i .input) (length (i .text)) (length (i .records)) (Actions.answerGiven (o .answer) .number)
+  pub parse-variables : (i : Lent) (o : Left Read.Answer) → parse-variables-promise i o
+      → TargetsExact AsWritten (i .input) (length (i .text)) (length (i .records)) (Variables.answerGiven (o .answer) .number)
+  pub parse-update-targets : (i : Lent) (o : Left Read.Answer) → parse-update-targets-promise i o
+      → TargetsExact LookedUp (i .input) (length (i .text)) (length (i .records)) (Variables.answerGiven (o .answer) .number)
+  pub parse-operator : (s : List ℕ) (r : Parsed.Answer) → parse-operator-promise s r → OperatorExact s (Operators.answerGiven r .number)
+
+pub record Demand2 : Type 0 where
+  pub equal : Equal
+  pub exact : Exact

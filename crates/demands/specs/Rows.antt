@@ -1,0 +1,35 @@
+-- Document 01's table of numbers in plain words: what is given back, and what is left of a text buffer and a record buffer.
+use mathlib.Core.Path.{_≡_}
+use mathlib.Core.List.{List, [], _∷_}
+use Prim.Native.Nat.{ℕ}
+use lib.ListN.{length}
+use Rattle.lent.specs.Buffers.{zeros, padded}
+use Rattle.lent.specs.Table.{Given, given}
+
+-- The rows 5, 6 and 7, which give a piece and a name.
+pub data Names : ℕ → Type 0 where
+  unknown-action : Names 5
+  bad-argument : Names 6
+  unknown-variable : Names 7
+
+module _ (g : Given) (text text′ records records′ : List ℕ) where
+  -- Both buffers are as they were.
+  pub record Untouched : Type 0 where
+    pub text-kept : text′ ≡ text
+    pub records-kept : records′ ≡ records
+
+  -- The row that a call came to.
+  pub data Row : Type 0 where
+    -- 0: records and text, zeros beyond
+    read : (values texts words : List ℕ) → g ≡ given 0 values → text′ ≡ padded (length text) texts → records′ ≡ padded (length records) words → Row
+    -- 1: the place 16,384; untouched
+    too-long : g ≡ given 1 (16384 ∷ []) → Untouched → Row
+    -- 2: the place of the first byte that is 128 or more; untouched
+    not-ascii : (place : ℕ) → g ≡ given 2 (place ∷ []) → Untouched → Row
+    -- 3: 0; untouched
+    short : g ≡ given 3 (0 ∷ []) → Untouched → Row
+    -- 4: the records needed; text and records all zero
+    no-room : (needed : ℕ) → g ≡ given 4 (needed ∷ []) → text′ ≡ zeros (length text) → records′ ≡ zeros (length records) → Row
+    -- 5, 6 and 7: the piece and the name's length; the text starts with the name, then zeros, and the records are zero
+    named : (number piece : ℕ) (name : List ℕ) → Names number → g ≡ given number (piece ∷ length name ∷ []) → text′ ≡ padded (length text) name
+        → records′ ≡ zeros (length records) → Row

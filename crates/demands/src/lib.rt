@@ -1,0 +1,1 @@
+// The three demands, as theorems over what the other crates promise. There is no code here: read specs/, then proofs/.
