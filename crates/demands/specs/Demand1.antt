@@ -23,7 +23,7 @@ use Rattle.lexer.specs.declared.stepping.Step.{Step}
 use Rattle.lexer.specs.declared.writing.Answer as Tokens
 use Rattle.actions.specs.Promises as Actions
 use Rattle.actions.specs.declared.Answer as Listed
-use Rattle.variables.specs.Xml.{xmlTarget}
+use Rattle.xml.specs.Xml.{xmlTarget}
 use Rattle.variables.specs.Promises as Variables
 use Rattle.variables.specs.declared.Answer as Targets
 use Rattle.operators.specs.declared.Answer as Operator

@@ -1,7 +1,7 @@
 // What an XML selection asks for: whether there is a target, and its place in the enum.
 use crate::hexes;
 use crate::words::print_number;
-use variables::XmlTarget;
+use xml::XmlTarget;
 
 fn print_target(place: u64) {
     print_number(1);
@@ -13,7 +13,7 @@ pub fn print_xml(body: &[u8]) {
     if body.len() < 1 {
         return;
     }
-    match variables::xml_target(hexes::word(&body[..1]), &body[1..]) {
+    match xml::xml_target(hexes::word(&body[..1]), &body[1..]) {
         XmlTarget::Elements => print_target(0),
         XmlTarget::Attributes => print_target(1),
         XmlTarget::All => print_target(2),

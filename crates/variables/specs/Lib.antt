@@ -4,5 +4,4 @@ pub mod Layout
 pub mod Promises
 pub mod Steps
 pub mod Calls
-pub mod Xml
 pub mod Cases

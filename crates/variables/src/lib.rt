@@ -1,14 +1,11 @@
-// Variables and update targets (document 01, module 5), and what an XML selection asks for.
+// Variables and update targets (document 01, module 5).
 mod finding;
 mod parsing;
 mod singles;
 mod writing;
-mod xml;
 
 pub use parsing::parse_update_targets;
 pub use parsing::parse_variables;
-pub use xml::XmlTarget;
-pub use xml::xml_target;
 
 // What a list of variables or of update targets answers.
 pub enum Answer {

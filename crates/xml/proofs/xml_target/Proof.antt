@@ -1,10 +1,10 @@
 -- Each arm of the match is the test that it stands for.
 use mathlib.Core.Path.{_∙_, ap}
 use borrow.Author.Tests.{ne-eqb}
-use Rattle.variables.specs.Xml.{keyTarget, xmlTarget}
+use Rattle.xml.specs.Xml.{keyTarget, xmlTarget}
 use borrow.Author.Needs.{needs}
-use Rattle.variables.proofs.xml.xml_target.Statement.{statement}
-use Rattle.variables.proofs.xml.xml_target.Tie as tie
+use Rattle.xml.proofs.xml_target.Statement.{statement}
+use Rattle.xml.proofs.xml_target.Tie as tie
 
 trim-requires : tie.Need-trim-requires
 trim-requires c κs = search needs

@@ -7,10 +7,10 @@ use native.Mathlib.Omega.{arith}
 use Rattle.ascii.specs.Text.{bytes}
 use Rattle.ascii.specs.Fold.{same, sameLowered}
 use Rattle.ascii.proofs.FoldLaws.{same-below}
-use Rattle.variables.specs.Xml.{keyTarget, Elements, Attributes, Neither}
+use Rattle.xml.specs.Xml.{keyTarget, Elements, Attributes, Neither}
 use borrow.Author.Needs.{needs}
-use Rattle.variables.proofs.xml.key_target.Statement.{statement}
-use Rattle.variables.proofs.xml.key_target.Tie as tie
+use Rattle.xml.proofs.key_target.Statement.{statement}
+use Rattle.xml.proofs.key_target.Tie as tie
 
 elements : (t : List ℕ) → sameLowered t (bytes "/*") ≡ same t (bytes "/*")
 unfolding bytes

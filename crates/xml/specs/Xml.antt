@@ -6,8 +6,8 @@ use Rattle.ascii.specs.Choice.{pick}
 use Rattle.ascii.specs.Text.{bytes}
 use Rattle.ascii.specs.Fold.{same}
 use Rattle.ascii.specs.Trim.{trimEnds}
-pub use Rattle.variables.specs.declared.xml.XmlTarget.{XmlTarget}
-pub use Rattle.variables.specs.declared.xml.XmlTarget.the-variants.{Elements, Attributes, All, Neither}
+pub use Rattle.xml.specs.declared.XmlTarget.{XmlTarget}
+pub use Rattle.xml.specs.declared.XmlTarget.the-variants.{Elements, Attributes, All, Neither}
 
 -- A key's trimmed text: the inner `match` of from_selection.
 unfoldable pub keyTarget : List ℕ → XmlTarget

@@ -1,6 +1,6 @@
 // XmlTarget::from_selection, on a selection as a record has it: its kind's number, and its text.
 ghost use mathlib.Core.Path.{_≡_};
-ghost use Rattle.variables.specs.Xml.{keyTarget, xmlTarget};
+ghost use Rattle.xml.specs.Xml.{keyTarget, xmlTarget};
 
 // The Rust's enum, and Neither where it has no target.
 pub enum XmlTarget {
