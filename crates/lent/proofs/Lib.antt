@@ -5,3 +5,4 @@ pub mod GateLaws
 pub mod SpanLaws
 pub mod TableLaws
 pub mod OutcomeLaws
+pub mod LayoutLaws

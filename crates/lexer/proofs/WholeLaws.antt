@@ -21,7 +21,9 @@ use Rattle.lexer.specs.declared.stepping.Found.the-variants as Found
 use Rattle.lexer.specs.declared.writing.Tally.{Tally}
 use Rattle.lexer.proofs.NextLaws.{Of, Taken, next-taken, next-drop}
 use Rattle.lexer.proofs.TokenLaws.{follow, tokens-step}
-use Rattle.lexer.proofs.LayoutLaws.{texts-more, words-more, words-length, count-more}
+use Rattle.lent.specs.Layout.{textsOf, wordsOf}
+use Rattle.lent.proofs.LayoutLaws.{count-more}
+use Rattle.lexer.proofs.LayoutLaws.{texts-more, words-more, words-length}
 use Rattle.lexer.proofs.WithinLaws.{within-fresh}
 
 -- the tokens written so far, and what the buffers hold of them
@@ -41,7 +43,7 @@ pub record Sofar (s text₀ records₀ text records : List ℕ) (here : Cursor) 
   pub recorded : at ≤ length records₀ → Written records₀ records at × (take at records ≡ wordsFrom 0 done)
 
 pub begun : (s text records : List ℕ) (here : Cursor) → here ≡ fresh → length s ≤ limit → Sofar s text records text records here 0 0 0
-unfolding reading texts wordsFrom fresh
+unfolding reading textsOf wordsOf fresh
 begun s text records here e h = rw e (record {
   done = [];
   tokens-are = refl;

@@ -14,6 +14,7 @@ use Rattle.lent.specs.Sizes.{limit, tokenWords, roomFor, spanWord, spanOffset, 
 use Rattle.lent.specs.Buffers.{zeros, padded}
 use Rattle.lent.specs.Gates.{firstHigh}
 use Rattle.lent.proofs.SpanLaws.{span-offset, span-length, room-is}
+use Rattle.lent.specs.Layout.{textsOf, wordsOf}
 use Rattle.lexer.specs.declared.Kind.{Kind}
 use Rattle.lexer.specs.declared.Kind.the-variants.{Directive, Word, QuotedString, Comment, Newline}
 use Rattle.lexer.specs.Cursors.{fresh}
@@ -55,7 +56,7 @@ record Fine (t : Token) : Type 0 where
 
 leading-from : (o : ℕ) {ts : List Token} → All Fine ts → (buffer more rest : List ℕ) → drop o buffer ≡ texts ts ++ rest → o + length (texts ts) ≤ length buffer
     → leading (length ts) (wordsFrom o ts ++ more) buffer ≡ length ts
-unfolding leading wordsFrom texts
+unfolding leading wordsOf textsOf
 leading-from o nil buffer more rest e h = refl
 leading-from o (cons {t = t} {ts = ts} k ks) buffer more rest e h =
     let here : drop o buffer ≡ t .text ++ (texts ts ++ rest) = e ∙ append-assoc (t .text) (texts ts) rest in

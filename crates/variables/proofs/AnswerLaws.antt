@@ -17,9 +17,11 @@ use Rattle.lent.specs.declared.gating.Gate.{Gate}
 use Rattle.lent.specs.declared.gating.Gate.the-variants as Gate
 use Rattle.lent.proofs.BufferLaws.{cleared, stored-cleared}
 use Rattle.lent.proofs.SpanLaws.{room-is}
+use Rattle.lent.specs.Layout.{textsOf, wordsOf}
+use Rattle.lent.proofs.LayoutLaws.{words-length}
 use Rattle.variables.specs.Parts.{pieces}
 use Rattle.variables.specs.Variables.{Variable, Targets, targets, refused, readAll}
-use Rattle.variables.specs.Layout.{variableRecord, exclusionRecord, textsOf, wordsOf, chosenText, itself, selectionTexts, texts, wordsFrom}
+use Rattle.variables.specs.Layout.{variableRecord, exclusionRecord, chosenText, itself, selectionTexts, texts, wordsFrom}
 use Rattle.variables.specs.Promises.{roomed, updated, hung, variablesOutcome, updateOutcome, Meets}
 use Rattle.variables.specs.Steps.{part, excludingOf, excludedOf, AllRead, Stopped, Added, keptCount, keptOf, hanging, readOutcome, outcomeOf}
 use Rattle.variables.specs.declared.Answer.{Answer}
@@ -27,7 +29,7 @@ use Rattle.variables.specs.declared.Answer.the-variants as Answer
 use Rattle.variables.specs.declared.singles.Exclusions.{Exclusions}
 use Rattle.variables.specs.declared.singles.Exclusions.the-variants.{AsWritten, LookedUp}
 use Rattle.variables.proofs.PlaceLaws.{part-length}
-use Rattle.variables.proofs.LayoutLaws.{words-length, laid-joined}
+use Rattle.variables.proofs.LayoutLaws.{laid-joined}
 use Rattle.variables.proofs.ScanLaws.{wide-variable, wide-exclusion}
 
 -- ---- which exclusions are kept
@@ -165,10 +167,10 @@ module _ (n : Exclusions) (s text records : List ℕ) where
       count-fits-still = omega (arith, count-fits, records-long)
 
       first-words : length (wordsOf variableRecord chosenText 0 (x .vs)) ≡ variables * variableWords
-      first-words = words-length chosenText variableRecord wide-variable 0 (x .vs) ∙ omega (arith, x .wrote .count-is)
+      first-words = words-length chosenText variableRecord variableWords wide-variable 0 (x .vs) ∙ omega (arith, x .wrote .count-is)
 
       last-words : length (wordsOf exclusionRecord itself used es) ≡ kept * variableWords
-      last-words = words-length itself exclusionRecord wide-exclusion used es ∙ omega (arith, kept-count)
+      last-words = words-length itself exclusionRecord variableWords wide-exclusion used es ∙ omega (arith, kept-count)
 
       text-is : text₂ ≡ ts ++ drop (0 + length ts) text
       text-is = laid-joined (selectionTexts (x .vs)) (textsOf itself es) used (x .wrote .text-laid) (y .text-laid) (omega (arith, x .wrote .used-is)) (omega (arith, texts-fit, texts-long))
@@ -183,7 +185,7 @@ module _ (n : Exclusions) (s text records : List ℕ) where
       words-long : (variables + kept) * variableWords ≡ length ws
       words-long =
           let o = 0 + length (selectionTexts (x .vs)) in
-          let a = words-length itself exclusionRecord wide-exclusion o es in
+          let a = words-length itself exclusionRecord variableWords wide-exclusion o es in
           omega (arith, first-words, a, kept-count, length-append (wordsOf variableRecord chosenText 0 (x .vs)) (wordsOf exclusionRecord itself o es))
 
       -- what is left of both buffers is cleared

@@ -1,4 +1,4 @@
--- Texts and records of a list, one longer; and what is stored after what was written.
+-- What is stored after what was written.
 use mathlib.Core.Path.{_≡_, _∙_, refl, sym, ap, ap₂}
 use mathlib.Core.List.{List, [], _∷_, _++_, append-assoc, append-nil}
 use Prim.Native.Nat.{ℕ, _+_, _*_, _≤_}
@@ -8,37 +8,10 @@ use lib.ListN.{length, take, drop, length-append, take-append-drop}
 use lib.Seq.{length-take-le, take-at, drop-at, drop-drop}
 use Rattle.lent.specs.Sizes.{variableWords}
 use Rattle.lent.specs.Buffers.{placed, stored}
+use Rattle.lent.specs.Layout.{textsOf, wordsOf}
 use Rattle.lent.proofs.BufferLaws.{stored-length, stored-fits}
-use Rattle.variables.specs.Layout.{textsOf, wordsOf}
+use Rattle.lent.proofs.LayoutLaws.{texts-more, words-more, words-length, count-more}
 use Rattle.variables.specs.Steps.{Laid, Wrote}
-
--- ---- one longer
-
-module _ {A : Type 0} (text : A → List ℕ) where
-  pub texts-more : (xs : List A) (x : A) → textsOf text (xs ++ (x ∷ [])) ≡ textsOf text xs ++ text x
-  unfolding textsOf
-  texts-more [] x = append-nil (text x)
-  texts-more (y ∷ xs) x = ap (λ (l : List ℕ). text y ++ l) (texts-more xs x) ∙ sym (append-assoc (text y) (textsOf text xs) (text x))
-
-  module _ (words : ℕ → A → List ℕ) where
-    pub words-more : (o : ℕ) (xs : List A) (x : A)
-        → wordsOf words text o (xs ++ (x ∷ [])) ≡ wordsOf words text o xs ++ words (o + length (textsOf text xs)) x
-    unfolding textsOf wordsOf
-    words-more o [] x = let e : o + 0 ≡ o = omega arith in rw e (append-nil (words o x))
-    words-more o (y ∷ xs) x =
-        let e : o + length (text y) + length (textsOf text xs) ≡ o + length (text y ++ textsOf text xs) = omega (arith, length-append (text y) (textsOf text xs)) in
-        ap (λ (l : List ℕ). words o y ++ l) (words-more (o + length (text y)) xs x ∙ ap (λ (n : ℕ). wordsOf words text (o + length (text y)) xs ++ words n x) e)
-        ∙ sym (append-assoc (words o y) (wordsOf words text (o + length (text y)) xs) _)
-
-    pub words-length : ((o : ℕ) (x : A) → length (words o x) ≡ variableWords) → (o : ℕ) (xs : List A)
-        → length (wordsOf words text o xs) ≡ length xs * variableWords
-    unfolding wordsOf
-    words-length w o [] = omega arith
-    words-length w o (x ∷ xs) =
-        omega (arith, length-append (words o x) (wordsOf words text (o + length (text x)) xs), w o x, words-length w (o + length (text x)) xs)
-
-pub count-more : {A : Type 0} (xs : List A) (x : A) → length (xs ++ (x ∷ [])) ≡ length xs + 1
-count-more xs x = length-append xs (x ∷ [])
 
 -- ---- stored after what was written
 
@@ -80,7 +53,7 @@ module _ {A : Type 0} {words : ℕ → A → List ℕ} {text-of : A → List ℕ
       → Wrote words text-of offset place text text₂ records records₂ (xs ++ (y ∷ [])) used′ (count + 1)
   wrote-more y text₂ records₂ t w used′ a b c d e =
       let l = texts-more text-of xs y in
-      let m : count * variableWords ≡ place * variableWords + length (wordsOf words text-of offset xs) = omega (arith, x .count-is, words-length text-of words wide offset xs) in
+      let m : count * variableWords ≡ place * variableWords + length (wordsOf words text-of offset xs) = omega (arith, x .count-is, words-length text-of words variableWords wide offset xs) in
       record {
         used-is = omega (arith, x .used-is, ap length a, ap length l, length-append (textsOf text-of xs) (text-of y));
         count-is = omega (arith, x .count-is, count-more xs y);

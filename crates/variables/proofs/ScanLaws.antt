@@ -10,15 +10,17 @@ use borrow.Author.Tests.{eq-eqb, ne-eqb}
 use Rattle.ascii.proofs.ListLaws.{rest-is}
 use Rattle.lent.specs.Sizes.{limit, variableWords}
 use Rattle.lent.specs.Buffers.{stored}
+use Rattle.lent.specs.Layout.{textsOf}
+use Rattle.lent.proofs.LayoutLaws.{texts-more, count-more}
 use Rattle.variables.specs.Parts.{pieces}
 use Rattle.variables.specs.Variables.{Variable, variable, Targets, targets, refused, withVariable, withExclusion, piece, readAll}
-use Rattle.variables.specs.Layout.{textsOf, chosenText, itself, selectionTexts, variableRecord, exclusionRecord}
+use Rattle.variables.specs.Layout.{chosenText, itself, selectionTexts, variableRecord, exclusionRecord}
 use Rattle.variables.specs.Steps.{part, NextPiece, excludingOf, entryWords, behindMark, excludedOf, IsVariable, IsExclusion, IsUnknown, Narrow, WroteVariables, WroteExclusions, AllRead, Stopped, Added, keptOf}
 use Rattle.variables.specs.declared.singles.Exclusions.{Exclusions}
 use Rattle.variables.specs.declared.singles.Entry.{Entry}
 use Rattle.variables.proofs.PlaceLaws.{part-length, part-part}
 use Rattle.variables.proofs.SingleLaws.{plain-mark, has-mark}
-use Rattle.variables.proofs.LayoutLaws.{texts-more, count-more, wrote-none, wrote-more}
+use Rattle.variables.proofs.LayoutLaws.{wrote-none, wrote-more}
 
 -- ---- before what is still to come
 

@@ -4,6 +4,7 @@ use mathlib.Core.List.{List, [], _∷_, _++_}
 use lib.ListN.{length}
 use Rattle.ascii.specs.Choice.{bit}
 use Rattle.lent.specs.Sizes.{spanWord}
+use Rattle.lent.specs.Layout.{textsOf, wordsOf}
 use Rattle.variables.specs.Variables.{Selection, none, key, regex, Variable}
 
 -- The number of a selection's kind, and its text.
@@ -28,15 +29,6 @@ variableRecord o v = 1 ∷ v .code ∷ bit (v .counts) ∷ selectionCode (v .cho
 
 abbrev pub exclusionRecord : ℕ → List ℕ → List ℕ
 exclusionRecord o e = 2 ∷ 0 ∷ 0 ∷ 0 ∷ spanWord o (length e) ∷ []
-
--- The texts of a list, one after another; and its records, each with the offset that its text has then.
-unfoldable pub textsOf : {A : Type 0} → (A → List ℕ) → List A → List ℕ
-textsOf text [] = []
-textsOf text (x ∷ xs) = text x ++ textsOf text xs
-
-unfoldable pub wordsOf : {A : Type 0} → (ℕ → A → List ℕ) → (A → List ℕ) → ℕ → List A → List ℕ
-wordsOf words text o [] = []
-wordsOf words text o (x ∷ xs) = words o x ++ wordsOf words text (o + length (text x)) xs
 
 -- A variable's text is its selection's, and an exclusion's is itself.
 abbrev pub chosenText : Variable → List ℕ

@@ -9,9 +9,10 @@ use Rattle.lent.specs.Sizes.{limit, spanWord, variableWords}
 use Rattle.lent.specs.Buffers.{placed}
 use Rattle.lent.specs.Gates.{gateOf}
 use Rattle.lent.specs.Table.{Outcome, pastGate, Filled}
+use Rattle.lent.specs.Layout.{textsOf, wordsOf}
 use Rattle.variables.specs.Parts.{pieces}
 use Rattle.variables.specs.Variables.{Selection, none, selection, Variable, Single, variable, unknown, Targets, targets, refused, withVariable, withExclusion, Excluding, asWritten, lookedUp, piece, readAll}
-use Rattle.variables.specs.Layout.{selectionCode, selectionText, selectionSpan, variableRecord, exclusionRecord, textsOf, wordsOf, chosenText, itself, texts}
+use Rattle.variables.specs.Layout.{selectionCode, selectionText, selectionSpan, variableRecord, exclusionRecord, chosenText, itself, texts}
 use Rattle.variables.specs.Promises.{updated}
 use Rattle.variables.specs.declared.finding.Next.{Next}
 use Rattle.variables.specs.declared.finding.Next.the-variants as Next
