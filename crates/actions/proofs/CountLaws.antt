@@ -8,9 +8,9 @@ use Rattle.ascii.specs.Classes.{white}
 use Rattle.ascii.specs.Trim.{trimEnds}
 use Rattle.ascii.proofs.TrimLaws.{ends-fit}
 use Rattle.lent.specs.Table.{tooLong, notAscii, shortBuffer, noRoom, unknownAction, badArgument, unknownVariable, unknownOperator, badCursor, Outcome, refuses, reads}
+use Rattle.single_action.specs.Actions.{Action, Single, done, bad, unknown, single}
 use Rattle.actions.specs.Normal.{normalised}
 use Rattle.actions.specs.Pieces.{outside, partsFrom, keep, piecesOf, pieces}
-use Rattle.actions.specs.Actions.{Action, Single, done, bad, unknown, single}
 use Rattle.actions.specs.Lists.{actionThen, singleThen, actionsFrom, actionsOf}
 use Rattle.actions.proofs.PieceLaws.{total, parts-total}
 

@@ -19,17 +19,18 @@ use Rattle.lent.specs.Sizes.{actionWords}
 use Rattle.lent.specs.Buffers.{padded, stored}
 use Rattle.lent.specs.Table.{Refusal, badArgument, unknownAction, refuses, reads}
 use Rattle.lent.proofs.BufferLaws.{Written, written-none, written-stored, taken-stored, written-all, written-length, stored-length}
+use Rattle.single_action.specs.Table.{rowAt}
+use Rattle.single_action.specs.Actions.{Action, actionText, Single, done, bad, single}
+use Rattle.single_action.specs.Plans.{cut, planAction, Judged}
+use Rattle.single_action.specs.declared.plans.Plan.{Plan}
+use Rattle.single_action.specs.declared.plans.Verdict.the-variants.{Done, Bad, Unknown}
+use Rattle.single_action.proofs.SingleLaws.{Within, single-within}
 use Rattle.actions.specs.Pieces.{outside, keep, pieces, partLength}
-use Rattle.actions.specs.Table.{rowAt}
-use Rattle.actions.specs.Actions.{Action, Single, done, bad, unknown, single}
 use Rattle.actions.specs.Lists.{singleThen, actionsFrom}
-use Rattle.actions.specs.Layout.{actionText, actionRecord, wordsFrom, texts}
-use Rattle.actions.specs.Plans.{cut, planAction, Judged, Put}
+use Rattle.actions.specs.Layout.{actionRecord, wordsFrom, texts}
+use Rattle.actions.specs.Steps.{Put}
 use Rattle.actions.specs.Listing.{ReadAll, Stopped}
-use Rattle.actions.specs.declared.plans.Plan.{Plan}
-use Rattle.actions.specs.declared.plans.Verdict.the-variants.{Done, Bad, Unknown}
 use Rattle.actions.proofs.PieceLaws.{part-fits}
-use Rattle.actions.proofs.SingleLaws.{Within, single-within}
 use Rattle.actions.proofs.LayoutLaws.{texts-more, words-more, record-length, count-more}
 use Rattle.actions.proofs.LoopLaws.{pieces-more, pieces-last, soFar, no-piece, one-piece, so-far-more, so-far-refused, so-far-read}
 

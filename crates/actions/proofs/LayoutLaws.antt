@@ -5,8 +5,8 @@ use Prim.Native.Nat.{ℕ, _+_, _*_}
 use native.Mathlib.Omega.{arith}
 use lib.ListN.{length, length-append}
 use Rattle.lent.specs.Sizes.{actionWords}
-use Rattle.actions.specs.Actions.{Action}
-use Rattle.actions.specs.Layout.{actionText, actionRecord, wordsFrom, texts}
+use Rattle.single_action.specs.Actions.{Action, actionText}
+use Rattle.actions.specs.Layout.{actionRecord, wordsFrom, texts}
 
 pub texts-more : (xs : List Action) (x : Action) → texts (xs ++ (x ∷ [])) ≡ texts xs ++ actionText x
 unfolding texts

@@ -5,15 +5,15 @@ use Prim.Native.Nat.{ℕ, suc, _+_, _≤_}
 use native.Mathlib.Omega.{arith}
 use lib.ListN.{length, length-append}
 use Rattle.lent.specs.Table.{tooLong, notAscii, shortBuffer, noRoom, unknownAction, badArgument, unknownVariable, unknownOperator, badCursor, Outcome, refuses, reads}
+use Rattle.single_action.specs.Setvar.{setvar}
+use Rattle.single_action.specs.Actions.{Action, actionText, Single, done, bad, unknown, setvarAction, single}
+use Rattle.single_action.proofs.SingleLaws.{Within, setvar-text, single-within}
 use Rattle.actions.specs.Normal.{normalised}
 use Rattle.actions.specs.Pieces.{pieces}
-use Rattle.actions.specs.Setvar.{setvar}
-use Rattle.actions.specs.Actions.{Action, Single, done, bad, unknown, setvarAction, single}
 use Rattle.actions.specs.Lists.{actionThen, singleThen, actionsFrom, actionsOf}
-use Rattle.actions.specs.Layout.{actionText, texts}
+use Rattle.actions.specs.Layout.{texts}
 use Rattle.actions.specs.Promises.{setvarAlone}
 use Rattle.actions.proofs.PieceLaws.{total, pieces-total}
-use Rattle.actions.proofs.SingleLaws.{Within, setvar-text, single-within}
 
 -- ---- a list
 

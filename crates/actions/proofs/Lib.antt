@@ -1,13 +1,9 @@
 pub mod NormalLaws
 pub mod PieceLaws
-pub mod MarkLaws
-pub mod SetvarLaws
-pub mod SingleLaws
 pub mod LengthLaws
 pub mod LayoutLaws
 pub mod GivenLaws
 pub mod LoopLaws
-pub mod TableLaws
 pub mod OutcomeLaws
 pub mod NormalLoop
 pub mod TrimmedLaws
@@ -17,13 +13,6 @@ pub mod GoingLaws
 pub mod PromiseLaws
 pub mod NumberLaws
 pub mod CountLaws
-pub mod MacroLaws
 pub mod QuoteLaws
-pub mod MarkPlaceLaws
-pub mod NamingLaws
-pub mod RowLaws
-pub mod CutLaws
-pub mod SettingLaws
 pub mod PlainLaws
 pub mod NormalActLaws
-pub mod JudgedLaws

@@ -9,8 +9,8 @@ use lib.Seq.{drop-drop, take-all}
 use Rattle.ascii.specs.Trim.{trimEnds}
 use Rattle.ascii.proofs.ListLaws.{next-byte}
 use Rattle.lent.specs.Table.{Refusal, Outcome, refuses, reads}
+use Rattle.single_action.specs.Actions.{Action, single}
 use Rattle.actions.specs.Pieces.{outside, keep, piecesOf, pieces, partLength, partsBehind}
-use Rattle.actions.specs.Actions.{Action, single}
 use Rattle.actions.specs.Lists.{actionThen, singleThen, actionsFrom}
 use Rattle.actions.proofs.PieceLaws.{parts-first}
 

@@ -15,14 +15,13 @@ use Rattle.lent.specs.Table.{Given, Refusal, noRoom, unknownAction, badArgument
 use Rattle.lent.proofs.HighLaws.{FirstAt}
 use Rattle.lent.proofs.GateLaws.{Opened, Shortened}
 use Rattle.lent.proofs.OutcomeLaws.{numberOf, Later}
+use Rattle.single_action.specs.Actions.{Action, Single, done, bad, unknown, single}
 use Rattle.actions.specs.Normal.{normalised}
 use Rattle.actions.specs.Pieces.{pieces}
-use Rattle.actions.specs.Actions.{Action, Single, done, bad, unknown, single}
 use Rattle.actions.specs.Lists.{actionThen, singleThen, actionsFrom, actionsOf}
 use Rattle.actions.specs.Calls.{AllDone, FirstRefused}
 use Rattle.actions.specs.Promises.{answerGiven, laidOut, roomed, actionsOutcome, ParseActions}
 use Rattle.actions.specs.declared.Answer.{Answer}
-use Rattle.actions.specs.declared.Answer.the-variants as Answer
 use Rattle.actions.proofs.OutcomeLaws.{actions-1, actions-2, actions-3, actions-past}
 
 -- ---- the pieces

@@ -17,9 +17,9 @@ use Rattle.lent.specs.declared.gating.Gate.{Gate}
 use Rattle.lent.proofs.HighLaws.{FirstAt}
 use Rattle.lent.proofs.GateLaws.{Opened, Shortened}
 use Rattle.lent.proofs.OutcomeLaws.{numberOf, Later, number-1, number-2, number-3, number-later}
+use Rattle.single_action.specs.Actions.{Action, Single, done, bad, unknown, single}
 use Rattle.actions.specs.Normal.{normalised}
 use Rattle.actions.specs.Pieces.{pieces}
-use Rattle.actions.specs.Actions.{Action, Single, done, bad, unknown, single}
 use Rattle.actions.specs.Lists.{actionThen, singleThen, actionsFrom, actionsOf}
 use Rattle.actions.specs.Promises.{laidOut, roomed, actionsGate, actionsOutcome, setvarAlone, setvarOutcome}
 

@@ -13,19 +13,21 @@ use Rattle.ascii.specs.Classes.{white}
 use Rattle.ascii.specs.Trim.{trimEnds}
 use Rattle.ascii.proofs.ListLaws.{next-byte}
 use Rattle.ascii.proofs.TrimLaws.{ends-fit}
-use Rattle.names.proofs.Tests.{and-left, and-right}
-use Rattle.actions.specs.Marks.{quotation}
+use Rattle.single_action.specs.Marks.{quotation}
 use Rattle.actions.specs.Pieces.{Nest, nest, outside, nestBare, nestQuoted, nestAfter, cuts, cutBy, partsFrom, keep, piecesOf, pieces, partLength, partsBehind}
+
+both-hold : (x y : Bool) → and x y ≡ true → (x ≡ true) × (y ≡ true)
+both-hold true y e = (refl, e)
+both-hold false true e = (e, refl)
+both-hold false false e = (e, e)
 
 -- a comma that cuts leaves nothing open
 pub cut-outside : (n : Nest) (b : ℕ) → cuts n b ≡ true → nestAfter n b ≡ outside
 unfolding cuts nestAfter nestBare quotation
 cut-outside n b e =
-    let inner = and-right (eqb b 44) (and (eqb (n .mark) 0) (eqb (n .depth) 0)) e in
-    let comma = eqb-true b 44 (and-left (eqb b 44) (and (eqb (n .mark) 0) (eqb (n .depth) 0)) e) in
-    let bare = and-left (eqb (n .mark) 0) (eqb (n .depth) 0) inner in
-    let flat = eqb-true (n .depth) 0 (and-right (eqb (n .mark) 0) (eqb (n .depth) 0) inner) in
-    rw (bare, comma, flat)
+    let comma = both-hold (eqb b 44) (and (eqb (n .mark) 0) (eqb (n .depth) 0)) e in
+    let bare = both-hold (eqb (n .mark) 0) (eqb (n .depth) 0) (comma .1) in
+    rw (bare .0, eqb-true b 44 (comma .0), eqb-true (n .depth) 0 (bare .1))
 
 -- a byte opens one bracket at most, so the depth is no more than the bytes read
 pub depth-more : (n : Nest) (b : ℕ) → nestAfter n b .depth ≤ n .depth + 1

@@ -10,7 +10,7 @@ use lib.Dec.{ltb, lit<}
 use borrow.Author.Tests.{ltb-false}
 use Rattle.ascii.specs.Choice.{pick}
 use Rattle.lent.specs.Sizes.{limit, actionWords, roomFor}
-use Rattle.lent.specs.Buffers.{zeros, padded, stored}
+use Rattle.lent.specs.Buffers.{zeros, padded}
 use Rattle.lent.specs.Gates.{gateOf}
 use Rattle.lent.specs.Table.{noRoom, unknownAction, badArgument, Outcome, refuses, reads, Filled, givenBy, textBy, recordsBy}
 use Rattle.lent.specs.declared.gating.Gate.{Gate}
@@ -18,19 +18,20 @@ use Rattle.lent.specs.declared.gating.Gate.the-variants as Gate
 use Rattle.lent.proofs.SpanLaws.{room-is}
 use Rattle.lent.proofs.GateLaws.{open-is}
 use Rattle.lent.proofs.BufferLaws.{written-first, taken-first, written-all, stored-length, front-fits}
+use Rattle.single_action.specs.Setvar.{setvar}
+use Rattle.single_action.specs.Actions.{Action, actionText, setvarAction}
+use Rattle.single_action.specs.Plans.{planAction, Planned}
+use Rattle.single_action.specs.declared.plans.Plan.{Plan}
+use Rattle.single_action.proofs.SingleLaws.{setvar-text}
 use Rattle.actions.specs.Normal.{normalised}
 use Rattle.actions.specs.Pieces.{pieces}
-use Rattle.actions.specs.Setvar.{setvar}
-use Rattle.actions.specs.Actions.{Action, setvarAction}
 use Rattle.actions.specs.Lists.{actionsOf}
-use Rattle.actions.specs.Layout.{actionText, actionRecord, wordsFrom, texts}
-use Rattle.actions.specs.Plans.{planAction, Planned, Put}
+use Rattle.actions.specs.Layout.{actionRecord, wordsFrom, texts}
+use Rattle.actions.specs.Steps.{Put}
 use Rattle.actions.specs.Listing.{Laid, ReadAll, Stopped, overfull, Finished}
 use Rattle.actions.specs.Promises.{answerGiven, laidOut, roomed, actionsGate, actionsOutcome, setvarAlone, setvarOutcome, ParseActions, SetvarAlone}
 use Rattle.actions.specs.declared.Answer.{Answer}
 use Rattle.actions.specs.declared.Answer.the-variants as Answer
-use Rattle.actions.specs.declared.plans.Plan.{Plan}
-use Rattle.actions.proofs.SingleLaws.{setvar-text}
 use Rattle.actions.proofs.CountLaws.{pieces-count, from-counted}
 use Rattle.actions.proofs.LayoutLaws.{words-length, record-length}
 use Rattle.actions.proofs.OutcomeLaws.{outcome-by, setvar-by}

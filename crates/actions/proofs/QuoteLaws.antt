@@ -11,10 +11,10 @@ use lib.Seq.{drop-drop}
 use lib.Dec.{eqb}
 use borrow.Author.Tests.{eqb-true, ne-eqb}
 use Rattle.ascii.specs.Choice.{pick, and, or}
-use Rattle.actions.specs.Marks.{quotation}
 use Rattle.ascii.specs.Trim.{leading}
 use Rattle.ascii.specs.Splits.{firstOf}
 use Rattle.ascii.proofs.SplitLaws.{first-fits}
+use Rattle.single_action.specs.Marks.{quotation}
 use Rattle.actions.specs.Pieces.{Nest, nest, outside, nestBare, nestQuoted, nestAfter, cuts, partLength}
 use Rattle.actions.proofs.PieceLaws.{part-stop, part-more, part-end}
 

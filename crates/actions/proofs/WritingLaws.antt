@@ -1,34 +1,21 @@
 -- Texts and records stored one after another, and zeros beyond them.
 use mathlib.Core.Path.{_≡_, refl, sym, ap, _∙_}
-use mathlib.Core.Bool.{Bool, true, false}
 use mathlib.Core.List.{List, [], _∷_, _++_, append-assoc}
 use Prim.Native.Nat.{ℕ, _+_, _-_, _≤_}
 use native.Mathlib.Omega.{arith}
-use lib.ListN.{length, take, drop, length-append, length-drop, length-map, take-append-drop}
+use lib.ListN.{length, take, drop, length-append, length-drop, length-map}
 use lib.Seq.{length-take-le}
-use lib.Dec.{leb}
-use Rattle.ascii.specs.Choice.{pick}
 use Rattle.ascii.specs.Fold.{lower, lowered}
 use Rattle.lent.specs.Sizes.{spanWord}
-use Rattle.lent.specs.Buffers.{placed, stored}
+use Rattle.lent.specs.Buffers.{stored}
 use Rattle.lent.proofs.BufferLaws.{Written, stored-length, written-stored, taken-stored, written-all}
-use Rattle.actions.specs.Layout.{slotWord, actionText, actionRecord}
-use Rattle.actions.specs.Plans.{cut, originSlot, originText, originWord, Lies, planAction, Put}
-use Rattle.actions.specs.declared.plans.Plan.{Plan}
-use Rattle.actions.specs.declared.plans.Origin.{Origin}
-use Rattle.actions.specs.declared.plans.Origin.the-variants.{Absent, Copied, Lowered, Tx, One}
-
--- nothing stored changes nothing
-pub stored-none : (old : List ℕ) (i : ℕ) → old ≡ stored old i []
-unfolding stored
-stored-none old i = go (leb (i + 0) (length old))
-  where
-    e : i + 0 ≡ i
-    e = omega arith
-
-    go : (t : Bool) → old ≡ pick t (placed old i []) old
-    go true = rw e (sym (take-append-drop i old))
-    go false = refl
+use Rattle.single_action.specs.Actions.{actionText}
+use Rattle.single_action.specs.Plans.{cut, originSlot, originText, Lies, planAction}
+use Rattle.single_action.specs.declared.plans.Plan.{Plan}
+use Rattle.single_action.specs.declared.plans.Origin.{Origin}
+use Rattle.single_action.specs.declared.plans.Origin.the-variants.{Absent, Copied, Lowered, Tx, One}
+use Rattle.actions.specs.Layout.{slotWord, actionRecord}
+use Rattle.actions.specs.Steps.{originWord, Put}
 
 -- one run behind another is both as one
 module _ (old : List ℕ) (i : ℕ) (xs ys : List ℕ) (h : i + length xs + length ys ≤ length old) where

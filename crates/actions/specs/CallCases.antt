@@ -7,7 +7,8 @@ use Rattle.ascii.specs.Text.{bytes}
 use Rattle.lent.specs.Sizes.{roomFor}
 use Rattle.lent.specs.Gates.{firstHigh, gateOf}
 use Rattle.lent.specs.Table.{Given, given, givenBy}
-use Rattle.actions.specs.Layout.{actionText, texts}
+use Rattle.single_action.specs.Actions.{actionText}
+use Rattle.actions.specs.Layout.{texts}
 use Rattle.actions.specs.Promises.{actionsOutcome, setvarOutcome}
 use Rattle.actions.specs.Cases.{Comes}
 

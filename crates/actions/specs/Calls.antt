@@ -2,7 +2,7 @@
 use mathlib.Core.Path.{_≡_}
 use mathlib.Core.List.{List, [], _∷_, _++_}
 use Prim.Native.Nat.{ℕ}
-use Rattle.actions.specs.Actions.{Action, Single, done, single}
+use Rattle.single_action.specs.Actions.{Action, Single, done, single}
 
 -- Every piece gives an action.
 unfoldable pub AllDone : List (List ℕ) → Type 0

@@ -1,28 +1,18 @@
 -- The worked lists of document 01, and a few more at the edges.
 use mathlib.Core.Path.{_≡_, refl}
-use Prim.Native.Nat.{_^_, _-_}
 use Prim.Native.String.{String}
 use mathlib.Core.List.{List, [], _∷_}
 use Rattle.ascii.specs.Text.{bytes}
-use Rattle.ascii.specs.Classes.{white, digit}
-use Rattle.ascii.specs.Fold.{lower, same}
-use Rattle.ascii.specs.Trim.{stripStart, stripEnd}
-use Rattle.ascii.specs.Numbers.{value, allDigits, digitsBy, unsignedBy, signedWord}
-use Rattle.ascii.specs.Splits.{split}
 use Rattle.lent.specs.Table.{Refusal, unknownAction, badArgument, Outcome, refuses, reads}
-use Rattle.names.specs.Tables as N
-use Rattle.names.specs.Severities.{severities, severityCode}
+use Rattle.single_action.specs.Actions.{absent, present, Action, action, numbered, worded}
+use Rattle.single_action.specs.Cases.{Says}
 use Rattle.actions.specs.Normal.{modeAfter, textGiven, textHeld, normalisedFrom, normalised}
-use Rattle.actions.specs.Marks.{quotation, paired, unpaired}
 use Rattle.actions.specs.Pieces.{nestBare, nestQuoted, nestAfter, cuts, partsFrom, piecesOf, pieces}
-use Rattle.actions.specs.Setvar.{SetValue, text, increment, decrement, delete, macro, setvarOf, varName, nameOf, hasMacro, plainValue, valueOf, setvarBare, setvar}
-use Rattle.actions.specs.Table.{rows, find}
-use Rattle.actions.specs.Actions.{absent, present, Action, action, numbered, worded, withText, withNone, named, single}
 use Rattle.actions.specs.Lists.{actionsFrom, actionsOf}
 
 -- A list's actions or its refusal. To unfold it is to unfold every definition that a list is read by.
 unfoldable pub Comes : String → Outcome (List Action) → Type 0
-unfolding bytes white digit lower same stripStart stripEnd value allDigits digitsBy unsignedBy signedWord N.find severities severityCode modeAfter textGiven textHeld normalisedFrom normalised quotation paired unpaired nestBare nestQuoted nestAfter cuts partsFrom piecesOf pieces split nameOf hasMacro plainValue valueOf setvarBare setvar rows find withText withNone named single actionsFrom actionsOf
+unfolding Says modeAfter textGiven textHeld normalisedFrom normalised nestBare nestQuoted nestAfter cuts partsFrom piecesOf pieces actionsFrom actionsOf
 Comes s o = actionsOf (bytes s) ≡ o
 
 -- A list that is accepted.
@@ -32,11 +22,6 @@ Reads s xs = Comes s (reads xs)
 -- A list that is refused.
 abbrev pub Refuses : String → Refusal → Type 0
 Refuses s f = Comes s (refuses f)
-
--- What a setvar alone says: collection, key, value.
-unfoldable pub Sets : String → String → String → SetValue → Type 0
-unfolding Comes
-Sets s c k v = setvar (bytes s) ≡ setvarOf (varName (bytes c) (bytes k)) v
 
 -- ---- document 01
 
@@ -95,16 +80,6 @@ pub square : Reads "msg:[a,deny" (worded 14 (bytes "[a") ∷ numbered 1 0 ∷ []
 unfolding Comes
 square = refl
 
--- the name is not trimmed
-pub blank-name : Refuses "deny :x" (unknownAction 0 (bytes "deny "))
-unfolding Comes
-blank-name = refl
-
--- the one spelling with a capital
-pub spelled : Refuses "SKIPAFTER" (badArgument 0 (bytes "skipAfter"))
-unfolding Comes
-spelled = refl
-
 -- marks of both kinds go at both ends, and blanks inside them stay
 pub all-marks : Reads "tag: '',severity:'+5',msg:'\"x'\"" (worded 15 (bytes " ") ∷ numbered 13 5 ∷ worded 14 (bytes "x") ∷ [])
 unfolding Comes
@@ -115,38 +90,3 @@ pub empty-texts : Reads "msg,expirevar,redirect:,ctl:,t:"
     (worded 14 [] ∷ action 25 0 (present []) absent ∷ worded 6 [] ∷ action 31 0 (present []) (present []) ∷ worded 32 [] ∷ [])
 unfolding Comes
 empty-texts = refl
-
--- marks are kept before and behind `=`, and the seconds are unreadable
-pub expiry-marked : Reads "expirevar:'a=5'" (action 25 0 (present (bytes "'a")) absent ∷ [])
-unfolding Comes
-expiry-marked = refl
-
--- ---- setvar
-
-pub step-twice : Sets "a=--5" "tx" "a" (decrement (2 ^ 64 - 5))
-unfolding Sets
-step-twice = refl
-
-pub step-unread : Sets "'TX.aB=+abc'" "tx" "aB" (increment 1)
-unfolding Sets
-step-unread = refl
-
-pub step-large : Sets "a=-9223372036854775808" "tx" "a" (decrement 1)
-unfolding Sets
-step-large = refl
-
-pub word-large : Sets "a=9223372036854775808" "tx" "a" (text (bytes "9223372036854775808"))
-unfolding Sets
-word-large = refl
-
-pub deleted : Sets " \"!A=b.c\" " "a=b" "c" delete
-unfolding Sets
-deleted = refl
-
-pub later-macro : Sets ".a=-1%{" "" "a" (macro (bytes "-1%{"))
-unfolding Sets
-later-macro = refl
-
-pub no-value : Sets "" "tx" "" (text (bytes "1"))
-unfolding Sets
-no-value = refl

@@ -3,14 +3,9 @@ use Prim.Native.Nat.{ℕ, _+_}
 use mathlib.Core.List.{List, [], _∷_, _++_}
 use lib.ListN.{length}
 use Rattle.lent.specs.Sizes.{spanWord}
-use Rattle.actions.specs.Actions.{Slot, absent, present, Action}
+use Rattle.single_action.specs.Actions.{Slot, absent, present, Action, slotText, actionText}
 
--- The bytes of a text.
-abbrev pub slotText : Slot → List ℕ
-slotText absent = []
-slotText (present t) = t
-
--- Its span word, the offset o being reached: an absent text is 0.
+-- The span word of a text, the offset o being reached: an absent one is 0.
 abbrev pub slotWord : ℕ → Slot → ℕ
 slotWord o absent = 0
 slotWord o (present t) = spanWord o (length t)
@@ -18,10 +13,6 @@ slotWord o (present t) = spanWord o (length t)
 -- The offset behind it.
 abbrev pub slotEnd : ℕ → Slot → ℕ
 slotEnd o s = o + length (slotText s)
-
--- The texts of one action, in the order a, b, c.
-unfoldable pub actionText : Action → List ℕ
-actionText x = slotText (x .a) ++ (slotText (x .b) ++ slotText (x .c))
 
 -- The six words of an action whose texts start at the offset o.
 unfoldable pub actionRecord : ℕ → Action → List ℕ

@@ -1,14 +1,9 @@
 pub mod Normal
-pub mod Marks
 pub mod Pieces
-pub mod Setvar
-pub mod Table
-pub mod Actions
 pub mod Lists
 pub mod Layout
 pub mod Promises
 pub mod Steps
-pub mod Plans
 pub mod Listing
 pub mod Calls
 pub mod Cases

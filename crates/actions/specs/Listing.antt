@@ -9,8 +9,8 @@ use Rattle.ascii.specs.Choice.{pick}
 use Rattle.lent.specs.Sizes.{actionWords, roomFor}
 use Rattle.lent.specs.Buffers.{zeros, padded}
 use Rattle.lent.specs.Table.{Refusal, unknownAction, badArgument, refuses, reads}
+use Rattle.single_action.specs.Actions.{Action}
 use Rattle.actions.specs.Pieces.{pieces}
-use Rattle.actions.specs.Actions.{Action}
 use Rattle.actions.specs.Lists.{actionsFrom}
 use Rattle.actions.specs.Layout.{wordsFrom, texts}
 use Rattle.actions.specs.declared.Answer.{Answer}

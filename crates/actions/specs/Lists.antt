@@ -2,9 +2,9 @@
 use Prim.Native.Nat.{ℕ, suc}
 use mathlib.Core.List.{List, [], _∷_}
 use Rattle.lent.specs.Table.{unknownAction, badArgument, Outcome, refuses, reads}
+use Rattle.single_action.specs.Actions.{Action, Single, done, bad, unknown, single}
 use Rattle.actions.specs.Normal.{normalised}
 use Rattle.actions.specs.Pieces.{pieces}
-use Rattle.actions.specs.Actions.{Action, Single, done, bad, unknown, single}
 
 -- An action before those of the pieces after it, if these are read.
 abbrev pub actionThen : Action → Outcome (List Action) → Outcome (List Action)

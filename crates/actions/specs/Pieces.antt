@@ -5,7 +5,7 @@ use mathlib.Core.List.{List, [], _∷_}
 use lib.Dec.{eqb}
 use Rattle.ascii.specs.Choice.{pick, and}
 use Rattle.ascii.specs.Trim.{trimEnds}
-use Rattle.actions.specs.Marks.{quotation}
+use Rattle.single_action.specs.Marks.{quotation}
 
 -- The open quotation mark, 0 for none, and the bracket depth: in_quotes with quote_char, and paren_depth.
 pub record Nest : Type 0 where

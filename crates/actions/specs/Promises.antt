@@ -11,9 +11,9 @@ use Rattle.lent.specs.Gates.{gateOf}
 use Rattle.lent.specs.Table.{Given, given, tooLong, notAscii, shortBuffer, noRoom, refused, Outcome, refuses, reads, pastGate, Filled, givenBy, textBy, recordsBy}
 use Rattle.lent.specs.declared.gating.Gate.{Gate}
 use Rattle.lent.specs.declared.gating.Gate.the-variants.{Open, TooLong, NotAscii, Short}
+use Rattle.single_action.specs.Setvar.{setvar}
+use Rattle.single_action.specs.Actions.{Action, setvarAction}
 use Rattle.actions.specs.Normal.{normalised}
-use Rattle.actions.specs.Setvar.{setvar}
-use Rattle.actions.specs.Actions.{Action, setvarAction}
 use Rattle.actions.specs.Lists.{actionsOf}
 use Rattle.actions.specs.Layout.{wordsFrom, texts}
 use Rattle.actions.specs.declared.Answer.{Answer}

@@ -1,14 +1,7 @@
-// Action lists (document 01, module 4): normalising, cutting, one action by its row, setvar, and the list.
+// Action lists (document 01, module 4): normalising, cutting, and what is read of each piece written into lent memory.
 mod cutting;
-mod finding;
 mod lists;
-mod marking;
-mod naming;
 mod normalising;
-mod plans;
-mod searching;
-mod settings;
-mod singles;
 mod writing;
 
 pub use lists::parse_actions;

@@ -2,23 +2,23 @@
 ghost use mathlib.Core.Path.{_≡_};
 ghost use Prim.Native.Nat.{_+_, _≤_, _<_, min};
 ghost use lib.ListN.{length};
+ghost use Rattle.ascii.specs.Fold.{lowered};
 ghost use Rattle.lent.specs.Sizes.{limit};
 ghost use Rattle.lent.specs.Buffers.{padded};
-ghost use Rattle.ascii.specs.Fold.{lowered};
+ghost use Rattle.single_action.specs.Table.{rowAt};
 ghost use Rattle.actions.specs.Normal.{normalised};
-ghost use Rattle.actions.specs.Table.{rowAt};
 ghost use Rattle.actions.specs.Listing.{Listed, Finished};
 ghost use Rattle.actions.specs.Promises.{ParseActions, SetvarAlone};
 use crate::Answer;
 use crate::cutting::part_end;
-use crate::naming::put_name;
 use crate::normalising::normalise;
-use crate::plans::Verdict;
-use crate::settings::setvar_plan;
-use crate::singles::read_single;
 use crate::writing::put_plan;
 use crate::writing::store_lowered;
 use lent::Gate;
+use single_action::Verdict;
+use single_action::put_name;
+use single_action::read_setvar;
+use single_action::read_single;
 
 // What a normalised text comes to: how many actions and bytes of text, or the piece that is refused and its name's length.
 pub enum Listing {
@@ -29,7 +29,6 @@ pub enum Listing {
 
 // The text buffer of a refusal with an action's name as the Rust spells it: the name, and zeros.
 fn refuse_row(row: usize, text: &mut [u8]) -> usize
-    requires { ⌜ row < 41 ⌝ }
     requires { ⌜ length (rowAt row .name) ≤ length (now text) ⌝ }
     ensures { λ r. ⌜ now (text .exit) ≡ padded (length (now (text .entry))) (rowAt row .name) ⌝ }
     ensures { λ r. ⌜ r ≡ length (rowAt row .name) ⌝ }
@@ -158,7 +157,7 @@ pub fn parse_setvar(input: &[u8], text: &mut [u8], records: &mut [u64]) -> Answe
         Gate::Short => return Answer::Short,
         Gate::Open => {}
     }
-    let plan = setvar_plan(input, 0, 22);
+    let plan = read_setvar(input);
     let used = put_plan(input, plan, text, 0, records, 0);
     finish(text, used, records, 1)
 }

@@ -5,10 +5,11 @@ ghost use lib.ListN.{length};
 ghost use Rattle.ascii.specs.Fold.{lowered};
 ghost use Rattle.lent.specs.Sizes.{limit};
 ghost use Rattle.lent.specs.Buffers.{stored};
-ghost use Rattle.actions.specs.Layout.{actionText, actionRecord};
-ghost use Rattle.actions.specs.Plans.{originText, originWord, Lies, planAction, Put, Inside};
-use crate::plans::Origin;
-use crate::plans::Plan;
+ghost use Rattle.single_action.specs.Plans.{originText, Lies, planAction, Inside};
+ghost use Rattle.single_action.specs.Actions.{actionText};
+ghost use Rattle.actions.specs.Steps.{originWord, Put};
+use single_action::Origin;
+use single_action::Plan;
 
 // A text in small letters at a place, where it fits whole; else nothing.
 pub fn store_lowered(out: &mut [u8], at: usize, text: &[u8])

@@ -33,18 +33,18 @@ returns-3 c = alone-short (now (c .before .before .before .before .before .befor
 enum-told-3 : tie.Need-enum-told-3
 enum-told-3 c = search needs
 
-setvar-plan-requires : tie.Need-setvar-plan-requires
-setvar-plan-requires c κs = search needs
+read-setvar-requires : tie.Need-read-setvar-requires
+read-setvar-requires c κs = search needs
 
 put-plan-requires : tie.Need-put-plan-requires
 put-plan-requires c κs =
-    let p = c .before .before .setvar-plan .ensures in
+    let p = c .before .before .read-setvar .ensures in
     let r = alone-room (now (c .before .before .before .before .before .before .before .before .before .args .input)) (now (c .before .before .before .before .before .before .before .before .before .args .text)) (now (c .before .before .before .before .before .before .before .before .before .args .records)) (c .before .before .before .before .before .admit .ensures) (c .before .before .before .enum-told3 .given .1) _ p in
     (p .inside, (omega (arith, r), omega (arith, r)))
 
 finish-requires : tie.Need-finish-requires
 finish-requires c κs =
-    let r = alone-room (now (c .before .before .before .before .before .before .before .before .before .before .before .before .before .before .before .before .args .input)) (now (c .before .before .before .before .before .before .before .before .before .before .before .before .before .before .before .before .args .text)) (now (c .before .before .before .before .before .before .before .before .before .before .before .before .before .before .before .before .args .records)) (c .before .before .before .before .before .before .before .before .before .before .before .before .admit .ensures) (c .before .before .before .before .before .before .before .before .before .before .enum-told3 .given .1) _ (c .before .before .before .before .before .before .before .before .before .setvar-plan .ensures) in
+    let r = alone-room (now (c .before .before .before .before .before .before .before .before .before .before .before .before .before .before .before .before .args .input)) (now (c .before .before .before .before .before .before .before .before .before .before .before .before .before .before .before .before .args .text)) (now (c .before .before .before .before .before .before .before .before .before .before .before .before .before .before .before .before .args .records)) (c .before .before .before .before .before .before .before .before .before .before .before .before .admit .ensures) (c .before .before .before .before .before .before .before .before .before .before .enum-told3 .given .1) _ (c .before .before .before .before .before .before .before .before .before .read-setvar .ensures) in
     (omega (arith, r, c .before .before .before .before .before .before .put-plan .ensures .end, c .before .before .before .before .before .before .put-plan .kept), omega arith)
 
 same-length : tie.Need-same-length
@@ -56,7 +56,7 @@ same-length-2 c = search needs
 returns-4 : tie.Need-returns-4
 returns-4 c =
     let o = c .before .before .before .before .before .before .before .before .before .before .before .before .before .before .before .enum-told3 .given .1 in
-    alone-read (now (c .before .before .before .before .before .before .before .before .before .before .before .before .before .before .before .before .before .before .before .before .before .args .input)) (now (c .before .before .before .before .before .before .before .before .before .before .before .before .before .before .before .before .before .before .before .before .before .args .text)) (now (c .before .before .before .before .before .before .before .before .before .before .before .before .before .before .before .before .before .before .before .before .before .args .records)) (c .before .before .before .before .before .before .before .before .before .before .before .before .before .before .before .before .before .admit .ensures) o (alone-laid (now (c .before .before .before .before .before .before .before .before .before .before .before .before .before .before .before .before .before .before .before .before .before .args .input)) (now (c .before .before .before .before .before .before .before .before .before .before .before .before .before .before .before .before .before .before .before .before .before .args .text)) (now (c .before .before .before .before .before .before .before .before .before .before .before .before .before .before .before .before .before .before .before .before .before .args .records)) (c .before .before .before .before .before .before .before .before .before .before .before .before .before .before .before .before .before .admit .ensures) o _ (c .before .before .before .before .before .before .before .before .before .before .before .before .before .before .setvar-plan .ensures) (c .before .before .before .before .before .before .before .before .before .before .before .put-plan .ensures)) (c .before .before .before .before .finish .ensures)
+    alone-read (now (c .before .before .before .before .before .before .before .before .before .before .before .before .before .before .before .before .before .before .before .before .before .args .input)) (now (c .before .before .before .before .before .before .before .before .before .before .before .before .before .before .before .before .before .before .before .before .before .args .text)) (now (c .before .before .before .before .before .before .before .before .before .before .before .before .before .before .before .before .before .before .before .before .before .args .records)) (c .before .before .before .before .before .before .before .before .before .before .before .before .before .before .before .before .before .admit .ensures) o (alone-laid (now (c .before .before .before .before .before .before .before .before .before .before .before .before .before .before .before .before .before .before .before .before .before .args .input)) (now (c .before .before .before .before .before .before .before .before .before .before .before .before .before .before .before .before .before .before .before .before .before .args .text)) (now (c .before .before .before .before .before .before .before .before .before .before .before .before .before .before .before .before .before .before .before .before .before .args .records)) (c .before .before .before .before .before .before .before .before .before .before .before .before .before .before .before .before .before .admit .ensures) o _ (c .before .before .before .before .before .before .before .before .before .before .before .before .before .before .read-setvar .ensures) (c .before .before .before .before .before .before .before .before .before .before .before .put-plan .ensures)) (c .before .before .before .before .finish .ensures)
 
 pub parse-setvar-spec : {M : Type 1} → statement M
 parse-setvar-spec =
@@ -71,7 +71,7 @@ parse-setvar-spec =
     enum-told-2
     returns-3
     enum-told-3
-    setvar-plan-requires
+    read-setvar-requires
     put-plan-requires
     finish-requires
     same-length

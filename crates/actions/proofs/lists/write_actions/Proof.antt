@@ -60,7 +60,7 @@ enum-known-row c = search needs
 refuse-row-requires : tie.Need-refuse-row-requires Inv-loop μ-loop
 refuse-row-requires c κs =
     let j = rw (c .before .before .row .given .1) at (c .before .before .before .before .read-single .ensures) in
-    (j .sound, row-fits (c .before .before .before .before .before .before .before .before .before .loop .inv) (c .before .before .before .before .before .before .before .before .before .before .before .before .before .pre .1) (c .before .before .before .before .before .before .before .before .part-end .result) (c .before .before .before .before .before .before .before .before .part-end .ensures) (now (c .before .before .before .before .before .before .trim .result)) (c .before .before .before .before .before .before .trim .ensures) (c .before .before .before .before .before .if1 .taken) (c .before .before .row .given .0 .0) j)
+    row-fits (c .before .before .before .before .before .before .before .before .before .loop .inv) (c .before .before .before .before .before .before .before .before .before .before .before .before .before .pre .1) (c .before .before .before .before .before .before .before .before .part-end .result) (c .before .before .before .before .before .before .before .before .part-end .ensures) (now (c .before .before .before .before .before .before .trim .result)) (c .before .before .before .before .before .before .trim .ensures) (c .before .before .before .before .before .if1 .taken) (c .before .before .row .given .0 .0) j
 
 same-length : tie.Need-same-length Inv-loop μ-loop
 same-length c = omega (arith, c .before .before .before .before .before .before .before .before .before .before .before .before .loop .inv .written .long, c .before .before .refuse-row .kept)

@@ -3,7 +3,8 @@ use borrow.Author.Needs.{needs}
 use native.Mathlib.Omega.{arith}
 use denote.Ref.{now}
 use Rattle.ascii.specs.Text.{bytes}
-use Rattle.actions.proofs.WritingLaws.{stored-none, copied-lies, copied-long, copied-put, lowered-lies, lowered-long, lowered-put}
+use Rattle.single_action.proofs.NamingLaws.{stored-none}
+use Rattle.actions.proofs.WritingLaws.{copied-lies, copied-long, copied-put, lowered-lies, lowered-long, lowered-put}
 use Rattle.actions.proofs.writing.put_text.Statement.{statement}
 use Rattle.actions.proofs.writing.put_text.Tie as tie
 

@@ -4,11 +4,10 @@ use Prim.Native.Nat.{_-_}
 use native.Mathlib.Omega.{arith}
 use borrow.Author.Needs.{needs}
 use denote.Ref.{now}
-use lib.ListN.{length, length-map}
+use lib.ListN.{length, length-map, List·getD-map}
 use Rattle.ascii.specs.Fold.{lower, lowered}
 use Rattle.lent.proofs.BufferLaws.{stored-short}
 use Rattle.lent.proofs.LoopLaws.{Storing, storing-none, storing-one, stores}
-use Rattle.names.proofs.TableLaws.{getD-map}
 use Rattle.actions.proofs.writing.store_lowered.Statement.{statement}
 use Rattle.actions.proofs.writing.store_lowered.Tie as tie
 
@@ -49,10 +48,11 @@ loop-less : tie.Need-loop-less Inv-loop μ-loop
 loop-less c = search needs
 
 loop-again : tie.Need-loop-again Inv-loop μ-loop
+unfolding lower
 loop-again c =
     let s = now (c .before .before .before .before .before .before .before .before .args .text) in
     let i = c .before .before .before .loop .i in
-    let e = c .to-lower .ensures ∙ sym (getD-map lower s i 0 0 (c .before .before .loop-test .taken)) in
+    let e = c .to-lower .ensures ∙ sym (List·getD-map lower s i 0) in
     rw e (storing-one (c .before .before .before .loop .inv) (omega (arith, length-map s lower, c .before .before .loop-test .taken)))
 
 same-length : tie.Need-same-length Inv-loop μ-loop

@@ -1,0 +1,12 @@
+pub mod MarkLaws
+pub mod SetvarLaws
+pub mod SingleLaws
+pub mod TableLaws
+pub mod MacroLaws
+pub mod MarkPlaceLaws
+pub mod NamingLaws
+pub mod RowLaws
+pub mod CutLaws
+pub mod SettingLaws
+pub mod JudgedLaws
+pub mod SaidLaws

@@ -1,0 +1,20 @@
+-- The codes are the table's column.
+use borrow.Author.Needs.{needs}
+use Rattle.single_action.specs.Table.{rows}
+use Rattle.single_action.proofs.NamingLaws.{code-at, code-fits}
+use Rattle.single_action.proofs.naming.code_of.Statement.{statement}
+use Rattle.single_action.proofs.naming.code_of.Tie as tie
+
+array-read-result : tie.Need-array-read-result
+array-read-result c = search needs
+
+cast-result : tie.Need-cast-result
+unfolding rows
+cast-result c = code-fits (c .args .row) (c .pre)
+
+returns : tie.Need-returns
+unfolding rows
+returns c = code-at (c .args .row) (c .pre)
+
+pub code-of-spec : {M : Type 1} → statement M
+code-of-spec = tie.close (tie.spec array-read-result cast-result returns)

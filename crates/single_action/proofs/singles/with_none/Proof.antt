@@ -1,0 +1,62 @@
+-- Each rule by its own law.
+use Rattle.single_action.specs.Table.{rowAt}
+use Rattle.single_action.proofs.JudgedLaws.{none-plain, none-unmarked, none-expiry, none-bad, bad-row}
+use borrow.Author.Needs.{needs}
+use Rattle.single_action.proofs.singles.with_none.Statement.{statement}
+use Rattle.single_action.proofs.singles.with_none.Tie as tie
+
+code-of-requires : tie.Need-code-of-requires
+code-of-requires c κs = search needs
+
+rule-of-requires : tie.Need-rule-of-requires
+rule-of-requires c κs = search needs
+
+enum-told : tie.Need-enum-told
+enum-told c = search needs
+
+text-plan-requires : tie.Need-text-plan-requires
+text-plan-requires c κs = search needs
+
+enum-told-2 : tie.Need-enum-told-2
+enum-told-2 c = search needs
+
+text-plan-requires-2 : tie.Need-text-plan-requires-2
+text-plan-requires-2 c κs = search needs
+
+enum-told-3 : tie.Need-enum-told-3
+enum-told-3 c = search needs
+
+text-plan-requires-3 : tie.Need-text-plan-requires-3
+text-plan-requires-3 c κs = search needs
+
+returns : tie.Need-returns
+returns c = λ s. rw (c .text-plan .ensures) (none-plain s (rowAt (c .before .before .before .before .before .args .row)) (c .before .before .before .before .code-of .ensures) (c .before .before .before .rule-of .ensures) (c .before .enum-told .given .1))
+
+returns-2 : tie.Need-returns-2
+returns-2 c = λ s. rw (c .text-plan2 .ensures) (none-unmarked s (rowAt (c .before .before .before .before .before .args .row)) (c .before .before .before .before .code-of .ensures) (c .before .before .before .rule-of .ensures) (c .before .enum-told2 .given .1))
+
+returns-3 : tie.Need-returns-3
+returns-3 c = λ s. rw (c .text-plan3 .ensures) (none-expiry s (rowAt (c .before .before .before .before .before .args .row)) (c .before .before .before .before .code-of .ensures) (c .before .before .before .rule-of .ensures) (c .before .enum-told3 .given .1))
+
+returns-4 : tie.Need-returns-4
+returns-4 c =
+    λ s.
+    let r = c .before .before .before .args .row in
+    rw (none-bad (rowAt r .rule) (rowAt r) (rw (c .before .rule-of .ensures) at (c .match .keys4))) (bad-row s r (c .before .before .before .pre))
+
+pub with-none-spec : {M : Type 1} → statement M
+with-none-spec =
+    tie.close
+    (tie.spec
+    code-of-requires
+    rule-of-requires
+    enum-told
+    text-plan-requires
+    enum-told-2
+    text-plan-requires-2
+    enum-told-3
+    text-plan-requires-3
+    returns
+    returns-2
+    returns-3
+    returns-4)

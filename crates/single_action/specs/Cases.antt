@@ -1,0 +1,73 @@
+-- Single actions and setvars worked out, at the edges.
+use mathlib.Core.Path.{_≡_, refl}
+use Prim.Native.Nat.{_^_, _-_}
+use Prim.Native.String.{String}
+use Rattle.ascii.specs.Text.{bytes}
+use Rattle.ascii.specs.Classes.{white, digit}
+use Rattle.ascii.specs.Fold.{lower, same}
+use Rattle.ascii.specs.Trim.{stripStart, stripEnd}
+use Rattle.ascii.specs.Numbers.{value, allDigits, digitsBy, unsignedBy, signedWord}
+use Rattle.ascii.specs.Splits.{split}
+use Rattle.names.specs.Tables as N
+use Rattle.names.specs.Severities.{severities, severityCode}
+use Rattle.single_action.specs.Marks.{quotation, paired, unpaired}
+use Rattle.single_action.specs.Setvar.{SetValue, text, increment, decrement, delete, macro, setvarOf, varName, nameOf, hasMacro, plainValue, valueOf, setvarBare, setvar}
+use Rattle.single_action.specs.Table.{rows, find}
+use Rattle.single_action.specs.Actions.{absent, present, action, Single, done, bad, unknown, withText, withNone, named, single}
+
+-- What a piece comes to. To unfold it is to unfold every definition that a piece is read by.
+unfoldable pub Says : String → Single → Type 0
+unfolding bytes white digit lower same stripStart stripEnd value allDigits digitsBy unsignedBy signedWord N.find severities severityCode quotation paired unpaired split nameOf hasMacro plainValue valueOf setvarBare setvar rows find withText withNone named single
+Says s x = single (bytes s) ≡ x
+
+-- What a setvar alone says: collection, key, value.
+unfoldable pub Sets : String → String → String → SetValue → Type 0
+unfolding Says
+Sets s c k v = setvar (bytes s) ≡ setvarOf (varName (bytes c) (bytes k)) v
+
+-- ---- a piece
+
+-- the name is not trimmed
+pub blank-name : Says "deny :x" (unknown (bytes "deny "))
+unfolding Says
+blank-name = refl
+
+-- the one spelling with a capital
+pub spelled : Says "SKIPAFTER" (bad (bytes "skipAfter"))
+unfolding Says
+spelled = refl
+
+-- marks are kept before and behind `=`, and the seconds are unreadable
+pub expiry-marked : Says "expirevar:'a=5'" (done (action 25 0 (present (bytes "'a")) absent))
+unfolding Says
+expiry-marked = refl
+
+-- ---- setvar
+
+pub step-twice : Sets "a=--5" "tx" "a" (decrement (2 ^ 64 - 5))
+unfolding Sets
+step-twice = refl
+
+pub step-unread : Sets "'TX.aB=+abc'" "tx" "aB" (increment 1)
+unfolding Sets
+step-unread = refl
+
+pub step-large : Sets "a=-9223372036854775808" "tx" "a" (decrement 1)
+unfolding Sets
+step-large = refl
+
+pub word-large : Sets "a=9223372036854775808" "tx" "a" (text (bytes "9223372036854775808"))
+unfolding Sets
+word-large = refl
+
+pub deleted : Sets " \"!A=b.c\" " "a=b" "c" delete
+unfolding Sets
+deleted = refl
+
+pub later-macro : Sets ".a=-1%{" "" "a" (macro (bytes "-1%{"))
+unfolding Sets
+later-macro = refl
+
+pub no-value : Sets "" "tx" "" (text (bytes "1"))
+unfolding Sets
+no-value = refl

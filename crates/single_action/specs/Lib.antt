@@ -1,0 +1,6 @@
+pub mod Marks
+pub mod Setvar
+pub mod Table
+pub mod Actions
+pub mod Plans
+pub mod Cases
