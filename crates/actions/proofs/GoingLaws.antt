@@ -19,6 +19,8 @@ use Rattle.lent.specs.Sizes.{actionWords}
 use Rattle.lent.specs.Buffers.{padded, stored}
 use Rattle.lent.specs.Table.{Refusal, badArgument, unknownAction, refuses, reads}
 use Rattle.lent.proofs.BufferLaws.{Written, written-none, written-stored, taken-stored, written-all, written-length, stored-length}
+use Rattle.lent.specs.Layout.{textsOf, wordsOf}
+use Rattle.lent.proofs.LayoutLaws.{count-more}
 use Rattle.single_action.specs.Table.{rowAt}
 use Rattle.single_action.specs.Actions.{Action, actionText, Single, done, bad, single}
 use Rattle.single_action.specs.Plans.{cut, planAction, Judged}
@@ -31,7 +33,7 @@ use Rattle.actions.specs.Layout.{actionRecord, wordsFrom, texts}
 use Rattle.actions.specs.Steps.{Put}
 use Rattle.actions.specs.Listing.{ReadAll, Stopped}
 use Rattle.actions.proofs.PieceLaws.{part-fits}
-use Rattle.actions.proofs.LayoutLaws.{texts-more, words-more, record-length, count-more}
+use Rattle.actions.proofs.LayoutLaws.{texts-more, words-more, record-length}
 use Rattle.actions.proofs.LoopLaws.{pieces-more, pieces-last, soFar, no-piece, one-piece, so-far-more, so-far-refused, so-far-read}
 
 -- ---- the parts
@@ -78,7 +80,7 @@ pub record Going (s text₀ records₀ text records : List ℕ) (rest : List (Li
   pub long : length records ≡ length records₀
 
 pub begun : (s text records : List ℕ) → Going s text records text records (pieces (drop 0 s)) 0 0 0 0
-unfolding soFar texts wordsFrom
+unfolding soFar textsOf wordsOf
 begun s text records = record {
   actions = [];
   so-far = refl;

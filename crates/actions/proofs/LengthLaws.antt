@@ -5,6 +5,7 @@ use Prim.Native.Nat.{ℕ, suc, _+_, _≤_}
 use native.Mathlib.Omega.{arith}
 use lib.ListN.{length, length-append}
 use Rattle.lent.specs.Table.{tooLong, notAscii, shortBuffer, noRoom, unknownAction, badArgument, unknownVariable, unknownOperator, badCursor, Outcome, refuses, reads}
+use Rattle.lent.specs.Layout.{textsOf}
 use Rattle.single_action.specs.Setvar.{setvar}
 use Rattle.single_action.specs.Actions.{Action, actionText, Single, done, bad, unknown, setvarAction, single}
 use Rattle.single_action.proofs.SingleLaws.{Within, setvar-text, single-within}
@@ -31,7 +32,7 @@ Fits n (refuses (unknownOperator k l)) = Unit {0}
 Fits n (refuses badCursor) = Unit {0}
 
 action-fits : (x : Action) (o : Outcome (List Action)) (m n : ℕ) → length (actionText x) ≤ m → Fits n o → Fits (m + n) (actionThen x o)
-unfolding texts
+unfolding textsOf
 action-fits x (reads xs) m n h k = omega (arith, length-append (actionText x) (texts xs))
 action-fits x (refuses (unknownAction p name)) m n h k = omega arith
 action-fits x (refuses (badArgument p name)) m n h k = omega arith
@@ -49,7 +50,7 @@ single-fits p (bad name) o m n h k = omega arith
 single-fits p (unknown name) o m n h k = omega arith
 
 from-fits : (k : ℕ) (ps : List (List ℕ)) → Fits (total ps) (actionsFrom k ps)
-unfolding actionsFrom total texts
+unfolding actionsFrom total textsOf
 from-fits k [] = omega arith
 from-fits k (p ∷ ps) = single-fits k (single p) (actionsFrom (suc k) ps) (length p) (total ps) (single-within p) (from-fits (suc k) ps)
 
@@ -72,5 +73,5 @@ actions-fit s = fits-more (actionsFrom 0 (pieces (normalised s))) (total (pieces
 
 -- the texts of a setvar alone
 pub alone-fits : (s : List ℕ) → length (texts (setvarAlone s)) ≤ length s + 3
-unfolding texts
+unfolding textsOf
 alone-fits s = omega (arith, setvar-text 22 s, length-append (actionText (setvarAction 22 (setvar s))) [])

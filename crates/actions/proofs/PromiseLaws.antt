@@ -18,6 +18,7 @@ use Rattle.lent.specs.declared.gating.Gate.the-variants as Gate
 use Rattle.lent.proofs.SpanLaws.{room-is}
 use Rattle.lent.proofs.GateLaws.{open-is}
 use Rattle.lent.proofs.BufferLaws.{written-first, taken-first, written-all, stored-length, front-fits}
+use Rattle.lent.specs.Layout.{textsOf, wordsOf}
 use Rattle.single_action.specs.Setvar.{setvar}
 use Rattle.single_action.specs.Actions.{Action, actionText, setvarAction}
 use Rattle.single_action.specs.Plans.{planAction, Planned}
@@ -149,7 +150,7 @@ module _ (s text work records : List ℕ) {shorter : ℕ} {g : Gate} (m : shorte
 -- one action, stored at the front of both buffers
 pub laid-alone : (x : Action) {text text′ records records′ : List ℕ} {used : ℕ} → length (actionText x) ≤ length text
     → Put x 0 0 text text′ records records′ used → Laid (x ∷ []) text text′ records records′ 1 used
-unfolding texts wordsFrom
+unfolding textsOf wordsOf
 laid-alone x {text} {text′} {records} {records′} {used} h p =
     let e : length (actionText x ++ []) ≡ length (actionText x) = ap length (append-nil (actionText x)) in
     record {

@@ -7,6 +7,7 @@ use Rattle.ascii.specs.Text.{bytes}
 use Rattle.lent.specs.Sizes.{roomFor}
 use Rattle.lent.specs.Gates.{firstHigh, gateOf}
 use Rattle.lent.specs.Table.{Given, given, givenBy}
+use Rattle.lent.specs.Layout.{textsOf}
 use Rattle.single_action.specs.Actions.{actionText}
 use Rattle.actions.specs.Layout.{texts}
 use Rattle.actions.specs.Promises.{actionsOutcome, setvarOutcome}
@@ -14,7 +15,7 @@ use Rattle.actions.specs.Cases.{Comes}
 
 -- What a call of parse_actions gives, with so many bytes of text and of scratch and words of records lent.
 unfoldable pub Gives : String → ℕ → ℕ → ℕ → Given → Type 0
-unfolding Comes roomFor firstHigh gateOf actionText texts actionsOutcome
+unfolding Comes roomFor firstHigh gateOf actionText textsOf actionsOutcome
 Gives s n k m g = givenBy (actionsOutcome (bytes s) n k m) ≡ g
 
 -- What a call of parse_setvar alone gives, with so many bytes of text and words of records lent.

@@ -3,6 +3,7 @@ use Prim.Native.Nat.{ℕ, _+_}
 use mathlib.Core.List.{List, [], _∷_, _++_}
 use lib.ListN.{length}
 use Rattle.lent.specs.Sizes.{spanWord}
+use Rattle.lent.specs.Layout.{textsOf, wordsOf}
 use Rattle.single_action.specs.Actions.{Slot, absent, present, Action, slotText, actionText}
 
 -- The span word of a text, the offset o being reached: an absent one is 0.
@@ -20,12 +21,9 @@ actionRecord o x =
     x .code ∷ x .number ∷ slotWord o (x .a) ∷ slotWord (slotEnd o (x .a)) (x .b) ∷ x .kind ∷
     slotWord (slotEnd (slotEnd o (x .a)) (x .b)) (x .c) ∷ []
 
--- The words of all actions, one record after another, the first text at the offset o.
-unfoldable pub wordsFrom : ℕ → List Action → List ℕ
-wordsFrom o [] = []
-wordsFrom o (x ∷ xs) = actionRecord o x ++ wordsFrom (o + length (actionText x)) xs
+-- The words of all actions, one record after another, the first text at the offset o; and their texts.
+abbrev pub wordsFrom : ℕ → List Action → List ℕ
+wordsFrom = wordsOf actionRecord actionText
 
--- Their texts, one after another.
-unfoldable pub texts : List Action → List ℕ
-texts [] = []
-texts (x ∷ xs) = actionText x ++ texts xs
+abbrev pub texts : List Action → List ℕ
+texts = textsOf actionText

@@ -12,7 +12,7 @@ use Rattle.lent.specs.Gates.{gateOf}
 use Rattle.lent.specs.Table.{noRoom, Outcome, refuses, reads, Filled, textBy, recordsBy}
 use Rattle.actions.specs.Normal.{normalised}
 use Rattle.actions.specs.Pieces.{pieces}
-use Rattle.actions.specs.Actions.{Action, Single, done, bad, unknown, single}
+use Rattle.single_action.specs.Actions.{Action, Single, done, bad, unknown, single}
 use Rattle.actions.specs.Lists.{actionThen, singleThen, actionsFrom, actionsOf}
 use Rattle.actions.specs.Promises as A
 use Rattle.actions.specs.declared.Answer.{Answer}

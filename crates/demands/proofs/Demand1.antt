@@ -1,6 +1,7 @@
 -- Demand 1. Every public call takes any input and any lent buffers, ends, and relies on nothing that the caller must take care of.
 -- It refuses by the numbers in document 01 and leaves the buffers as that table states.
 use Rattle.lexer.specs.Cursors.{fresh}
+use Rattle.single_action.proofs.SaidLaws.{verdict-said, plan-said}
 use Rattle.demands.specs.Demand1.{Demand1}
 use Rattle.demands.proofs.FixedLaws.{gives}
 use Rattle.demands.proofs.TokenCalls.{next-token-fixed, tokens-fixed, tokens-row}
@@ -66,6 +67,7 @@ demand1 = record {
       once = λ i. next-token-fixed .once (record { input = i .0; from = fresh; buffer = i .1 });
     };
   };
+  of-singles = record { read-single = λ s v w. verdict-said; read-setvar = λ s p q. plan-said; put-name = gives _ };
   of-parsers = record {
     parse-actions = parse-actions-fixed;
     parse-setvar = parse-setvar-fixed;

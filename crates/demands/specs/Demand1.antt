@@ -2,6 +2,7 @@
 -- It refuses by the numbers in document 01 and leaves the buffers as that table states.
 -- Said here of every public function: its promise asks nothing of what goes in, something can always come out, and only one thing
 -- (`Fixed`; `Gives` where the promise is an equation with a definition). That the code keeps each promise, and so ends: proofs/Functions.antt.
+use mathlib.Core.Path.{_≡_}
 use mathlib.Core.List.{List}
 use Prim.Native.Nat.{ℕ}
 use lib.ListN.{length}
@@ -21,6 +22,12 @@ use Rattle.lexer.specs.Promises as Lexer
 use Rattle.lexer.specs.declared.Cursor.{Cursor}
 use Rattle.lexer.specs.declared.stepping.Step.{Step}
 use Rattle.lexer.specs.declared.writing.Answer as Tokens
+use Rattle.single_action.specs.Table.{rowAt}
+use Rattle.single_action.specs.Setvar.{setvar}
+use Rattle.single_action.specs.Actions.{single, setvarAction}
+use Rattle.single_action.specs.Plans.{planAction, verdictSingle, Planned, Judged}
+use Rattle.single_action.specs.declared.plans.Plan.{Plan}
+use Rattle.single_action.specs.declared.plans.Verdict.{Verdict}
 use Rattle.actions.specs.Promises as Actions
 use Rattle.actions.specs.declared.Answer as Listed
 use Rattle.xml.specs.Xml.{xmlTarget}
@@ -102,6 +109,13 @@ pub record OfLexer : Type 1 where
   pub next-of : Fixed Place (Wrote Step) next-token-promise
   pub first-token : Fixed (Two (List ℕ) (List ℕ)) (Wrote Step) (λ i o. next-token-promise (record { input = i .0; from = fresh; buffer = i .1 }) o)
 
+-- One action, by places in its piece. What is read is fixed, and not the places: equal bytes may stand at two of them.
+-- So these two are the exception: their promise says what a verdict means, and that some verdict comes is the code's theorem.
+pub record OfSingles : Type 0 where
+  pub read-single : (s : List ℕ) (v w : Verdict) → Judged s v (single s) → Judged s w (single s) → verdictSingle s v ≡ verdictSingle s w
+  pub read-setvar : (s : List ℕ) (p q : Plan) → Planned s p (setvarAction 22 (setvar s)) → Planned s q (setvarAction 22 (setvar s)) → planAction s p ≡ planAction s q
+  pub put-name : Gives {Out = Two (List ℕ) ℕ} (λ (i : Two ℕ (List ℕ)). (stored (i .1) 0 (rowAt (i .0) .name), length (rowAt (i .0) .name)))
+
 pub record OfParsers : Type 0 where
   pub parse-actions : Fixed (Lent × List ℕ) (Left Listed.Answer × List ℕ) parse-actions-promise
   pub parse-setvar : Fixed Lent (Left Listed.Answer) parse-setvar-promise
@@ -135,6 +149,7 @@ pub record Demand1 : Type 1 where
   pub of-lent : OfLent
   pub of-names : OfNames
   pub of-lexer : OfLexer
+  pub of-singles : OfSingles
   pub of-parsers : OfParsers
   pub of-listing : OfListing
   pub by-table : ByTable

@@ -21,7 +21,7 @@ use Rattle.lexer.specs.declared.stepping.Step.{Step}
 use Rattle.lexer.specs.declared.writing.Answer as Tokens
 use Rattle.actions.specs.Normal.{normalised}
 use Rattle.actions.specs.Pieces as Action
-use Rattle.actions.specs.Actions.{bad, unknown}
+use Rattle.single_action.specs.Actions.{bad, unknown}
 use Rattle.actions.specs.Lists.{actionsOf}
 use Rattle.actions.specs.Calls.{AllDone, FirstRefused}
 use Rattle.actions.specs.Promises as Actions

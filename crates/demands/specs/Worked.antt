@@ -10,7 +10,7 @@ use Rattle.lexer.specs.declared.Kind.{Kind}
 use Rattle.lexer.specs.declared.Kind.the-variants.{Directive, Word}
 use Rattle.lexer.specs.Cursors.{line, column, cursor}
 use Rattle.lexer.specs.Tokens.{Token, Reading, reading}
-use Rattle.actions.specs.Actions.{Action, numbered}
+use Rattle.single_action.specs.Actions.{Action, numbered}
 use Rattle.actions.specs.Lists.{actionsOf}
 use Rattle.variables.specs.Parts.{pieces}
 use Rattle.variables.specs.Variables.{Targets, targets, refused, asWritten, readAll, none, regex}
