@@ -2,19 +2,19 @@
 mod comparing;
 mod folding;
 mod halving;
-mod operators;
+mod operator_names;
 mod packing;
 mod severities;
 mod shelving;
-mod variables;
+mod variable_names;
 mod widening;
 
-pub use operators::operator_code;
-pub use operators::requires_argument;
+pub use operator_names::operator_code;
+pub use operator_names::requires_argument;
 pub use severities::severity_code;
-pub use variables::is_collection;
-pub use variables::is_implemented;
-pub use variables::variable_code;
+pub use variable_names::is_collection;
+pub use variable_names::is_implemented;
+pub use variable_names::variable_code;
 
 // What a lookup finds: the name's place in the Rust's enum, from 0, or a severity word's number.
 pub enum Lookup {

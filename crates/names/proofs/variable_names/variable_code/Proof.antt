@@ -12,8 +12,8 @@ use Rattle.names.specs.Run.{run, starts, codes}
 use Rattle.names.specs.Variables.{variableCode}
 use Rattle.names.proofs.FoldingLaws.{fold-length, folded-longer}
 use Rattle.names.proofs.VariableLaws.{packed, variable-found, variable-none, variable-long}
-use Rattle.names.proofs.variables.variable_code.Statement.{statement}
-use Rattle.names.proofs.variables.variable_code.Tie as tie
+use Rattle.names.proofs.variable_names.variable_code.Statement.{statement}
+use Rattle.names.proofs.variable_names.variable_code.Tie as tie
 
 returns : tie.Need-returns
 unfolding variableCode

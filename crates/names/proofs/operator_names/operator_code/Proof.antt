@@ -9,8 +9,8 @@ use Rattle.names.specs.Operators.{operators, operatorCode}
 use Rattle.names.proofs.ShelfLaws.{shelf-none}
 use Rattle.names.proofs.FoldingLaws.{folded-longer}
 use Rattle.names.proofs.OperatorLaws.{operator-found, operator-long}
-use Rattle.names.proofs.operators.operator_code.Statement.{statement}
-use Rattle.names.proofs.operators.operator_code.Tie as tie
+use Rattle.names.proofs.operator_names.operator_code.Statement.{statement}
+use Rattle.names.proofs.operator_names.operator_code.Tie as tie
 
 returns : tie.Need-returns
 unfolding operatorCode

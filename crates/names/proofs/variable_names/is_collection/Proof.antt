@@ -3,8 +3,8 @@ use mathlib.Core.Path.{refl}
 use borrow.Author.Needs.{needs}
 use Rattle.names.specs.Variables.{Place, places, nowhere, isCollection}
 use Rattle.names.proofs.FlagLaws.{flag-at, flag-past}
-use Rattle.names.proofs.variables.is_collection.Statement.{statement}
-use Rattle.names.proofs.variables.is_collection.Tie as tie
+use Rattle.names.proofs.variable_names.is_collection.Statement.{statement}
+use Rattle.names.proofs.variable_names.is_collection.Tie as tie
 
 array-read-result : tie.Need-array-read-result
 array-read-result c = search needs

@@ -4,8 +4,8 @@ use mathlib.Core.Bool.{Bool, false}
 use borrow.Author.Needs.{needs}
 use Rattle.names.specs.Operators.{argumentNeeded, requiresArgument}
 use Rattle.names.proofs.FlagLaws.{flag-at, flag-past}
-use Rattle.names.proofs.operators.requires_argument.Statement.{statement}
-use Rattle.names.proofs.operators.requires_argument.Tie as tie
+use Rattle.names.proofs.operator_names.requires_argument.Statement.{statement}
+use Rattle.names.proofs.operator_names.requires_argument.Tie as tie
 
 array-read-result : tie.Need-array-read-result
 array-read-result c = search needs
