@@ -3,6 +3,7 @@ pub mod ListLaws
 pub mod FoldLaws
 pub mod TrimLaws
 pub mod SplitLaws
+pub mod LackLaws
 pub mod NumberLaws
 pub mod SignLaws
 pub mod NumeralLaws
