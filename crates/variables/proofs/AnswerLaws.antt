@@ -1,6 +1,7 @@
 -- From a list read to what the parsers promise: one law for each way out.
 use mathlib.Core.Path.{_≡_, _∙_, refl, sym, ap, ap₂, subst}
 use mathlib.Core.Bool.{Bool, true, false}
+use mathlib.Core.Logic.{inl, inr}
 use mathlib.Core.List.{List, [], _∷_, _++_}
 use Prim.Native.Nat.{ℕ, _+_, _-_, _*_, _≤_, _<_}
 use native.Mathlib.Omega.{arith}
@@ -23,7 +24,7 @@ use Rattle.variables.specs.Parts.{pieces}
 use Rattle.variables.specs.Variables.{Variable, Targets, targets, refused, readAll}
 use Rattle.variables.specs.Layout.{variableRecord, exclusionRecord, chosenText, itself, selectionTexts, texts, wordsFrom}
 use Rattle.variables.specs.Promises.{roomed, updated, hung, variablesOutcome, updateOutcome, Meets}
-use Rattle.variables.specs.Steps.{part, excludingOf, excludedOf, AllRead, Stopped, Added, keptCount, keptOf, hanging, readOutcome, outcomeOf}
+use Rattle.variables.specs.Steps.{part, excludingOf, excludedOf, AllRead, Stopped, Added, AllOrNone, keptCount, keptOf, hanging, readOutcome, outcomeOf}
 use Rattle.variables.specs.declared.Answer.{Answer}
 use Rattle.variables.specs.declared.Answer.the-variants as Answer
 use Rattle.variables.specs.declared.singles.Exclusions.{Exclusions}
@@ -68,6 +69,14 @@ kept-low AsWritten kept variables excluded e = go (eqb variables 0) e
     go : (t : Bool) → kept ≡ pick t 0 excluded → kept ≤ excluded
     go true e = omega arith
     go false e = omega arith
+
+pub all-or-none : (n : Exclusions) (kept variables excluded : ℕ) (es : List (List ℕ)) → kept ≡ keptCount n variables excluded → excluded ≡ length es → AllOrNone kept es
+all-or-none LookedUp kept variables excluded es e l = inr (e ∙ l)
+all-or-none AsWritten kept variables excluded es e l = go (eqb variables 0) e
+  where
+    go : (t : Bool) → kept ≡ pick t 0 excluded → AllOrNone kept es
+    go true e = inl e
+    go false e = inr (e ∙ l)
 
 -- ---- past the gate
 

@@ -3,10 +3,13 @@ use mathlib.Core.Path.{_≡_, _∙_, refl, sym, ap, ap₂}
 use mathlib.Core.List.{List, [], _∷_, _++_, append-assoc, append-nil}
 use Prim.Native.Nat.{ℕ, suc, _+_, _-_, _*_, _≤_, _<_}
 use native.Mathlib.Omega.{arith}
-use mathlib.Core.Bool.{true, false}
+use mathlib.Core.Bool.{Bool, true, false}
+use mathlib.Core.Logic.{_⊎_, inl, inr}
 use lib.ListN.{length, take, drop, getD, length-append, length-drop}
 use lib.Seq.{getD-take, getD-drop}
-use borrow.Author.Tests.{eq-eqb, ne-eqb}
+use lib.Dec.{eqb}
+use borrow.Author.Tests.{eqb-true, eqb-false, ne-eqb}
+use Rattle.ascii.specs.Choice.{pick}
 use Rattle.ascii.proofs.ListLaws.{rest-is}
 use Rattle.lent.specs.Sizes.{limit, variableWords}
 use Rattle.lent.specs.Buffers.{stored}
@@ -15,7 +18,7 @@ use Rattle.lent.proofs.LayoutLaws.{texts-more, count-more}
 use Rattle.variables.specs.Parts.{pieces}
 use Rattle.variables.specs.Variables.{Variable, variable, Targets, targets, refused, withVariable, withExclusion, piece, readAll}
 use Rattle.variables.specs.Layout.{chosenText, itself, selectionTexts, variableRecord, exclusionRecord}
-use Rattle.variables.specs.Steps.{part, NextPiece, excludingOf, entryWords, behindMark, excludedOf, IsVariable, IsExclusion, IsUnknown, Narrow, WroteVariables, WroteExclusions, AllRead, Stopped, Added, keptOf}
+use Rattle.variables.specs.Steps.{part, NextPiece, excludingOf, entryWords, behindMark, excludedOf, IsVariable, IsExclusion, IsUnknown, Narrow, WroteVariables, WroteExclusions, AllRead, Stopped, Added, AllOrNone, keptOf}
 use Rattle.variables.specs.declared.singles.Exclusions.{Exclusions}
 use Rattle.variables.specs.declared.singles.Entry.{Entry}
 use Rattle.variables.proofs.PlaceLaws.{part-length, part-part}
@@ -199,6 +202,10 @@ module _ {n : Exclusions} {s text₀ records₀ text records : List ℕ} {at var
 
 -- ---- the second loop
 
+no-more : (es : List (List ℕ)) → length es ≡ 0 → es ≡ []
+no-more [] e = refl
+no-more (x ∷ es) e = absurd (omega (arith, e))
+
 pub record Adding (s : List ℕ) (offset place : ℕ) (text₀ records₀ text records : List ℕ) (at used count : ℕ) : Type 0 where
   pub es : List (List ℕ)
   pub marked : excludedOf (pieces s) ≡ es ++ excludedOf (pieces (drop at s))
@@ -227,6 +234,34 @@ module _ {s : List ℕ} {offset place : ℕ} {text₀ records₀ text records : 
   add-ended e =
       let m : excludedOf (pieces s) ≡ x .es = x .marked ∙ ap (λ (l : List (List ℕ)). x .es ++ excludedOf l) e ∙ append-nil (x .es) in
       rw (m, ← x .wrote .count-is) (x .wrote)
+
+  -- the list ended with some still asked for: these are all
+  pub add-ended-kept : (kept : ℕ) → (kept ≡ 0 → ⊥) → pieces (drop at s) ≡ [] → Added (keptOf kept (excludedOf (pieces s))) offset place text₀ text records₀ records used
+  add-ended-kept kept h e = rw (ne-eqb kept 0 h) (add-ended e)
+
+  -- as many are written as are kept
+  pub add-done : (kept : ℕ) → AllOrNone kept (excludedOf (pieces s)) → count ≡ place + kept → Added (keptOf kept (excludedOf (pieces s))) offset place text₀ text records₀ records used
+  add-done kept k c = go (eqb kept 0) refl k
+    where
+      written : length (x .es) ≡ kept
+      written = omega (arith, x .wrote .count-is)
+
+      none : kept ≡ 0 → Added [] offset place text₀ text records₀ records used
+      none z =
+          let n : place + 0 ≡ count = omega arith in
+          rw (n, ← no-more (x .es) (written ∙ z)) (x .wrote)
+
+      all : kept ≡ length (excludedOf (pieces s)) → Added (excludedOf (pieces s)) offset place text₀ text records₀ records used
+      all e =
+          let rest = excludedOf (pieces (drop at s)) in
+          let l : length rest ≡ 0 = omega (arith, written, ap length (x .marked), length-append (x .es) rest) in
+          let m : excludedOf (pieces s) ≡ x .es = x .marked ∙ ap (λ (l : List (List ℕ)). x .es ++ l) (no-more rest l) ∙ append-nil (x .es) in
+          rw (m, ← x .wrote .count-is) (x .wrote)
+
+      go : (t : Bool) → eqb kept 0 ≡ t → AllOrNone kept (excludedOf (pieces s)) → Added (pick t [] (excludedOf (pieces s))) offset place text₀ text records₀ records used
+      go true z q = none (eqb-true kept 0 z)
+      go false z (inl q) = absurd (eqb-false kept 0 z q)
+      go false z (inr q) = all q
 
   module _ (first past next : ℕ) (p : NextPiece s at first past next) where
     pub piece-long : length (part s first past) ≡ past - first
@@ -281,13 +316,3 @@ module _ {s : List ℕ} {offset place : ℕ} {text₀ records₀ text records : 
           count-low = omega (arith, x .count-low, p .begun, p .some, p .before);
           inside = p .inside;
         }
-
--- none are kept
-pub add-none : (kept : ℕ) (es : List (List ℕ)) (offset place : ℕ) (text records : List ℕ) → kept ≡ 0 → Added (keptOf kept es) offset place text text records records offset
-add-none kept es offset place text records e =
-    let z : place + 0 ≡ place = omega arith in
-    rw (eq-eqb kept 0 e, z) (wrote-none exclusionRecord itself offset place text records)
-
-pub add-some : (kept : ℕ) (es : List (List ℕ)) (offset place : ℕ) (text text′ records records′ : List ℕ) (r : ℕ) → (kept ≡ 0 → ⊥)
-    → Added es offset place text text′ records records′ r → Added (keptOf kept es) offset place text text′ records records′ r
-add-some kept es offset place text text′ records records′ r h x = rw (ne-eqb kept 0 h) x

@@ -1,4 +1,5 @@
 -- What the functions below the two parsers promise.
+use mathlib.Core.Logic.{_⊎_}
 use mathlib.Core.Path.{_≡_}
 use Prim.Native.Nat.{ℕ, _+_, _-_, _*_, _≤_, _<_}
 use mathlib.Core.List.{List, [], _∷_}
@@ -180,6 +181,10 @@ Added es offset place text text′ records records′ r = WroteExclusions offset
 abbrev pub keptCount : Exclusions → ℕ → ℕ → ℕ
 keptCount AsWritten variables excluded = pick (eqb variables 0) 0 excluded
 keptCount LookedUp variables excluded = excluded
+
+-- all of these, or none
+abbrev pub AllOrNone : ℕ → List (List ℕ) → Type 0
+AllOrNone kept es = (kept ≡ 0) ⊎ (kept ≡ length es)
 
 abbrev pub keptOf : ℕ → List (List ℕ) → List (List ℕ)
 keptOf kept es = pick (eqb kept 0) [] es

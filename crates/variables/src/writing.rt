@@ -6,7 +6,7 @@ ghost use Rattle.ascii.specs.Choice.{bit};
 ghost use Rattle.lent.specs.Sizes.{limit, variableWords};
 ghost use Rattle.lent.specs.Buffers.{stored};
 ghost use Rattle.variables.specs.Parts.{pieces};
-ghost use Rattle.variables.specs.Steps.{part, entrySpan, entryWords, Narrow, Scanned, excludedOf, keptOf, Added};
+ghost use Rattle.variables.specs.Steps.{part, entrySpan, entryWords, Narrow, Scanned, excludedOf, keptOf, AllOrNone, Added};
 use crate::finding::Next;
 use crate::finding::next_piece;
 use crate::singles::Entry;
@@ -106,9 +106,11 @@ pub fn scan(s: &[u8], exclusions: Exclusions, text: &mut [u8], records: &mut [u6
     }
 }
 
-// Writes the exclusions, texts from `offset` and records from `place` on, and gives the offset past them.
-fn put_exclusions(
+// Writes the exclusions that are kept, texts from `offset` and records from `place` on, and gives the offset past them.
+// Reading ends with the last of them, and where none are kept does not begin.
+pub fn add_exclusions(
     s: &[u8],
+    kept: usize,
     text: &mut [u8],
     offset: usize,
     records: &mut [u64],
@@ -116,12 +118,13 @@ fn put_exclusions(
 ) -> usize
     requires { ⌜ length (now s) ≤ limit ⌝ }
     requires { ⌜ (offset ≤ limit) × (place ≤ limit) ⌝ }
-    ensures { λ r. ⌜ Added (excludedOf (pieces (now (s .entry)))) offset place (now (text .entry)) (now (text .exit)) (now (records .entry)) (now (records .exit)) r ⌝ }
+    requires { ⌜ AllOrNone kept (excludedOf (pieces (now s))) ⌝ }
+    ensures { λ r. ⌜ Added (keptOf kept (excludedOf (pieces (now (s .entry))))) offset place (now (text .entry)) (now (text .exit)) (now (records .entry)) (now (records .exit)) r ⌝ }
 {
     let mut at = 0;
     let mut used = offset;
     let mut count = place;
-    loop {
+    while count - place < kept {
         let Next::Piece { first, past, next } = next_piece(s, at) else {
             return used;
         };
@@ -143,23 +146,5 @@ fn put_exclusions(
             at = next;
         }
     }
-}
-
-// The same where some are kept, so that a list without any is read once.
-pub fn add_exclusions(
-    s: &[u8],
-    kept: usize,
-    text: &mut [u8],
-    offset: usize,
-    records: &mut [u64],
-    place: usize,
-) -> usize
-    requires { ⌜ length (now s) ≤ limit ⌝ }
-    requires { ⌜ (offset ≤ limit) × (place ≤ limit) ⌝ }
-    ensures { λ r. ⌜ Added (keptOf kept (excludedOf (pieces (now (s .entry))))) offset place (now (text .entry)) (now (text .exit)) (now (records .entry)) (now (records .exit)) r ⌝ }
-{
-    if kept == 0 {
-        return offset;
-    }
-    put_exclusions(s, text, offset, records, place)
+    used
 }

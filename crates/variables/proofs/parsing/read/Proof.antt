@@ -1,7 +1,9 @@
 -- By what the list was read to, then by whether the records fit; each way out is one law of AnswerLaws.
 use native.Mathlib.Omega.{arith}
 use denote.Ref.{now}
-use Rattle.variables.proofs.AnswerLaws.{read-unknown, kept-low, read-no-room, used-fits, past-fits, count-fits, count-fits-still, read-all}
+use Rattle.variables.specs.Parts.{pieces}
+use Rattle.variables.specs.Steps.{excludedOf}
+use Rattle.variables.proofs.AnswerLaws.{read-unknown, kept-low, all-or-none, read-no-room, used-fits, past-fits, count-fits, count-fits-still, read-all}
 use borrow.Author.Needs.{needs}
 use Rattle.variables.proofs.parsing.read.Statement.{statement}
 use Rattle.variables.proofs.parsing.read.Tie as tie
@@ -83,7 +85,7 @@ add-exclusions-requires c κs =
     let at-variables = c .before .before .before .before .before .before in
     let at-scan = at-variables .before .before .before .before .before .before in
     let start = at-scan .before .before .before .before .before .before in
-    let x = (rw (at-variables .variables .given .1) at (at-scan .scan .ensures)) in (start .pre .0, (omega (arith, used-fits x, start .pre .0), omega (arith, x .few)))
+    let x = (rw (at-variables .variables .given .1) at (at-scan .scan .ensures)) in (start .pre .0, ((omega (arith, used-fits x, start .pre .0), omega (arith, x .few)), all-or-none (start .args .exclusions) _ _ _ (excludedOf (pieces (now (start .args .s)))) (c .before .before .before .before .kept .ensures) (x .excluded-are)))
 
 sub-clear-bytes : tie.Need-sub-clear-bytes
 sub-clear-bytes c =
