@@ -66,6 +66,12 @@ pub fn variable_code(name: &[u8]) -> Lookup
     if is_same(name, b"RESPONSE_BODY") {
         return Lookup::Code(25);
     }
+    if is_same(name, b"REQUEST_URI") {
+        return Lookup::Code(7);
+    }
+    if is_same(name, b"REQUEST_METHOD") {
+        return Lookup::Code(12);
+    }
     searched_code(name)
 }
 

@@ -100,11 +100,31 @@ returns-9 : tie.Need-returns-9
 unfolding variableCode find variables same bytes upper
 returns-9 c = told variableCode (now (c .before .before .before .before .before .before .before .before .before .before .before .before .before .before .before .before .before .before .before .before .before .before .before .before .before .before .before .before .args .name)) _ 25 refl (sym (c .before .is-same9 .ensures) ∙ c .if9 .taken)
 
+slice-aggregate-is-same-10 : tie.Need-slice-aggregate-is-same-10
+slice-aggregate-is-same-10 c = search needs
+
+is-same-requires-10 : tie.Need-is-same-requires-10
+is-same-requires-10 c κs = search needs
+
+returns-10 : tie.Need-returns-10
+unfolding variableCode find variables same bytes upper
+returns-10 c = told variableCode (now (c .before .before .before .before .before .before .before .before .before .before .before .before .before .before .before .before .before .before .before .before .before .before .before .before .before .before .before .before .before .before .before .args .name)) _ 7 refl (sym (c .before .is-same10 .ensures) ∙ c .if10 .taken)
+
+slice-aggregate-is-same-11 : tie.Need-slice-aggregate-is-same-11
+slice-aggregate-is-same-11 c = search needs
+
+is-same-requires-11 : tie.Need-is-same-requires-11
+is-same-requires-11 c κs = search needs
+
+returns-11 : tie.Need-returns-11
+unfolding variableCode find variables same bytes upper
+returns-11 c = told variableCode (now (c .before .before .before .before .before .before .before .before .before .before .before .before .before .before .before .before .before .before .before .before .before .before .before .before .before .before .before .before .before .before .before .before .before .before .args .name)) _ 12 refl (sym (c .before .is-same11 .ensures) ∙ c .if11 .taken)
+
 searched-code-requires : tie.Need-searched-code-requires
 searched-code-requires c κs = search needs
 
-returns-10 : tie.Need-returns-10
-returns-10 c = search needs
+returns-12 : tie.Need-returns-12
+returns-12 c = search needs
 
 pub variable-code-spec : {M : Type 1} → statement M
 variable-code-spec =
@@ -137,5 +157,11 @@ variable-code-spec =
     slice-aggregate-is-same-9
     is-same-requires-9
     returns-9
+    slice-aggregate-is-same-10
+    is-same-requires-10
+    returns-10
+    slice-aggregate-is-same-11
+    is-same-requires-11
+    returns-11
     searched-code-requires
-    returns-10)
+    returns-12)
