@@ -11,10 +11,10 @@ use Rattle.ascii.proofs.searching.lacks.Reads as reads
 use Rattle.ascii.proofs.searching.lacks.Lts as lts
 
 abbrev Inv-loop : tie.InvT-loop
-Inv-loop s at m none₀ k₀ none k = (k ≤ 8) × Lacking m s at k none
+Inv-loop s at n m none₀ k₀ none k = (k ≤ n) × Lacking m s at k none
 
 abbrev μ-loop : tie.MeasureT-loop
-μ-loop s at m none₀ k₀ none k = 8 - k
+μ-loop s at n m none₀ k₀ none k = n - k
 
 loop-holds : tie.Need-loop-holds Inv-loop μ-loop
 loop-holds c = (omega arith, none-yet (c .args .m) (now (c .args .s)) (c .args .at))
@@ -45,8 +45,8 @@ loop-again c =
 returns : tie.Need-returns Inv-loop μ-loop
 returns c =
     let l = c .before .loop in
-    let eight : l .k ≡ 8 = omega arith in
-    rw eight at (l .inv .1)
+    let all : l .k ≡ c .before .before .args .n = omega arith in
+    rw all at (l .inv .1)
 
 pub lacks-spec : {M : Type 1} → statement M
 lacks-spec =

@@ -11,10 +11,10 @@ use Rattle.ascii.proofs.searching.passed.Reads as reads
 use Rattle.ascii.proofs.searching.passed.Lts as lts
 
 abbrev Inv-loop : tie.InvT-loop
-Inv-loop s m at₀ at = (at ≤ length s) × (at + firstOf m (drop at s) ≡ firstOf m s)
+Inv-loop s from n m at₀ at = (at ≤ length s) × (at + firstOf m (drop at s) ≡ from + firstOf m (drop from s))
 
 abbrev μ-loop : tie.MeasureT-loop
-μ-loop s m at₀ at = length s - at
+μ-loop s from n m at₀ at = length s - at
 
 loop-holds : tie.Need-loop-holds Inv-loop μ-loop
 loop-holds c = (omega arith, omega arith)
