@@ -1,0 +1,14 @@
+-- An answer that was told is told by whatever gives the same number and values.
+use mathlib.Core.Path.{_≡_, subst, sym, ap}
+use Prim.Native.Nat.{ℕ}
+use mathlib.Core.List.{List}
+use Rattle.lent.specs.Table.{Given}
+use Rattle.seclang.specs.Told.{Told}
+
+module _ {old new : List ℕ} {r : ℕ} where
+  pub told-as : {g h : Given} → g ≡ h → Told g old new r → Told h old new r
+  told-as e = subst (λ (k : Given). Told k old new r) e
+
+  -- an answer's own row, where the answer is known
+  pub told-case : {A : Type 0} (row : A → Given) {x y : A} → x ≡ y → Told (row y) old new r → Told (row x) old new r
+  told-case row e = told-as (sym (ap row e))

@@ -1,0 +1,64 @@
+-- What the readers' C functions promise: the number and values by document 01's table, the buffers as the reader leaves them.
+use mathlib.Core.Path.{_≡_}
+use Prim.Native.Nat.{ℕ}
+use mathlib.Core.Bool.{Bool}
+use mathlib.Core.List.{List, [], _∷_, _++_}
+use lib.ListN.{length}
+use lib.Dec.{eqb}
+use Rattle.ascii.specs.Choice.{pick}
+use Rattle.lent.specs.Table.{Given, given, Outcome, Filled, givenBy, textBy, recordsBy}
+use Rattle.lexer.specs.declared.Cursor.{Cursor}
+use Rattle.lexer.specs.Cursors.{line, column}
+use Rattle.lexer.specs.Promises.{nextOutcome, nextGivenBy, nextTextBy, tokensOutcome}
+use Rattle.actions.specs.Promises.{actionsGate, actionsOutcome, scratchBy}
+use Rattle.operators.specs.Operators.{Spec}
+use Rattle.operators.specs.Places.{argumentPlace}
+use Rattle.operators.specs.Promises.{argumentBy}
+use Rattle.operators.specs.Promises as Operating
+use Rattle.listing.specs.declared.Stop.{Stop}
+use Rattle.listing.specs.declared.Stop.the-variants as Stop
+use Rattle.listing.specs.Listings.{lineOf}
+use Rattle.listing.specs.Promises as Listing
+use Rattle.seclang.specs.Told.{Told}
+
+-- ---- readers that fill a text and a record buffer
+
+pub record Fills (o : Outcome Filled) (text text′ records records′ old new : List ℕ) (r : ℕ) : Type 0 where
+  pub told : Told (givenBy o) old new r
+  pub texts : text′ ≡ textBy o text
+  pub words : records′ ≡ recordsBy o records
+
+-- and a scratch buffer
+pub record FillsActions (s text text′ work work′ records records′ old new : List ℕ) (r : ℕ) : Type 0 where
+  pub fills : Fills (actionsOutcome s (length text) (length work) (length records)) text text′ records records′ old new r
+  pub scratch : work′ ≡ scratchBy (actionsGate s (length text) (length work)) s work
+
+-- ---- one token
+
+pub record Steps (s : List ℕ) (c : Cursor) (text text′ old new : List ℕ) (r : ℕ) : Type 0 where
+  pub told : Told (nextGivenBy (nextOutcome s c (length text))) old new r
+  pub texts : text′ ≡ nextTextBy (nextOutcome s c (length text)) text
+
+-- ---- an operator
+
+-- With 0, where the argument stands in the input and how long it is come last.
+abbrev pub withArgument : ℕ → ℕ → Given → Given
+withArgument place len g = pick (eqb (g .number) 0) (given 0 (g .values ++ (place ∷ len ∷ []))) g
+
+abbrev pub operatorGiven : List ℕ → Outcome Spec → Given
+operatorGiven s o = withArgument (argumentPlace s) (length (argumentBy o)) (Operating.givenBy o)
+
+-- ---- listings
+
+-- where reading stopped, out of the numbers that C passes
+abbrev pub stopOf : Bool → ℕ → ℕ → Stop
+stopOf early l k = pick early (Stop.Early (line l) (column k)) Stop.End
+
+pub record Lists (o : Listing.Outcome) (out out′ old new : List ℕ) (r : ℕ) : Type 0 where
+  pub told : Told (Listing.givenBy o) old new r
+  pub line : out′ ≡ Listing.bufferBy o (length out)
+
+pub record ListsText (s text text′ records records′ out out′ old new : List ℕ) (r : ℕ) : Type 0 where
+  pub texts : text′ ≡ textBy (tokensOutcome s (length text) (length records)) text
+  pub words : records′ ≡ recordsBy (tokensOutcome s (length text) (length records)) records
+  pub lists : Lists (Listing.fitted (length out) (lineOf s (givenBy (tokensOutcome s (length text) (length records))))) out out′ old new r

@@ -1,0 +1,128 @@
+// The readers.
+ghost use mathlib.Core.Path.{_≡_};
+ghost use lib.ListN.{length};
+ghost use Rattle.lexer.specs.Cursors.{cursor};
+ghost use Rattle.lexer.specs.Promises.{tokensOutcome};
+ghost use Rattle.actions.specs.Promises.{setvarOutcome};
+ghost use Rattle.variables.specs.Promises.{variablesOutcome, updateOutcome};
+ghost use Rattle.operators.specs.Promises.{operatorOutcome};
+ghost use Rattle.seclang.specs.Told.{Told};
+ghost use Rattle.seclang.specs.Readers.{Steps, Fills, FillsActions, operatorGiven};
+use crate::telling::flag;
+use crate::telling::tell;
+use crate::telling::tell_acted;
+use crate::telling::tell_one;
+use crate::telling::tell_reading;
+use crate::telling::tell_step;
+use crate::telling::tell_targeted;
+use crate::telling::tell_two;
+use lexer::Column;
+use lexer::Cursor;
+use lexer::Line;
+use operators::Answer as Operated;
+
+#[no_mangle]
+pub extern "C" fn seclang_next_token(
+    input: &[u8],
+    place: usize,
+    line: usize,
+    column: usize,
+    mark: bool,
+    text: &mut [u8],
+    values: &mut [u64],
+) -> u64
+    ensures { λ r. ⌜ Steps (now (input .entry)) (cursor place line column mark) (now (text .entry)) (now (text .exit)) (now (values .entry)) (now (values .exit)) r ⌝ }
+{
+    let from = Cursor {
+        place,
+        line: Line(line),
+        column: Column(column),
+        mark,
+    };
+    tell_step(lexer::next_token(input, from, text), values)
+}
+
+#[no_mangle]
+pub extern "C" fn seclang_tokens(
+    input: &[u8],
+    text: &mut [u8],
+    records: &mut [u64],
+    values: &mut [u64],
+) -> u64
+    ensures { λ r. ⌜ Fills (tokensOutcome (now (input .entry)) (length (now (text .entry))) (length (now (records .entry)))) (now (text .entry)) (now (text .exit)) (now (records .entry)) (now (records .exit)) (now (values .entry)) (now (values .exit)) r ⌝ }
+{
+    tell_reading(lexer::tokens(input, text, records), values)
+}
+
+#[no_mangle]
+pub extern "C" fn seclang_parse_actions(
+    input: &[u8],
+    text: &mut [u8],
+    scratch: &mut [u8],
+    records: &mut [u64],
+    values: &mut [u64],
+) -> u64
+    ensures { λ r. ⌜ FillsActions (now (input .entry)) (now (text .entry)) (now (text .exit)) (now (scratch .entry)) (now (scratch .exit)) (now (records .entry)) (now (records .exit)) (now (values .entry)) (now (values .exit)) r ⌝ }
+{
+    tell_acted(
+        actions::parse_actions(input, text, scratch, records),
+        values,
+    )
+}
+
+#[no_mangle]
+pub extern "C" fn seclang_parse_setvar(
+    input: &[u8],
+    text: &mut [u8],
+    records: &mut [u64],
+    values: &mut [u64],
+) -> u64
+    ensures { λ r. ⌜ Fills (setvarOutcome (now (input .entry)) (length (now (text .entry))) (length (now (records .entry)))) (now (text .entry)) (now (text .exit)) (now (records .entry)) (now (records .exit)) (now (values .entry)) (now (values .exit)) r ⌝ }
+{
+    tell_acted(actions::parse_setvar(input, text, records), values)
+}
+
+#[no_mangle]
+pub extern "C" fn seclang_parse_variables(
+    input: &[u8],
+    text: &mut [u8],
+    records: &mut [u64],
+    values: &mut [u64],
+) -> u64
+    ensures { λ r. ⌜ Fills (variablesOutcome (now (input .entry)) (length (now (text .entry))) (length (now (records .entry)))) (now (text .entry)) (now (text .exit)) (now (records .entry)) (now (records .exit)) (now (values .entry)) (now (values .exit)) r ⌝ }
+{
+    tell_targeted(variables::parse_variables(input, text, records), values)
+}
+
+#[no_mangle]
+pub extern "C" fn seclang_parse_update_targets(
+    input: &[u8],
+    text: &mut [u8],
+    records: &mut [u64],
+    values: &mut [u64],
+) -> u64
+    ensures { λ r. ⌜ Fills (updateOutcome (now (input .entry)) (length (now (text .entry))) (length (now (records .entry)))) (now (text .entry)) (now (text .exit)) (now (records .entry)) (now (records .exit)) (now (values .entry)) (now (values .exit)) r ⌝ }
+{
+    tell_targeted(
+        variables::parse_update_targets(input, text, records),
+        values,
+    )
+}
+
+#[no_mangle]
+pub extern "C" fn seclang_parse_operator(input: &[u8], values: &mut [u64]) -> u64
+    ensures { λ r. ⌜ Told (operatorGiven (now (input .entry)) (operatorOutcome (now (input .entry)))) (now (values .entry)) (now (values .exit)) r ⌝ }
+{
+    match operators::parse_operator(input) {
+        Operated::Parsed { negated, name } => {
+            let argument = operators::operator_argument(input);
+            let len = argument.len();
+            let past = ascii::trimmed(input).past;
+            let words = [flag(negated), name, (past - len) as u64, len as u64];
+            tell(0, &words, values)
+        }
+        Operated::TooLong => tell_one(1, lent::LIMIT, values),
+        Operated::NotAscii(place) => tell_one(2, place, values),
+        Operated::Unknown { place, len } => tell_two(8, place, len, values),
+    }
+}

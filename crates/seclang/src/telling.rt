@@ -1,0 +1,168 @@
+// The paper's number and values for each answer: the number is returned, the values are stored.
+ghost use mathlib.Core.Path.{_≡_};
+ghost use mathlib.Core.List.{[], _∷_};
+ghost use Rattle.ascii.specs.Choice.{bit};
+ghost use Rattle.lent.specs.Table.{given};
+ghost use Rattle.lexer.specs.Layout.{kindCode};
+ghost use Rattle.lexer.specs.Promises as Lexing;
+ghost use Rattle.actions.specs.Promises as Acting;
+ghost use Rattle.variables.specs.Promises as Targeting;
+ghost use Rattle.listing.specs.Promises as Listing;
+ghost use Rattle.seclang.specs.Told.{Told};
+use actions::Answer as Acted;
+use lexer::Answer as Reading;
+use lexer::Cursor;
+use lexer::Kind;
+use lexer::Lexeme;
+use lexer::Step;
+use listing::Answer as Listed;
+use variables::Answer as Targeted;
+
+// A number, and its values where they fit.
+pub fn tell(number: u64, words: &[u64], values: &mut [u64]) -> u64
+    ensures { λ r. ⌜ Told (given number (now (words .entry))) (now (values .entry)) (now (values .exit)) r ⌝ }
+{
+    lent::store_words(values, 0, words);
+    number
+}
+
+pub fn tell_one(number: u64, value: usize, values: &mut [u64]) -> u64
+    ensures { λ r. ⌜ Told (given number (value ∷ [])) (now (values .entry)) (now (values .exit)) r ⌝ }
+{
+    let words = [value as u64];
+    tell(number, &words, values)
+}
+
+pub fn tell_two(number: u64, first: usize, second: usize, values: &mut [u64]) -> u64
+    ensures { λ r. ⌜ Told (given number (first ∷ second ∷ [])) (now (values .entry)) (now (values .exit)) r ⌝ }
+{
+    let words = [first as u64, second as u64];
+    tell(number, &words, values)
+}
+
+pub fn flag(b: bool) -> u64
+    ensures { λ r. ⌜ r ≡ bit b ⌝ }
+{
+    if b { 1 } else { 0 }
+}
+
+pub fn kind_number(k: Kind) -> u64
+    ensures { λ r. ⌜ r ≡ kindCode k ⌝ }
+{
+    match k {
+        Kind::Directive => 1,
+        Kind::Word => 2,
+        Kind::QuotedString => 3,
+        Kind::Comment => 4,
+        Kind::Newline => 5,
+    }
+}
+
+fn tell_token(t: Lexeme, values: &mut [u64]) -> u64
+    ensures { λ r. ⌜ Told (given 0 (1 ∷ Lexing.lexemeValues t)) (now (values .entry)) (now (values .exit)) r ⌝ }
+{
+    let kind = t.kind;
+    let words = [
+        1,
+        kind_number(kind),
+        t.line.0 as u64,
+        t.column.0 as u64,
+        t.first as u64,
+        t.len as u64,
+        t.next.place as u64,
+        t.next.line.0 as u64,
+        t.next.column.0 as u64,
+        flag(t.next.mark),
+    ];
+    tell(0, &words, values)
+}
+
+fn tell_nothing(c: Cursor, values: &mut [u64]) -> u64
+    ensures { λ r. ⌜ Told (given 0 (0 ∷ Lexing.cursorValues c)) (now (values .entry)) (now (values .exit)) r ⌝ }
+{
+    let words = [
+        0,
+        c.place as u64,
+        c.line.0 as u64,
+        c.column.0 as u64,
+        flag(c.mark),
+    ];
+    tell(0, &words, values)
+}
+
+pub fn tell_step(answer: Step, values: &mut [u64]) -> u64
+    ensures { λ r. ⌜ Told (Lexing.stepGiven answer) (now (values .entry)) (now (values .exit)) r ⌝ }
+{
+    match answer {
+        Step::Token(t) => tell_token(t, values),
+        Step::Nothing(c) => tell_nothing(c, values),
+        Step::TooLong => tell_one(1, lent::LIMIT, values),
+        Step::NotAscii(place) => tell_one(2, place, values),
+        Step::Short => tell_one(3, 0, values),
+        Step::BadCursor => tell_one(9, 0, values),
+    }
+}
+
+pub fn tell_reading(answer: Reading, values: &mut [u64]) -> u64
+    ensures { λ r. ⌜ Told (Lexing.answerGiven answer) (now (values .entry)) (now (values .exit)) r ⌝ }
+{
+    match answer {
+        Reading::Read {
+            count,
+            text,
+            place,
+            line,
+            column,
+        } => {
+            let words = [
+                count as u64,
+                text as u64,
+                place as u64,
+                line.0 as u64,
+                column.0 as u64,
+            ];
+            tell(0, &words, values)
+        }
+        Reading::TooLong => tell_one(1, lent::LIMIT, values),
+        Reading::NotAscii(place) => tell_one(2, place, values),
+        Reading::Short => tell_one(3, 0, values),
+        Reading::NoRoom(needed) => tell_one(4, needed, values),
+    }
+}
+
+pub fn tell_acted(answer: Acted, values: &mut [u64]) -> u64
+    ensures { λ r. ⌜ Told (Acting.answerGiven answer) (now (values .entry)) (now (values .exit)) r ⌝ }
+{
+    match answer {
+        Acted::Read { count, text } => tell_two(0, count, text, values),
+        Acted::TooLong => tell_one(1, lent::LIMIT, values),
+        Acted::NotAscii(place) => tell_one(2, place, values),
+        Acted::Short => tell_one(3, 0, values),
+        Acted::UnknownAction { piece, name } => tell_two(5, piece, name, values),
+        Acted::BadArgument { piece, name } => tell_two(6, piece, name, values),
+        Acted::NoRoom(needed) => tell_one(4, needed, values),
+    }
+}
+
+pub fn tell_targeted(answer: Targeted, values: &mut [u64]) -> u64
+    ensures { λ r. ⌜ Told (Targeting.answerGiven answer) (now (values .entry)) (now (values .exit)) r ⌝ }
+{
+    match answer {
+        Targeted::Read { count, text } => tell_two(0, count, text, values),
+        Targeted::TooLong => tell_one(1, lent::LIMIT, values),
+        Targeted::NotAscii(place) => tell_one(2, place, values),
+        Targeted::Short => tell_one(3, 0, values),
+        Targeted::Unknown { piece, name } => tell_two(7, piece, name, values),
+        Targeted::NoRoom(needed) => tell_one(4, needed, values),
+    }
+}
+
+pub fn tell_listed(answer: Listed, values: &mut [u64]) -> u64
+    ensures { λ r. ⌜ Told (Listing.answerGiven answer) (now (values .entry)) (now (values .exit)) r ⌝ }
+{
+    match answer {
+        Listed::Written(n) => tell_one(0, n, values),
+        Listed::NoRoom(needed) => tell_one(4, needed, values),
+        Listed::NoToken(place) => tell_one(19, place, values),
+    }
+}
