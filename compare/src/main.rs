@@ -1,0 +1,48 @@
+//! Runs the library beside the original, in one process, and shows the first difference as a minimal input.
+
+include!(concat!(env!("OUT_DIR"), "/original.rs"));
+
+mod bench;
+mod cases;
+mod check;
+mod lent;
+mod original;
+mod ours;
+mod real;
+mod run;
+
+use std::path::PathBuf;
+
+const USAGE: &str = "\
+compare [--quick] [--seed N] [--random N] [--real FOLDER].. [--alone]    compare; --quick takes under two minutes
+compare bench [--real FOLDER]..                                          bytes and calls a second, ours and the original's
+compare again CASE TIMES                                                 one case of the benchmark, for callgrind; CASE: ours/tokens ..";
+
+fn main() {
+    let mut wanted = run::Wanted { quick: false, seed: 1, random: None, real: Vec::new(), alone: false };
+    let (mut words, mut rest) = (std::env::args().skip(1), Vec::new());
+    while let Some(word) = words.next() {
+        let mut value = || words.next().unwrap_or_else(|| panic!("{word} takes a value\n{USAGE}"));
+        match word.as_str() {
+            "--quick" => wanted.quick = true,
+            "--alone" => wanted.alone = true,
+            "--seed" => wanted.seed = value().parse().expect("a number"),
+            "--random" => wanted.random = Some(value().parse().expect("a number")),
+            "--real" => wanted.real.push(PathBuf::from(value())),
+            _ => rest.push(word),
+        }
+    }
+    // the original's next_token calls itself for each lone backslash
+    let deep = std::thread::Builder::new().stack_size(256 << 20);
+    let work = move || match rest.iter().map(String::as_str).collect::<Vec<_>>()[..] {
+        [] => run::all(&wanted),
+        ["bench"] => bench::table(&wanted.real),
+        ["again", case, times] => bench::again(case, times.parse().expect("a number"), &wanted.real),
+        _ => {
+            eprintln!("{USAGE}");
+            false
+        }
+    };
+    let fine = deep.spawn(work).expect("a thread").join().unwrap_or(false);
+    std::process::exit(if fine { 0 } else { 1 });
+}

@@ -1,0 +1,370 @@
+//! What the original gives, as document 01's numbers, values, texts and records.
+
+use crate::error::{Error, SourceLocation};
+use crate::parser::action::{parse_actions, probe as acting, Action, DataAction, DisruptiveAction, FlowAction, LoggingAction, MetadataAction, SetVarSpec, SetVarValue};
+use crate::parser::directive::{RuleIdSelector, SecRule};
+pub use crate::parser::lexer::probe::{Cursor, START};
+use crate::parser::lexer::{probe as lexing, Token, TokenKind};
+use crate::parser::operator::{all as operators, parse_operator, probe as operating, OperatorName, OperatorSpec};
+use crate::parser::variable::{all as variables, parse_single_variable, parse_update_targets, parse_variables, probe as targeting};
+use crate::parser::variable::{Selection, VariableName, VariableSpec, XmlTarget};
+
+pub const LIMIT: usize = 16_384;
+
+/// What a text comes to past the checks on it: number 0 with values, texts and records, or 5 to 9 with its values and the name.
+#[derive(Clone, Debug, Default, PartialEq)]
+pub struct Outcome {
+    pub number: u64,
+    pub values: Vec<u64>,
+    pub texts: Vec<u8>,
+    pub words: Vec<u64>,
+}
+
+impl Outcome {
+    /// One more text behind the others, as a span word.
+    fn push(&mut self, text: &str) -> u64 {
+        let word = (self.texts.len() * 65_536 + text.len()) as u64;
+        self.texts.extend_from_slice(text.as_bytes());
+        word
+    }
+
+    fn refused(number: u64, piece: usize, name: String) -> Self {
+        Outcome { number, values: vec![piece as u64, name.len() as u64], texts: name.into_bytes(), words: Vec::new() }
+    }
+}
+
+// ---- tokens
+
+/// The place of a token's first byte: `from` moved on to its line and column.
+fn first_byte(text: &[u8], from: Cursor, token: &Token) -> usize {
+    let (mut place, mut line, mut column) = (from.place, from.line, from.column);
+    while (line, column) != (token.line, token.column) {
+        (line, column) = if text[place] == b'\n' { (line + 1, 1) } else { (line, column + 1) };
+        place += 1;
+    }
+    place
+}
+
+fn kind_and_text(token: &Token) -> (u64, &str) {
+    match &token.kind {
+        TokenKind::Directive(text) => (1, text),
+        TokenKind::Word(text) => (2, text),
+        TokenKind::QuotedString(text) => (3, text),
+        TokenKind::Comment => (4, ""),
+        TokenKind::Newline => (5, ""),
+        TokenKind::Eof => unreachable!("the original never makes it"),
+    }
+}
+
+pub fn tokens(text: &str) -> Outcome {
+    let mut out = Outcome::default();
+    let (mut lexer, mut at) = (lexing::at(text, START), START);
+    while let Some(token) = lexer.next_token() {
+        let first = first_byte(text.as_bytes(), at, &token);
+        at = lexing::standing(&lexer, text.len());
+        let (kind, said) = kind_and_text(&token);
+        let word = out.push(said);
+        out.words.extend([kind, token.line as u64, token.column as u64, (first * 65_536 + at.place - first) as u64, word]);
+    }
+    let stop = lexing::standing(&lexer, text.len());
+    let count = out.words.len() / 5;
+    out.values = [count, out.texts.len(), stop.place, stop.line, stop.column].map(|n| n as u64).to_vec();
+    out
+}
+
+fn cursor_words(c: Cursor) -> [u64; 4] {
+    [c.place as u64, c.line as u64, c.column as u64, c.mark as u64]
+}
+
+pub fn step(text: &str, from: Cursor) -> Outcome {
+    let counted = |n: usize| (1..=LIMIT + 1).contains(&n);
+    if text.len() < from.place || !counted(from.line) || !counted(from.column) {
+        return Outcome { number: 9, values: vec![0], ..Outcome::default() };
+    }
+    let mut out = Outcome::default();
+    let mut lexer = lexing::at(text, from);
+    match lexer.next_token() {
+        None => out.values.push(0),
+        Some(token) => {
+            let (kind, said) = kind_and_text(&token);
+            let first = first_byte(text.as_bytes(), from, &token);
+            out.push(said);
+            out.values.extend([1, kind, token.line as u64, token.column as u64, first as u64, said.len() as u64]);
+        }
+    }
+    out.values.extend(cursor_words(lexing::standing(&lexer, text.len())));
+    out
+}
+
+fn quoted(text: &str) -> String {
+    let mut out = String::from("\"");
+    for c in text.chars() {
+        match c {
+            '"' | '\\' => out.extend(['\\', c]),
+            '\0'..='\x1f' => out.push_str(&format!("\\u00{:02x}", c as u32)),
+            _ => out.push(c),
+        }
+    }
+    out.push('"');
+    out
+}
+
+/// Document 01's listing of the original's tokens, and where reading stopped before the end.
+pub fn listing(text: &str) -> (String, Option<(usize, usize)>) {
+    let names = ["", "directive", "word", "string", "comment", "newline"];
+    let (mut lexer, mut rows) = (lexing::at(text, START), Vec::new());
+    while let Some(token) = lexer.next_token() {
+        let (kind, said) = kind_and_text(&token);
+        let shown = if kind < 4 { format!(",{}", quoted(said)) } else { String::new() };
+        rows.push(format!("[\"{}\",{},{}{shown}]", names[kind as usize], token.line, token.column));
+    }
+    let stop = lexing::standing(&lexer, text.len());
+    let early = (stop.place < text.len()).then_some((stop.line, stop.column));
+    rows.extend(early.map(|(line, column)| format!("[\"stopped\",{line},{column}]")));
+    (format!("[{}]", rows.join(",")), early)
+}
+
+// ---- actions
+
+fn setvar_words(spec: &SetVarSpec, out: &mut Outcome) -> [u64; 6] {
+    let (a, b) = (out.push(&spec.collection), out.push(&spec.key));
+    let (kind, number, c) = match &spec.value {
+        SetVarValue::String(text) => (1, 0, out.push(text)),
+        SetVarValue::Int(n) => (2, *n as u64, 0),
+        SetVarValue::Increment(n) => (3, *n as u64, 0),
+        SetVarValue::Decrement(n) => (4, *n as u64, 0),
+        SetVarValue::Delete => (5, 0, 0),
+        SetVarValue::Macro(text) => (6, 0, out.push(text)),
+    };
+    [22, number, a, b, kind, c]
+}
+
+fn action_words(action: &Action, out: &mut Outcome) -> [u64; 6] {
+    use {DataAction as D, DisruptiveAction as X, FlowAction as F, LoggingAction as L, MetadataAction as M};
+    let plain = |code, number| [code, number, 0, 0, 0, 0];
+    match action {
+        Action::Disruptive(X::Deny) => plain(1, 0),
+        Action::Disruptive(X::Block) => plain(2, 0),
+        Action::Disruptive(X::Pass) => plain(3, 0),
+        Action::Disruptive(X::Allow) => plain(4, 0),
+        Action::Disruptive(X::Drop) => plain(5, 0),
+        Action::Disruptive(X::Redirect(a)) => [6, 0, out.push(a), 0, 0, 0],
+        Action::Flow(F::Chain) => plain(7, 0),
+        Action::Flow(F::Skip(n)) => plain(8, u64::from(*n)),
+        Action::Flow(F::SkipAfter(a)) => [9, 0, out.push(a), 0, 0, 0],
+        Action::Flow(F::MultiMatch) => plain(10, 0),
+        Action::Metadata(M::Id(n)) => plain(11, *n),
+        Action::Metadata(M::Phase(n)) => plain(12, u64::from(*n)),
+        Action::Metadata(M::Severity(n)) => plain(13, u64::from(*n)),
+        Action::Metadata(M::Msg(a)) => [14, 0, out.push(a), 0, 0, 0],
+        Action::Metadata(M::Tag(a)) => [15, 0, out.push(a), 0, 0, 0],
+        Action::Metadata(M::Rev(a)) => [16, 0, out.push(a), 0, 0, 0],
+        Action::Metadata(M::Ver(a)) => [17, 0, out.push(a), 0, 0, 0],
+        Action::Metadata(M::Maturity(n)) => plain(18, u64::from(*n)),
+        Action::Metadata(M::Accuracy(n)) => plain(19, u64::from(*n)),
+        Action::Metadata(M::LogData(a)) => [20, 0, out.push(a), 0, 0, 0],
+        Action::Metadata(M::Status(n)) => plain(21, u64::from(*n)),
+        Action::Data(D::SetVar(spec)) => setvar_words(spec, out),
+        Action::Data(D::Capture) => plain(23, 0),
+        Action::Data(D::InitCol { collection, key }) => [24, 0, out.push(collection), out.push(key), 0, 0],
+        Action::Data(D::ExpireVar { var, seconds }) => [25, *seconds, out.push(var), 0, 0, 0],
+        Action::Logging(L::Log) => plain(26, 0),
+        Action::Logging(L::NoLog) => plain(27, 0),
+        Action::Logging(L::AuditLog) => plain(28, 0),
+        Action::Logging(L::NoAuditLog) => plain(29, 0),
+        Action::Logging(L::SanitiseMatched) => plain(30, 0),
+        Action::Control(c) => [31, 0, out.push(&c.directive), out.push(&c.value), 0, 0],
+        Action::Transformation(a) => [32, 0, out.push(a), 0, 0, 0],
+        other => unreachable!("the original never makes {other:?}"),
+    }
+}
+
+/// The pieces of a normalised list, cut once more here: the original's errors do not say which piece was bad.
+fn pieces(list: &str) -> impl Iterator<Item = &str> {
+    let (mut mark, mut depth) = (None, 0usize);
+    let cut = move |c: char| {
+        match (mark, c) {
+            (None, '"' | '\'') => mark = Some(c),
+            (None, '(') => depth += 1,
+            (None, ')') => depth = depth.saturating_sub(1),
+            (None, ',') => return depth == 0,
+            (Some(m), _) if m == c => mark = None,
+            _ => {}
+        }
+        false
+    };
+    list.split(cut).map(str::trim).filter(|piece| !piece.is_empty())
+}
+
+fn action_refusal(error: Error) -> (u64, String) {
+    match error {
+        Error::UnknownAction { name } => (5, name),
+        Error::InvalidActionArgument { action, .. } => (6, action),
+        other => unreachable!("{other:?}"),
+    }
+}
+
+pub fn normalised(text: &str) -> String {
+    acting::normalised(text)
+}
+
+pub fn actions(text: &str) -> Outcome {
+    let mut out = Outcome::default();
+    match parse_actions(text) {
+        Ok(list) => {
+            for action in &list {
+                let words = action_words(action, &mut out);
+                out.words.extend(words);
+            }
+            out.values = vec![list.len() as u64, out.texts.len() as u64];
+            out
+        }
+        Err(error) => {
+            let told = action_refusal(error);
+            let list = normalised(text);
+            let bad = pieces(&list).enumerate().find_map(|(i, piece)| acting::single(piece).err().map(|e| (i, action_refusal(e))));
+            let (piece, again) = bad.expect("a piece is bad");
+            assert_eq!(told, again, "the pieces are cut another way than the original's");
+            Outcome::refused(told.0, piece, told.1)
+        }
+    }
+}
+
+pub fn setvar(text: &str) -> Outcome {
+    let mut out = Outcome::default();
+    let words = setvar_words(&acting::setvar(text).expect("it refuses nothing"), &mut out);
+    out.words.extend(words);
+    out.values = vec![1, out.texts.len() as u64];
+    out
+}
+
+/// A rule's phase, where its actions are read.
+pub fn phase(text: &str) -> Option<u64> {
+    let operator = OperatorSpec { negated: false, name: OperatorName::Rx, argument: String::new() };
+    let actions = parse_actions(text).ok()?;
+    Some(u64::from(SecRule { variables: Vec::new(), operator, actions, location: SourceLocation::default() }.phase()))
+}
+
+pub fn matches(ranged: bool, start: u64, end: u64, id: u64) -> bool {
+    if ranged { RuleIdSelector::Range(start, end) } else { RuleIdSelector::Single(start) }.matches(id)
+}
+
+// ---- variables
+
+fn laid_out(list: &[VariableSpec], exclusions: &[String]) -> Outcome {
+    let mut out = Outcome::default();
+    for v in list {
+        let (kind, word) = match &v.selection {
+            None => (0, 0),
+            Some(Selection::Key(text)) => (1, out.push(text)),
+            Some(Selection::Regex(text)) => (2, out.push(text)),
+        };
+        out.words.extend([1, v.name as u64, u64::from(v.count_mode), kind, word]);
+    }
+    for text in exclusions {
+        let word = out.push(text);
+        out.words.extend([2, 0, 0, 0, word]);
+    }
+    out.values = vec![(list.len() + exclusions.len()) as u64, out.texts.len() as u64];
+    out
+}
+
+/// The first part whose name is unknown; an exclusion's name is looked up in update targets only.
+fn unknown_part(error: Error, text: &str, updates: bool) -> Outcome {
+    let named = |error| match error {
+        Error::UnknownVariable { name } => name,
+        other => unreachable!("{other:?}"),
+    };
+    let bad = |part: &str| match part.strip_prefix('!') {
+        None => parse_single_variable(part).err().map(named),
+        Some(_) if !updates => None,
+        Some(rest) => {
+            let name = rest.split(':').next().unwrap_or("");
+            VariableName::from_str(name).is_none().then(|| name.to_string())
+        }
+    };
+    let parts = text.split('|').map(str::trim).filter(|part| !part.is_empty());
+    let (piece, name) = parts.enumerate().find_map(|(i, part)| bad(part).map(|name| (i, name))).expect("a part is bad");
+    assert_eq!(named(error), name, "the parts are cut another way than the original's");
+    Outcome::refused(7, piece, name)
+}
+
+pub fn parsed_variables(text: &str) -> Outcome {
+    match parse_variables(text) {
+        Ok(list) => laid_out(&list, list.first().map_or(&[], |v| v.exclusions.as_slice())),
+        Err(error) => unknown_part(error, text, false),
+    }
+}
+
+pub fn parsed_updates(text: &str) -> Outcome {
+    match parse_update_targets(text) {
+        Ok((list, exclusions)) => laid_out(&list, &exclusions),
+        Err(error) => unknown_part(error, text, true),
+    }
+}
+
+pub fn xml_target(selection: u64, text: &str) -> u64 {
+    let target = match selection {
+        0 => XmlTarget::from_selection(None),
+        1 => XmlTarget::from_selection(Some(&Selection::Key(text.to_string()))),
+        2 => XmlTarget::from_selection(Some(&Selection::Regex(text.to_string()))),
+        _ => None,
+    };
+    target.map_or(3, |t| t as u64)
+}
+
+// ---- operators
+
+/// With 0, where the argument stands: it ends where the trimmed text does.
+pub fn operator(text: &str) -> Outcome {
+    let first = text.len() - text.trim_start().len();
+    let past = first + text.trim().len();
+    match parse_operator(text) {
+        Ok(spec) => {
+            let (place, len) = (past - spec.argument.len(), spec.argument.len());
+            assert_eq!(text[place..past], spec.argument, "the argument is no part of the text");
+            Outcome { values: vec![u64::from(spec.negated), spec.name as u64, place as u64, len as u64], ..Outcome::default() }
+        }
+        Err(Error::UnknownOperator { name }) => {
+            let place = text.find('@').expect("a name is written") + 1;
+            assert_eq!(text[place..place + name.len()], name, "the name is no part of the text");
+            Outcome { number: 8, values: vec![place as u64, name.len() as u64], ..Outcome::default() }
+        }
+        Err(other) => unreachable!("{other:?}"),
+    }
+}
+
+// ---- names and codes
+
+/// 0 variables, 1 operators, 2 severity words.
+pub fn lookup(table: u64, name: &str) -> Option<u64> {
+    match table {
+        0 => VariableName::from_str(name).map(|v| v as u64),
+        1 => OperatorName::from_str(name).map(|o| o as u64),
+        // the original reads a number first, which is no word
+        2 if name.bytes().any(|b| b.is_ascii_digit()) => None,
+        2 => acting::severity(name).map(u64::from),
+        _ => None,
+    }
+}
+
+pub fn names() -> Vec<&'static str> {
+    let words = ["emergency", "alert", "critical", "error", "warning", "notice", "info", "debug"];
+    [targeting::names(), operating::names(), words.to_vec()].concat()
+}
+
+/// 0 is_collection, 1 is_implemented, 2 requires_argument.
+pub fn test(test: u64, code: u64) -> bool {
+    let code = usize::try_from(code).unwrap_or(usize::MAX);
+    match test {
+        0 => variables::ALL.get(code).is_some_and(|v| v.is_collection()),
+        1 => variables::ALL.get(code).is_some_and(|v| v.is_implemented()),
+        2 => operators::ALL.get(code).is_some_and(|o| o.requires_argument()),
+        _ => false,
+    }
+}
+
+/// Each code is its variant's place.
+pub fn codes_are_places() -> bool {
+    variables::ALL.iter().enumerate().all(|(i, v)| *v as usize == i) && operators::ALL.iter().enumerate().all(|(i, o)| *o as usize == i)
+}

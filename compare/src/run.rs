@@ -1,0 +1,202 @@
+//! All cases in order, with a count for each reader, a progress line, and the first difference made small.
+
+use crate::cases::{pieces_of, Random, RULES, SETS, TEXT_READERS};
+use crate::check::{Checker, Reader, READERS, SHAPES};
+use crate::original::{self, LIMIT};
+use crate::real::{self, Real};
+use std::path::PathBuf;
+use std::time::Instant;
+
+pub struct Wanted {
+    pub quick: bool,
+    pub seed: u64,
+    pub random: Option<u64>,
+    pub real: Vec<PathBuf>,
+    pub alone: bool,
+}
+
+struct Run {
+    checker: Checker,
+    began: Instant,
+    said: Instant,
+    fine: bool,
+}
+
+impl Run {
+    fn done(&self) -> u64 {
+        self.checker.counts.iter().sum()
+    }
+
+    fn progress(&mut self, part: &str) {
+        if self.said.elapsed().as_secs() < 5 {
+            return;
+        }
+        self.said = Instant::now();
+        eprintln!("{part}: {} cases, {} s", self.done(), self.began.elapsed().as_secs());
+    }
+
+    /// Whether to go on: no difference yet.
+    fn case(&mut self, reader: Reader, input: &[u8]) -> bool {
+        if let Err(difference) = self.checker.check(reader, input) {
+            self.fine = false;
+            println!("{reader:?} differs: {difference}");
+            let small = minimal(input.to_vec(), |input| differs(reader, input).is_some());
+            println!("a minimal input, of {} bytes: \"{}\"", small.len(), small.escape_ascii());
+            println!("there: {}", differs(reader, &small).unwrap_or_default());
+        }
+        self.fine
+    }
+
+    fn exhaustive(&mut self, quick: bool) {
+        for set in SETS {
+            let longest = if quick { set.quick } else { set.full };
+            for reader in set.readers {
+                let before = self.done();
+                let went_on = set.each(longest, &mut |text| {
+                    self.progress("every text");
+                    self.case(*reader, text)
+                });
+                if !went_on {
+                    return;
+                }
+                println!("every text of up to {longest} of {} pieces, {reader:?}: {} cases", set.alphabet.len(), self.done() - before);
+            }
+        }
+    }
+
+    fn numbers(&mut self, random: &mut Random, turns: u64) {
+        for turn in 0..turns {
+            let (a, b, c) = (random.number(), random.number(), random.number());
+            let (a, b) = if turn < 300 { (turn, random.number()) } else { (a, b) };
+            if let Err(difference) = self.checker.numbers(a, b, if turn % 5 == 0 { a } else { c }) {
+                println!("numbers {a} {b} {c} differ: {difference}");
+                self.fine = false;
+                return;
+            }
+        }
+    }
+
+    fn random(&mut self, random: &mut Random, turns: u64, real: &Real) {
+        let names = original::names();
+        let pieces = TEXT_READERS.map(|reader| pieces_of(reader, &names));
+        for turn in 0..turns {
+            let reader = TEXT_READERS[turn as usize % TEXT_READERS.len()];
+            let input = random_input(random, reader, real, &names, &pieces[turn as usize % TEXT_READERS.len()]);
+            self.progress("random");
+            if !self.case(reader, &input) {
+                return;
+            }
+        }
+    }
+
+    /// Each reader at the limit and beside it, with each shape of what is lent.
+    fn limits(&mut self) {
+        for reader in TEXT_READERS {
+            for len in LIMIT - 1..=LIMIT + 2 {
+                for piece in ["a", "\\", "\n", "deny,", "TX|", "a'", " ", "#"] {
+                    let input: Vec<u8> = piece.bytes().cycle().take(len).collect();
+                    for _ in SHAPES {
+                        if !self.case(reader, &input) {
+                            return;
+                        }
+                    }
+                }
+            }
+        }
+    }
+
+    fn real(&mut self, real: &Real) {
+        for (texts, readers) in [(&real.texts, &[Reader::Tokens, Reader::ListText, Reader::NextToken][..]), (&real.arguments, &TEXT_READERS[..])] {
+            for text in texts {
+                for reader in readers {
+                    for _ in 0..3 {
+                        self.progress("real rules");
+                        if !self.case(*reader, text) {
+                            return;
+                        }
+                    }
+                }
+            }
+        }
+    }
+}
+
+/// A damaged name or rule, or a text of the reader's own pieces.
+fn random_input(random: &mut Random, reader: Reader, real: &Real, names: &[&str], pieces: &[&str]) -> Vec<u8> {
+    let own: Vec<&str> = RULES.iter().filter(|(of, _)| *of == reader).map(|(_, rule)| *rule).collect();
+    match random.below(4) {
+        0..=2 if reader == Reader::Lookup => {
+            let name = *random.one(names);
+            random.damaged(name.as_bytes(), pieces)
+        }
+        0 if !real.arguments.is_empty() => {
+            let argument = random.one(&real.arguments);
+            random.damaged(argument, pieces)
+        }
+        0 | 1 => {
+            let rule = if own.is_empty() { random.one(RULES).1 } else { random.one(&own) };
+            random.damaged(rule.as_bytes(), pieces)
+        }
+        // one in some thousands is at the limit: those take long
+        _ => {
+            let longest = if random.below(3000) == 0 { LIMIT } else { 512 };
+            random.text(pieces, longest)
+        }
+    }
+}
+
+/// What differs for a reader on an input, under any shape of what is lent.
+fn differs(reader: Reader, input: &[u8]) -> Option<String> {
+    let mut checker = Checker::new(false);
+    SHAPES.iter().find_map(|_| checker.check(reader, input).err())
+}
+
+/// Bytes taken out, and then made plain, while the difference stays.
+fn minimal(mut input: Vec<u8>, fails: impl Fn(&[u8]) -> bool) -> Vec<u8> {
+    let mut width = input.len();
+    while 0 < width {
+        let mut at = 0;
+        while at + width <= input.len() {
+            let shorter = [&input[..at], &input[at + width..]].concat();
+            if fails(&shorter) { input = shorter } else { at += 1 }
+        }
+        width /= 2;
+    }
+    for at in 0..input.len() {
+        let was = std::mem::replace(&mut input[at], b'a');
+        if !fails(&input) {
+            input[at] = was;
+        }
+    }
+    input
+}
+
+pub fn all(wanted: &Wanted) -> bool {
+    println!("seed {}", wanted.seed);
+    assert!(original::codes_are_places(), "a code is its place in the original's enum");
+    let real = real::read(&wanted.real);
+    let mut random = Random(wanted.seed);
+    let mut run = Run { checker: Checker::new(wanted.alone), began: Instant::now(), said: Instant::now(), fine: true };
+    let turns = wanted.random.unwrap_or(if wanted.quick { 400_000 } else { 20_000_000 });
+    run.numbers(&mut random, turns / 10);
+    if run.fine && !wanted.real.is_empty() {
+        let before = run.done();
+        run.real(&real);
+        println!("{} rule files, {} texts and {} arguments: {} cases", real.files, real.texts.len(), real.arguments.len(), run.done() - before);
+    }
+    if run.fine && !wanted.alone {
+        run.limits();
+    }
+    if run.fine {
+        run.random(&mut random, turns, &real);
+    }
+    if run.fine {
+        run.exhaustive(wanted.quick);
+    }
+    for (reader, count) in READERS.iter().zip(run.checker.counts) {
+        println!("{count:>12} {reader:?}");
+    }
+    let verdict = if run.fine { "no difference" } else { "A DIFFERENCE" };
+    println!("{verdict} in {} cases, {} s", run.done(), run.began.elapsed().as_secs());
+    run.fine
+}
