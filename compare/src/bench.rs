@@ -1,3 +1,212 @@
+//! Speeds on the same inputs in one process: bytes a second, ours and the original's.
+
+use crate::cases::RULES;
+use crate::check::Reader;
+use crate::parser::action::parse_actions;
+use crate::parser::lexer::{Lexer, TokenKind};
+use crate::parser::operator::{parse_operator, OperatorName};
+use crate::parser::variable::{parse_update_targets, parse_variables, VariableName};
+use crate::{original, ours, real};
+use std::hint::black_box;
 use std::path::PathBuf;
-pub fn table(_: &[PathBuf]) -> bool { false }
-pub fn again(_: &str, _: u64, _: &[PathBuf]) -> bool { false }
+use std::time::Instant;
+
+/// Rounds of each side in turn; the median of each is shown.
+const ROUNDS: usize = 25;
+
+/// The inputs of each row.
+#[derive(Default)]
+struct Inputs {
+    texts: Vec<String>,
+    actions: Vec<String>,
+    plain: Vec<String>,
+    excluding: Vec<String>,
+    operators: Vec<String>,
+}
+
+impl Inputs {
+    fn variables(&mut self, list: String) {
+        if list.contains('!') { self.excluding.push(list) } else { self.plain.push(list) }
+    }
+
+    /// The arguments of each rule, by where they stand behind its directive.
+    fn rules(&mut self, text: &str) {
+        let (mut lexer, mut directive, mut place) = (Lexer::new(text), String::new(), 0);
+        while let Some(token) = lexer.next_token() {
+            match token.kind {
+                TokenKind::Directive(name) => (directive, place) = (name.to_lowercase(), 0),
+                TokenKind::Word(said) | TokenKind::QuotedString(said) => {
+                    match (directive.as_str(), place) {
+                        ("secrule", 0) => self.variables(said),
+                        ("secrule", 1) => self.operators.push(said),
+                        ("secrule", 2) | ("secaction", 0) => self.actions.push(said),
+                        _ => {}
+                    }
+                    place += 1;
+                }
+                _ => {}
+            }
+        }
+    }
+
+    fn of(folders: &[PathBuf]) -> Self {
+        let mut inputs = Inputs::default();
+        for text in real::read(folders).texts.into_iter().filter(|text| text.is_ascii()) {
+            let text = String::from_utf8(text).expect("ASCII");
+            inputs.rules(&text);
+            inputs.texts.push(text);
+        }
+        if folders.is_empty() {
+            for (reader, rule) in RULES {
+                match reader {
+                    Reader::Tokens => inputs.texts.push(rule.repeat(80)),
+                    Reader::Actions => inputs.actions.push(rule.to_string()),
+                    Reader::Variables | Reader::Updates => inputs.variables(rule.to_string()),
+                    Reader::Operator => inputs.operators.push(rule.to_string()),
+                    _ => {}
+                }
+            }
+            inputs.plain.push("REQUEST_COOKIES|REQUEST_COOKIES_NAMES|ARGS_NAMES|ARGS|XML:/*".to_string());
+        }
+        inputs
+    }
+}
+
+/// What ours is lent: text as long as the input, and records that fit; or as much as any input could ask for.
+struct Room {
+    text: Vec<u8>,
+    scratch: Vec<u8>,
+    records: Vec<u64>,
+    values: [u64; 16],
+}
+
+impl Room {
+    fn new() -> Self {
+        Room { text: vec![1; 16_400], scratch: vec![1; 16_400], records: vec![1; 20_480], values: [0; 16] }
+    }
+}
+
+struct Row<'a> {
+    name: &'a str,
+    inputs: &'a [String],
+    /// The words of records that each input asks for.
+    words: Vec<usize>,
+    ours: fn(&[u8], usize, &mut Room) -> u64,
+    original: fn(&str),
+}
+
+fn needs(inputs: &[String], of: fn(&str) -> original::Outcome) -> Vec<usize> {
+    inputs.iter().map(|text| of(text).words.len()).collect()
+}
+
+fn codes(names: &[String], of: fn(&str)) {
+    names.iter().for_each(|name| of(name));
+}
+
+fn fills(call: ours::Filler, input: &[u8], words: usize, room: &mut Room) -> u64 {
+    call(input, &mut room.text[..input.len()], &mut room.records[..words], &mut room.values)
+}
+
+fn all_tokens(text: &str) {
+    let mut lexer = Lexer::new(text);
+    let mut list = Vec::new();
+    while let Some(token) = lexer.next_token() {
+        list.push(token);
+    }
+    black_box(list);
+}
+
+fn rows<'a>(inputs: &'a Inputs, names: &'a [Vec<String>; 2]) -> Vec<Row<'a>> {
+    let none = |list: &[String]| vec![0; list.len()];
+    let roomy = |list: &[String]| vec![20_480; list.len()];
+    let tokens = |input: &[u8], words, room: &mut Room| fills(ours::tokens, input, words, room);
+    let variables = |input: &[u8], words, room: &mut Room| fills(ours::parse_variables, input, words, room);
+    let updates = |input: &[u8], words, room: &mut Room| fills(ours::parse_update_targets, input, words, room);
+    let actions = |input: &[u8], words, room: &mut Room| {
+        let n = input.len();
+        ours::parse_actions(input, &mut room.text[..n], &mut room.scratch[..n], &mut room.records[..words], &mut room.values)
+    };
+    let by_variables = |text: &str| drop(black_box(parse_variables(text)));
+    let by_updates = |text: &str| drop(black_box(parse_update_targets(text)));
+    vec![
+        Row { name: "tokens", inputs: &inputs.texts, words: needs(&inputs.texts, original::tokens), ours: tokens, original: all_tokens },
+        Row { name: "tokens-roomy", inputs: &inputs.texts, words: roomy(&inputs.texts), ours: tokens, original: all_tokens },
+        Row { name: "parse_actions", inputs: &inputs.actions, words: needs(&inputs.actions, original::actions), ours: actions, original: |text| drop(black_box(parse_actions(text))) },
+        Row { name: "parse_variables", inputs: &inputs.plain, words: needs(&inputs.plain, original::parsed_variables), ours: variables, original: by_variables },
+        Row { name: "parse_variables-excluding", inputs: &inputs.excluding, words: needs(&inputs.excluding, original::parsed_variables), ours: variables, original: by_variables },
+        Row { name: "parse_update_targets", inputs: &inputs.excluding, words: needs(&inputs.excluding, original::parsed_updates), ours: updates, original: by_updates },
+        Row { name: "parse_operator", inputs: &inputs.operators, words: none(&inputs.operators), ours: |input, _, room| ours::parse_operator(input, &mut room.values), original: |text| drop(black_box(parse_operator(text))) },
+        Row { name: "lookup-variables", inputs: &names[0], words: none(&names[0]), ours: |name, _, _| ours::lookup(0, name), original: |name| drop(black_box(VariableName::from_str(name))) },
+        Row { name: "lookup-operators", inputs: &names[1], words: none(&names[1]), ours: |name, _, _| ours::lookup(1, name), original: |name| drop(black_box(OperatorName::from_str(name))) },
+    ]
+}
+
+impl Row<'_> {
+    fn bytes(&self) -> usize {
+        self.inputs.iter().map(String::len).sum()
+    }
+
+    fn pass(&self, ours: bool, room: &mut Room) {
+        if !ours {
+            return codes(self.inputs, self.original);
+        }
+        for (input, words) in self.inputs.iter().zip(&self.words) {
+            black_box((self.ours)(black_box(input.as_bytes()), *words, room));
+        }
+    }
+
+    /// Nanoseconds for a pass, the median over rounds of so many passes.
+    fn medians(&self, room: &mut Room) -> [f64; 2] {
+        let passes = 1 + 2_000_000 / (self.bytes() + 1);
+        let mut times = [Vec::new(), Vec::new()];
+        for _ in 0..ROUNDS {
+            for (side, of) in times.iter_mut().enumerate() {
+                let began = Instant::now();
+                (0..passes).for_each(|_| self.pass(side == 0, room));
+                of.push(began.elapsed().as_nanos() as f64 / passes as f64);
+            }
+        }
+        times.map(|mut of| {
+            of.sort_by(f64::total_cmp);
+            of[of.len() / 2]
+        })
+    }
+}
+
+fn names() -> [Vec<String>; 2] {
+    let known = |table| original::names().into_iter().filter(|n| original::lookup(table, n).is_some()).map(str::to_string).collect();
+    [known(0), known(1)]
+}
+
+pub fn table(folders: &[PathBuf]) -> bool {
+    let (inputs, names, mut room) = (Inputs::of(folders), names(), Room::new());
+    println!("| Row | Inputs | Bytes | Ours, MB/s | Rust, MB/s | Times | Ours, ns a call | Rust, ns a call |\n|---|---|---|---|---|---|---|---|");
+    for row in rows(&inputs, &names).iter().filter(|row| !row.inputs.is_empty()) {
+        let [ours, rust] = row.medians(&mut room);
+        let (bytes, calls) = (row.bytes() as f64, row.inputs.len() as f64);
+        println!(
+            "| {} | {calls} | {bytes} | {:.0} | {:.0} | {:.2} | {:.0} | {:.0} |",
+            row.name,
+            bytes * 1e3 / ours,
+            bytes * 1e3 / rust,
+            rust / ours,
+            ours / calls,
+            rust / calls
+        );
+    }
+    true
+}
+
+/// So many passes of one side of one row, as `ours/tokens` or `rust/tokens`; prints the bytes of a pass.
+pub fn again(case: &str, times: u64, folders: &[PathBuf]) -> bool {
+    let (inputs, names, mut room) = (Inputs::of(folders), names(), Room::new());
+    let all = rows(&inputs, &names);
+    let found = case.split_once('/').and_then(|(side, name)| Some((side, all.iter().find(|row| row.name == name)?)));
+    let Some((side, row)) = found else {
+        eprintln!("cases: ours/ROW and rust/ROW, with ROW one of {}", all.iter().map(|row| row.name).collect::<Vec<_>>().join(" "));
+        return false;
+    };
+    (0..times).for_each(|_| row.pass(side == "ours", &mut room));
+    println!("{}", row.bytes());
+    true
+}

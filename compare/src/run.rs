@@ -68,8 +68,10 @@ impl Run {
         for turn in 0..turns {
             let (a, b, c) = (random.number(), random.number(), random.number());
             let (a, b) = if turn < 300 { (turn, random.number()) } else { (a, b) };
-            if let Err(difference) = self.checker.numbers(a, b, if turn % 5 == 0 { a } else { c }) {
-                println!("numbers {a} {b} {c} differ: {difference}");
+            let words: Vec<u64> = (0..random.below(40)).map(|_| if random.below(2) == 0 { 10 + random.below(10) as u64 } else { random.number() }).collect();
+            let checked = self.checker.numbers(a, b, if turn % 5 == 0 { a } else { c }).and_then(|()| self.checker.words(&words));
+            if let Err(difference) = checked {
+                println!("numbers {a} {b} {c} or words {words:?} differ: {difference}");
                 self.fine = false;
                 return;
             }
@@ -177,7 +179,7 @@ pub fn all(wanted: &Wanted) -> bool {
     let real = real::read(&wanted.real);
     let mut random = Random(wanted.seed);
     let mut run = Run { checker: Checker::new(wanted.alone), began: Instant::now(), said: Instant::now(), fine: true };
-    let turns = wanted.random.unwrap_or(if wanted.quick { 400_000 } else { 20_000_000 });
+    let turns = wanted.random.unwrap_or(if wanted.quick { 600_000 } else { 10_000_000 });
     run.numbers(&mut random, turns / 10);
     if run.fine && !wanted.real.is_empty() {
         let before = run.done();
