@@ -1,11 +1,11 @@
 //! Speeds on the same inputs in one process: bytes a second, ours and the original's.
 
 use crate::cases::RULES;
-use crate::check::Reader;
 use crate::parser::action::parse_actions;
 use crate::parser::lexer::{Lexer, TokenKind};
 use crate::parser::operator::{parse_operator, OperatorName};
 use crate::parser::variable::{parse_update_targets, parse_variables, VariableName};
+use crate::readers::Reader;
 use crate::{original, ours, real};
 use std::hint::black_box;
 use std::path::PathBuf;
@@ -26,7 +26,11 @@ struct Inputs {
 
 impl Inputs {
     fn variables(&mut self, list: String) {
-        if list.contains('!') { self.excluding.push(list) } else { self.plain.push(list) }
+        if list.contains('!') {
+            self.excluding.push(list)
+        } else {
+            self.plain.push(list)
+        }
     }
 
     /// The arguments of each rule, by where they stand behind its directive.
@@ -99,8 +103,8 @@ fn needs(inputs: &[String], of: fn(&str) -> original::Outcome) -> Vec<usize> {
     inputs.iter().map(|text| of(text).words.len()).collect()
 }
 
-fn codes(names: &[String], of: fn(&str)) {
-    names.iter().for_each(|name| of(name));
+fn look<T>(found: Option<T>) {
+    black_box(found);
 }
 
 fn fills(call: ours::Filler, input: &[u8], words: usize, room: &mut Room) -> u64 {
@@ -131,13 +135,55 @@ fn rows<'a>(inputs: &'a Inputs, names: &'a [Vec<String>; 2]) -> Vec<Row<'a>> {
     vec![
         Row { name: "tokens", inputs: &inputs.texts, words: needs(&inputs.texts, original::tokens), ours: tokens, original: all_tokens },
         Row { name: "tokens-roomy", inputs: &inputs.texts, words: roomy(&inputs.texts), ours: tokens, original: all_tokens },
-        Row { name: "parse_actions", inputs: &inputs.actions, words: needs(&inputs.actions, original::actions), ours: actions, original: |text| drop(black_box(parse_actions(text))) },
-        Row { name: "parse_variables", inputs: &inputs.plain, words: needs(&inputs.plain, original::parsed_variables), ours: variables, original: by_variables },
-        Row { name: "parse_variables-excluding", inputs: &inputs.excluding, words: needs(&inputs.excluding, original::parsed_variables), ours: variables, original: by_variables },
-        Row { name: "parse_update_targets", inputs: &inputs.excluding, words: needs(&inputs.excluding, original::parsed_updates), ours: updates, original: by_updates },
-        Row { name: "parse_operator", inputs: &inputs.operators, words: none(&inputs.operators), ours: |input, _, room| ours::parse_operator(input, &mut room.values), original: |text| drop(black_box(parse_operator(text))) },
-        Row { name: "lookup-variables", inputs: &names[0], words: none(&names[0]), ours: |name, _, _| ours::lookup(0, name), original: |name| drop(black_box(VariableName::from_str(name))) },
-        Row { name: "lookup-operators", inputs: &names[1], words: none(&names[1]), ours: |name, _, _| ours::lookup(1, name), original: |name| drop(black_box(OperatorName::from_str(name))) },
+        Row {
+            name: "parse_actions",
+            inputs: &inputs.actions,
+            words: needs(&inputs.actions, original::actions),
+            ours: actions,
+            original: |text| drop(black_box(parse_actions(text))),
+        },
+        Row {
+            name: "parse_variables",
+            inputs: &inputs.plain,
+            words: needs(&inputs.plain, original::parsed_variables),
+            ours: variables,
+            original: by_variables,
+        },
+        Row {
+            name: "parse_variables-excluding",
+            inputs: &inputs.excluding,
+            words: needs(&inputs.excluding, original::parsed_variables),
+            ours: variables,
+            original: by_variables,
+        },
+        Row {
+            name: "parse_update_targets",
+            inputs: &inputs.excluding,
+            words: needs(&inputs.excluding, original::parsed_updates),
+            ours: updates,
+            original: by_updates,
+        },
+        Row {
+            name: "parse_operator",
+            inputs: &inputs.operators,
+            words: none(&inputs.operators),
+            ours: |input, _, room| ours::parse_operator(input, &mut room.values),
+            original: |text| drop(black_box(parse_operator(text))),
+        },
+        Row {
+            name: "lookup-variables",
+            inputs: &names[0],
+            words: none(&names[0]),
+            ours: |name, _, _| ours::lookup(0, name),
+            original: |name| look(VariableName::from_str(name)),
+        },
+        Row {
+            name: "lookup-operators",
+            inputs: &names[1],
+            words: none(&names[1]),
+            ours: |name, _, _| ours::lookup(1, name),
+            original: |name| look(OperatorName::from_str(name)),
+        },
     ]
 }
 
@@ -148,7 +194,7 @@ impl Row<'_> {
 
     fn pass(&self, ours: bool, room: &mut Room) {
         if !ours {
-            return codes(self.inputs, self.original);
+            return self.inputs.iter().for_each(|input| (self.original)(black_box(input)));
         }
         for (input, words) in self.inputs.iter().zip(&self.words) {
             black_box((self.ours)(black_box(input.as_bytes()), *words, room));
@@ -180,12 +226,14 @@ fn names() -> [Vec<String>; 2] {
 
 pub fn table(folders: &[PathBuf]) -> bool {
     let (inputs, names, mut room) = (Inputs::of(folders), names(), Room::new());
-    println!("| Row | Inputs | Bytes | Ours, MB/s | Rust, MB/s | Times | Ours, ns a call | Rust, ns a call |\n|---|---|---|---|---|---|---|---|");
+    println!(
+        "| Row | Inputs | Bytes | Ours, MB/s | Rust, MB/s | Times | Ours, ns a call | Rust, ns a call |\n|---|---|---|---|---|---|---|---|"
+    );
     for row in rows(&inputs, &names).iter().filter(|row| !row.inputs.is_empty()) {
         let [ours, rust] = row.medians(&mut room);
         let (bytes, calls) = (row.bytes() as f64, row.inputs.len() as f64);
         println!(
-            "| {} | {calls} | {bytes} | {:.0} | {:.0} | {:.2} | {:.0} | {:.0} |",
+            "| {} | {calls} | {bytes} | {:.0} | {:.0} | {:.1} | {:.0} | {:.0} |",
             row.name,
             bytes * 1e3 / ours,
             bytes * 1e3 / rust,

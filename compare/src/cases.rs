@@ -1,6 +1,6 @@
 //! The inputs: every text over an alphabet of awkward pieces, random texts around each boundary, damaged and real rules.
 
-use crate::check::Reader;
+use crate::readers::Reader;
 
 /// Every text of up to `longest` pieces over an alphabet, for some readers.
 pub struct Set {
@@ -13,11 +13,83 @@ pub struct Set {
 const LEXING: &[&str] = &["\\", "\n", "\r", " ", "\t", "\"", "'", "#", "\x0b", "\x0c", "a", "n", "sec", "\0", "include"];
 const ACTING: &[&str] = &[",", ":", "'", "\"", "(", ")", "\\", "\n", "\r", " ", "a", "t", "=", "\x0b", "log"];
 const ACTIONS: &[&str] = &[
-    "deny", "id", "msg", "t:", "setvar:", "phase:", "severity:", "ctl:", "expirevar:", "initcol", "skipAfter", ",", ":", "'", "\"", "(", ")", "\\\n", "\\\r", " ", "=", "+", "-", "1", "!", "critical",
+    "deny",
+    "id",
+    "msg",
+    "t:",
+    "setvar:",
+    "phase:",
+    "severity:",
+    "ctl:",
+    "expirevar:",
+    "initcol",
+    "skipAfter",
+    ",",
+    ":",
+    "'",
+    "\"",
+    "(",
+    ")",
+    "\\\n",
+    "\\\r",
+    " ",
+    "=",
+    "+",
+    "-",
+    "1",
+    "!",
+    "critical",
 ];
 /// Every action by name, and what may stand around one.
 const ACTION_NAMES: &[&str] = &[
-    "deny", "block", "pass", "allow", "drop", "redirect", "chain", "skip", "skipafter", "id", "phase", "severity", "msg", "tag", "rev", "ver", "maturity", "accuracy", "logdata", "status", "setvar", "capture", "log", "nolog", "auditlog", "noauditlog", "sanitisematched", "sanitizematched", "ctl", "initcol", "setsid", "setuid", "deprecatevar", "expirevar", "multimatch", "exec", "append", "prepend", "proxy", "pause", "xmlns", "T", ":", ",", "'", "=", " ", "7",
+    "deny",
+    "block",
+    "pass",
+    "allow",
+    "drop",
+    "redirect",
+    "chain",
+    "skip",
+    "skipafter",
+    "id",
+    "phase",
+    "severity",
+    "msg",
+    "tag",
+    "rev",
+    "ver",
+    "maturity",
+    "accuracy",
+    "logdata",
+    "status",
+    "setvar",
+    "capture",
+    "log",
+    "nolog",
+    "auditlog",
+    "noauditlog",
+    "sanitisematched",
+    "sanitizematched",
+    "ctl",
+    "initcol",
+    "setsid",
+    "setuid",
+    "deprecatevar",
+    "expirevar",
+    "multimatch",
+    "exec",
+    "append",
+    "prepend",
+    "proxy",
+    "pause",
+    "xmlns",
+    "T",
+    ":",
+    ",",
+    "'",
+    "=",
+    " ",
+    "7",
 ];
 const SETTINGS: &[&str] = &["!", "=", "+", "-", ".", "'", "\"", " ", "%", "{", "a", "TX", "1", "9223372036854775807"];
 const TARGETS: &[&str] = &["!", "&", ":", "|", "/", " ", "a", "TX", "args", "\x0b"];

@@ -3,80 +3,7 @@
 use crate::lent::{After, Lent};
 use crate::original::{self, Cursor, Outcome, LIMIT};
 use crate::ours;
-
-#[derive(Clone, Copy, Debug, PartialEq)]
-pub enum Reader {
-    NextToken,
-    Tokens,
-    Actions,
-    Setvar,
-    Variables,
-    Updates,
-    Operator,
-    Lookup,
-    Test,
-    XmlTarget,
-    Phase,
-    Grade,
-    Matches,
-    ListText,
-    WriteListing,
-    WriteRefusal,
-}
-
-pub const READERS: [Reader; 16] = [
-    Reader::NextToken,
-    Reader::Tokens,
-    Reader::Actions,
-    Reader::Setvar,
-    Reader::Variables,
-    Reader::Updates,
-    Reader::Operator,
-    Reader::Lookup,
-    Reader::Test,
-    Reader::XmlTarget,
-    Reader::Phase,
-    Reader::Grade,
-    Reader::Matches,
-    Reader::ListText,
-    Reader::WriteListing,
-    Reader::WriteRefusal,
-];
-
-/// How much is lent, beside what is needed: one of `SHAPES` for each call, in turn.
-#[derive(Clone, Copy, Debug)]
-pub struct Shape {
-    /// More or fewer bytes of text, or none at all.
-    text: Option<isize>,
-    /// The same for scratch, and for words of records.
-    scratch: Option<isize>,
-    records: Option<isize>,
-    /// More or fewer words for the values.
-    values: Option<isize>,
-}
-
-const fn shape(text: Option<isize>, scratch: Option<isize>, records: Option<isize>, values: Option<isize>) -> Shape {
-    Shape { text, scratch, records, values }
-}
-
-pub const SHAPES: [Shape; 12] = [
-    shape(Some(9), Some(7), Some(13), Some(4)),
-    shape(Some(0), Some(0), Some(0), Some(0)),
-    shape(Some(-1), Some(0), Some(6), Some(1)),
-    shape(Some(0), Some(0), Some(-1), Some(2)),
-    shape(Some(1), Some(-1), Some(1), Some(3)),
-    shape(Some(2), Some(2), None, Some(4)),
-    shape(Some(3), Some(1), Some(4), Some(-1)),
-    shape(None, Some(3), Some(12), Some(4)),
-    shape(Some(20), Some(40), Some(-5), None),
-    shape(Some(40), Some(20), Some(-6), Some(4)),
-    shape(Some(4), Some(4), Some(31), Some(8)),
-    shape(Some(1), None, Some(2), Some(4)),
-];
-
-fn sized(needed: usize, more: Option<isize>) -> usize {
-    more.map_or(0, |more| needed.saturating_add_signed(more))
-}
+use crate::readers::{sized, Reader, Shape, READERS, SHAPES};
 
 pub struct Checker {
     text: Lent<u8>,
@@ -104,7 +31,11 @@ fn gate(input: &[u8], shortest: usize, asked: usize) -> Option<(u64, u64)> {
 
 /// The input as the original takes it, where it may be asked at all.
 fn readable(input: &[u8]) -> Option<&str> {
-    if input.len() <= LIMIT && input.is_ascii() { std::str::from_utf8(input).ok() } else { None }
+    if input.len() <= LIMIT && input.is_ascii() {
+        std::str::from_utf8(input).ok()
+    } else {
+        None
+    }
 }
 
 /// What the house asks of an action's number (document 01, module 6), which the original has not.
@@ -122,7 +53,16 @@ fn grade(words: &[u64]) -> bool {
 impl Checker {
     pub fn new(alone: bool) -> Self {
         let (bytes, words) = (|| Lent::new(0xA5, alone), || Lent::new(0xA5A5_5A5A_A5A5_5A5A, alone));
-        Checker { text: bytes(), scratch: bytes(), out: bytes(), records: words(), values: words(), alone, shape: 0, counts: [0; READERS.len()] }
+        Checker {
+            text: bytes(),
+            scratch: bytes(),
+            out: bytes(),
+            records: words(),
+            values: words(),
+            alone,
+            shape: 0,
+            counts: [0; READERS.len()],
+        }
     }
 
     fn count(&mut self, reader: Reader) -> Shape {
@@ -137,7 +77,11 @@ impl Checker {
             return Err(format!("number {got}, the original's {number} {values:?}"));
         }
         let after = if values.len() <= lent { After::Front(values) } else { After::Untouched };
-        if self.values.is(after) { Ok(()) } else { Err(format!("number {got}, values {}, the original's {values:?}", self.values.shown())) }
+        if self.values.is(after) {
+            Ok(())
+        } else {
+            Err(format!("number {got}, values {}, the original's {values:?}", self.values.shown()))
+        }
     }
 
     fn filled(&self, refused: Option<(u64, u64)>, o: &Outcome, width: usize, got: u64, lent: usize, room: usize) -> Checked {
@@ -181,7 +125,11 @@ impl Checker {
         if !self.scratch.is(scratch) {
             return Err(lent(format!("number {got}, scratch {}, the original's {text:?}", self.scratch.shown())));
         }
-        if readable(input).is_some() && o.number == 0 { self.records_of(input, &o.words) } else { Ok(()) }
+        if readable(input).is_some() && o.number == 0 {
+            self.records_of(input, &o.words)
+        } else {
+            Ok(())
+        }
     }
 
     /// A rule's phase and grade, out of its records and words left over.
@@ -193,7 +141,11 @@ impl Checker {
         if Some(ours::phase(&lent)) != phase {
             return Err(format!("phase {}, the original's {phase:?}", ours::phase(&lent)));
         }
-        if ours::grade(&lent) != grade(words) { Err(format!("grade {}", ours::grade(&lent))) } else { Ok(()) }
+        if ours::grade(&lent) != grade(words) {
+            Err(format!("grade {}", ours::grade(&lent)))
+        } else {
+            Ok(())
+        }
     }
 
     fn operator(&mut self, input: &[u8]) -> Checked {
@@ -218,7 +170,11 @@ impl Checker {
         };
         let lent = |e| format!("{e}; at {from:?}, lent {n} bytes, {v} words");
         checked.map_err(lent)?;
-        if self.text.is(text) { Ok(()) } else { Err(lent(format!("text {}, the original's {:?}", self.text.shown(), o.texts))) }
+        if self.text.is(text) {
+            Ok(())
+        } else {
+            Err(lent(format!("text {}, the original's {:?}", self.text.shown(), o.texts)))
+        }
     }
 
     /// A step at each place of a short text, the first and last of a long one, and one past, with both marks, and with lines and columns that do not fit the place.
@@ -228,7 +184,7 @@ impl Checker {
             self.step(input, Cursor { place, line: 1, column: place + 1, mark: place == 0 })?;
             let edges = [0, 1, 2, LIMIT, LIMIT + 1, LIMIT + 2, usize::MAX];
             let (line, column) = (edges[(place + self.shape) % 7], edges[self.shape % 7]);
-            self.step(input, Cursor { place, line: line.max(1).min(LIMIT + 1), column: 9, mark: place != 0 })?;
+            self.step(input, Cursor { place, line: line.clamp(1, LIMIT + 1), column: 9, mark: place != 0 })?;
             self.step(input, Cursor { place, line, column, mark: self.shape % 2 == 0 })?;
         }
         Ok(())
@@ -298,13 +254,21 @@ impl Checker {
         let (k, v) = (sized(20, shape.scratch), sized(1, shape.values));
         let got = ours::write_listing(&words, &o.texts, None, self.out.lend(k), self.values.lend(v));
         self.told(got, 19, &[bad as u64], v)?;
-        if self.out.is(After::Padded(&[])) { Ok(()) } else { Err("a refused listing is not cleared".to_string()) }
+        if self.out.is(After::Padded(&[])) {
+            Ok(())
+        } else {
+            Err("a refused listing is not cleared".to_string())
+        }
     }
 
     fn written(&self, got: u64, line: &[u8], lent: usize, values: usize) -> Checked {
         let (number, after) = if line.len() <= lent { (0, After::Padded(line)) } else { (4, After::Padded(&[][..])) };
         self.told(got, number, &[line.len() as u64], values)?;
-        if self.out.is(after) { Ok(()) } else { Err(format!("line {}, the original's {:?}", self.out.shown(), line.escape_ascii().to_string())) }
+        if self.out.is(after) {
+            Ok(())
+        } else {
+            Err(format!("line {}, the original's {:?}", self.out.shown(), line.escape_ascii().to_string()))
+        }
     }
 
     /// Calls that take numbers alone.

@@ -8,6 +8,7 @@ mod check;
 mod lent;
 mod original;
 mod ours;
+mod readers;
 mod real;
 mod run;
 

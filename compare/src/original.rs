@@ -1,7 +1,10 @@
 //! What the original gives, as document 01's numbers, values, texts and records.
 
 use crate::error::{Error, SourceLocation};
-use crate::parser::action::{parse_actions, probe as acting, Action, DataAction, DisruptiveAction, FlowAction, LoggingAction, MetadataAction, SetVarSpec, SetVarValue};
+use crate::parser::action::{
+    parse_actions, probe as acting, Action, DataAction, DisruptiveAction, FlowAction, LoggingAction, MetadataAction, SetVarSpec,
+    SetVarValue,
+};
 use crate::parser::directive::{RuleIdSelector, SecRule};
 pub use crate::parser::lexer::probe::{Cursor, START};
 use crate::parser::lexer::{probe as lexing, Token, TokenKind};

@@ -4,12 +4,70 @@ use crate::original::Cursor;
 
 mod raw {
     extern "C" {
-        pub fn seclang_next_token(input: *const u8, input_len: usize, place: usize, line: usize, column: usize, mark: bool, text: *mut u8, text_len: usize, values: *mut u64, values_len: usize) -> u64;
-        pub fn seclang_tokens(input: *const u8, input_len: usize, text: *mut u8, text_len: usize, records: *mut u64, records_len: usize, values: *mut u64, values_len: usize) -> u64;
-        pub fn seclang_parse_actions(input: *const u8, input_len: usize, text: *mut u8, text_len: usize, scratch: *mut u8, scratch_len: usize, records: *mut u64, records_len: usize, values: *mut u64, values_len: usize) -> u64;
-        pub fn seclang_parse_setvar(input: *const u8, input_len: usize, text: *mut u8, text_len: usize, records: *mut u64, records_len: usize, values: *mut u64, values_len: usize) -> u64;
-        pub fn seclang_parse_variables(input: *const u8, input_len: usize, text: *mut u8, text_len: usize, records: *mut u64, records_len: usize, values: *mut u64, values_len: usize) -> u64;
-        pub fn seclang_parse_update_targets(input: *const u8, input_len: usize, text: *mut u8, text_len: usize, records: *mut u64, records_len: usize, values: *mut u64, values_len: usize) -> u64;
+        pub fn seclang_next_token(
+            input: *const u8,
+            input_len: usize,
+            place: usize,
+            line: usize,
+            column: usize,
+            mark: bool,
+            text: *mut u8,
+            text_len: usize,
+            values: *mut u64,
+            values_len: usize,
+        ) -> u64;
+        pub fn seclang_tokens(
+            input: *const u8,
+            input_len: usize,
+            text: *mut u8,
+            text_len: usize,
+            records: *mut u64,
+            records_len: usize,
+            values: *mut u64,
+            values_len: usize,
+        ) -> u64;
+        pub fn seclang_parse_actions(
+            input: *const u8,
+            input_len: usize,
+            text: *mut u8,
+            text_len: usize,
+            scratch: *mut u8,
+            scratch_len: usize,
+            records: *mut u64,
+            records_len: usize,
+            values: *mut u64,
+            values_len: usize,
+        ) -> u64;
+        pub fn seclang_parse_setvar(
+            input: *const u8,
+            input_len: usize,
+            text: *mut u8,
+            text_len: usize,
+            records: *mut u64,
+            records_len: usize,
+            values: *mut u64,
+            values_len: usize,
+        ) -> u64;
+        pub fn seclang_parse_variables(
+            input: *const u8,
+            input_len: usize,
+            text: *mut u8,
+            text_len: usize,
+            records: *mut u64,
+            records_len: usize,
+            values: *mut u64,
+            values_len: usize,
+        ) -> u64;
+        pub fn seclang_parse_update_targets(
+            input: *const u8,
+            input_len: usize,
+            text: *mut u8,
+            text_len: usize,
+            records: *mut u64,
+            records_len: usize,
+            values: *mut u64,
+            values_len: usize,
+        ) -> u64;
         pub fn seclang_parse_operator(input: *const u8, input_len: usize, values: *mut u64, values_len: usize) -> u64;
         pub fn seclang_lookup(table: u64, name: *const u8, name_len: usize) -> u64;
         pub fn seclang_test(test: u64, code: u64) -> bool;
@@ -17,8 +75,31 @@ mod raw {
         pub fn seclang_phase(records: *const u64, records_len: usize) -> u64;
         pub fn seclang_grade(records: *const u64, records_len: usize) -> bool;
         pub fn seclang_matches(ranged: bool, start: u64, end: u64, id: u64) -> bool;
-        pub fn seclang_list_text(input: *const u8, input_len: usize, text: *mut u8, text_len: usize, records: *mut u64, records_len: usize, out: *mut u8, out_len: usize, values: *mut u64, values_len: usize) -> u64;
-        pub fn seclang_write_listing(records: *const u64, records_len: usize, text: *const u8, text_len: usize, early: bool, line: usize, column: usize, out: *mut u8, out_len: usize, values: *mut u64, values_len: usize) -> u64;
+        pub fn seclang_list_text(
+            input: *const u8,
+            input_len: usize,
+            text: *mut u8,
+            text_len: usize,
+            records: *mut u64,
+            records_len: usize,
+            out: *mut u8,
+            out_len: usize,
+            values: *mut u64,
+            values_len: usize,
+        ) -> u64;
+        pub fn seclang_write_listing(
+            records: *const u64,
+            records_len: usize,
+            text: *const u8,
+            text_len: usize,
+            early: bool,
+            line: usize,
+            column: usize,
+            out: *mut u8,
+            out_len: usize,
+            values: *mut u64,
+            values_len: usize,
+        ) -> u64;
         pub fn seclang_write_refusal(number: u64, place: u64, out: *mut u8, out_len: usize, values: *mut u64, values_len: usize) -> u64;
     }
 }
@@ -31,7 +112,16 @@ macro_rules! filler {
         pub fn $name(input: &[u8], text: &mut [u8], records: &mut [u64], values: &mut [u64]) -> u64 {
             // SAFETY: the pointers and lengths are those of slices that live through the call, and no two of them overlap.
             unsafe {
-                raw::$raw(input.as_ptr(), input.len(), text.as_mut_ptr(), text.len(), records.as_mut_ptr(), records.len(), values.as_mut_ptr(), values.len())
+                raw::$raw(
+                    input.as_ptr(),
+                    input.len(),
+                    text.as_mut_ptr(),
+                    text.len(),
+                    records.as_mut_ptr(),
+                    records.len(),
+                    values.as_mut_ptr(),
+                    values.len(),
+                )
             }
         }
     };
@@ -45,7 +135,18 @@ filler!(parse_update_targets, seclang_parse_update_targets);
 pub fn next_token(input: &[u8], from: Cursor, text: &mut [u8], values: &mut [u64]) -> u64 {
     // SAFETY: as above.
     unsafe {
-        raw::seclang_next_token(input.as_ptr(), input.len(), from.place, from.line, from.column, from.mark, text.as_mut_ptr(), text.len(), values.as_mut_ptr(), values.len())
+        raw::seclang_next_token(
+            input.as_ptr(),
+            input.len(),
+            from.place,
+            from.line,
+            from.column,
+            from.mark,
+            text.as_mut_ptr(),
+            text.len(),
+            values.as_mut_ptr(),
+            values.len(),
+        )
     }
 }
 
@@ -53,8 +154,16 @@ pub fn parse_actions(input: &[u8], text: &mut [u8], scratch: &mut [u8], records:
     // SAFETY: as above.
     unsafe {
         raw::seclang_parse_actions(
-            input.as_ptr(), input.len(), text.as_mut_ptr(), text.len(), scratch.as_mut_ptr(), scratch.len(),
-            records.as_mut_ptr(), records.len(), values.as_mut_ptr(), values.len(),
+            input.as_ptr(),
+            input.len(),
+            text.as_mut_ptr(),
+            text.len(),
+            scratch.as_mut_ptr(),
+            scratch.len(),
+            records.as_mut_ptr(),
+            records.len(),
+            values.as_mut_ptr(),
+            values.len(),
         )
     }
 }
@@ -101,8 +210,16 @@ pub fn list_text(input: &[u8], text: &mut [u8], records: &mut [u64], out: &mut [
     // SAFETY: as above.
     unsafe {
         raw::seclang_list_text(
-            input.as_ptr(), input.len(), text.as_mut_ptr(), text.len(), records.as_mut_ptr(), records.len(),
-            out.as_mut_ptr(), out.len(), values.as_mut_ptr(), values.len(),
+            input.as_ptr(),
+            input.len(),
+            text.as_mut_ptr(),
+            text.len(),
+            records.as_mut_ptr(),
+            records.len(),
+            out.as_mut_ptr(),
+            out.len(),
+            values.as_mut_ptr(),
+            values.len(),
         )
     }
 }
@@ -112,8 +229,17 @@ pub fn write_listing(records: &[u64], text: &[u8], early: Option<(usize, usize)>
     // SAFETY: as above.
     unsafe {
         raw::seclang_write_listing(
-            records.as_ptr(), records.len(), text.as_ptr(), text.len(), early.is_some(), line, column,
-            out.as_mut_ptr(), out.len(), values.as_mut_ptr(), values.len(),
+            records.as_ptr(),
+            records.len(),
+            text.as_ptr(),
+            text.len(),
+            early.is_some(),
+            line,
+            column,
+            out.as_mut_ptr(),
+            out.len(),
+            values.as_mut_ptr(),
+            values.len(),
         )
     }
 }

@@ -1,8 +1,9 @@
 //! All cases in order, with a count for each reader, a progress line, and the first difference made small.
 
 use crate::cases::{pieces_of, Random, RULES, SETS, TEXT_READERS};
-use crate::check::{Checker, Reader, READERS, SHAPES};
+use crate::check::Checker;
 use crate::original::{self, LIMIT};
+use crate::readers::{Reader, READERS, SHAPES};
 use crate::real::{self, Real};
 use std::path::PathBuf;
 use std::time::Instant;
@@ -68,7 +69,8 @@ impl Run {
         for turn in 0..turns {
             let (a, b, c) = (random.number(), random.number(), random.number());
             let (a, b) = if turn < 300 { (turn, random.number()) } else { (a, b) };
-            let words: Vec<u64> = (0..random.below(40)).map(|_| if random.below(2) == 0 { 10 + random.below(10) as u64 } else { random.number() }).collect();
+            let words: Vec<u64> =
+                (0..random.below(40)).map(|_| if random.below(2) == 0 { 10 + random.below(10) as u64 } else { random.number() }).collect();
             let checked = self.checker.numbers(a, b, if turn % 5 == 0 { a } else { c }).and_then(|()| self.checker.words(&words));
             if let Err(difference) = checked {
                 println!("numbers {a} {b} {c} or words {words:?} differ: {difference}");
@@ -108,7 +110,9 @@ impl Run {
     }
 
     fn real(&mut self, real: &Real) {
-        for (texts, readers) in [(&real.texts, &[Reader::Tokens, Reader::ListText, Reader::NextToken][..]), (&real.arguments, &TEXT_READERS[..])] {
+        for (texts, readers) in
+            [(&real.texts, &[Reader::Tokens, Reader::ListText, Reader::NextToken][..]), (&real.arguments, &TEXT_READERS[..])]
+        {
             for text in texts {
                 for reader in readers {
                     for _ in 0..3 {
@@ -160,7 +164,11 @@ fn minimal(mut input: Vec<u8>, fails: impl Fn(&[u8]) -> bool) -> Vec<u8> {
         let mut at = 0;
         while at + width <= input.len() {
             let shorter = [&input[..at], &input[at + width..]].concat();
-            if fails(&shorter) { input = shorter } else { at += 1 }
+            if fails(&shorter) {
+                input = shorter
+            } else {
+                at += 1
+            }
         }
         width /= 2;
     }
@@ -184,7 +192,13 @@ pub fn all(wanted: &Wanted) -> bool {
     if run.fine && !wanted.real.is_empty() {
         let before = run.done();
         run.real(&real);
-        println!("{} rule files, {} texts and {} arguments: {} cases", real.files, real.texts.len(), real.arguments.len(), run.done() - before);
+        println!(
+            "{} rule files, {} texts and {} arguments: {} cases",
+            real.files,
+            real.texts.len(),
+            real.arguments.len(),
+            run.done() - before
+        );
     }
     if run.fine && !wanted.alone {
         run.limits();

@@ -1,0 +1,76 @@
+//! The readers by name, and the shapes of what is lent to them.
+
+#[derive(Clone, Copy, Debug, PartialEq)]
+pub enum Reader {
+    NextToken,
+    Tokens,
+    Actions,
+    Setvar,
+    Variables,
+    Updates,
+    Operator,
+    Lookup,
+    Test,
+    XmlTarget,
+    Phase,
+    Grade,
+    Matches,
+    ListText,
+    WriteListing,
+    WriteRefusal,
+}
+
+pub const READERS: [Reader; 16] = [
+    Reader::NextToken,
+    Reader::Tokens,
+    Reader::Actions,
+    Reader::Setvar,
+    Reader::Variables,
+    Reader::Updates,
+    Reader::Operator,
+    Reader::Lookup,
+    Reader::Test,
+    Reader::XmlTarget,
+    Reader::Phase,
+    Reader::Grade,
+    Reader::Matches,
+    Reader::ListText,
+    Reader::WriteListing,
+    Reader::WriteRefusal,
+];
+
+/// How much is lent, beside what is needed: one of `SHAPES` for each call, in turn.
+#[derive(Clone, Copy, Debug)]
+pub struct Shape {
+    /// More or fewer bytes of text, or none at all.
+    pub text: Option<isize>,
+    /// The same for scratch, and for words of records.
+    pub scratch: Option<isize>,
+    pub records: Option<isize>,
+    /// More or fewer words for the values.
+    pub values: Option<isize>,
+}
+
+const fn shape(text: Option<isize>, scratch: Option<isize>, records: Option<isize>, values: Option<isize>) -> Shape {
+    Shape { text, scratch, records, values }
+}
+
+pub const SHAPES: [Shape; 12] = [
+    shape(Some(9), Some(7), Some(13), Some(4)),
+    shape(Some(0), Some(0), Some(0), Some(0)),
+    shape(Some(-1), Some(0), Some(6), Some(1)),
+    shape(Some(0), Some(0), Some(-1), Some(2)),
+    shape(Some(1), Some(-1), Some(1), Some(3)),
+    shape(Some(2), Some(2), None, Some(4)),
+    shape(Some(3), Some(1), Some(4), Some(-1)),
+    shape(None, Some(3), Some(12), Some(4)),
+    shape(Some(20), Some(40), Some(-5), None),
+    shape(Some(40), Some(20), Some(-6), Some(4)),
+    shape(Some(4), Some(4), Some(31), Some(8)),
+    shape(Some(1), None, Some(2), Some(4)),
+];
+
+/// So many, and so many more or fewer.
+pub fn sized(needed: usize, more: Option<isize>) -> usize {
+    more.map_or(0, |more| needed.saturating_add_signed(more))
+}
