@@ -9,8 +9,8 @@ use Rattle.names.specs.Operators.{operatorCode, requiresArgument}
 use Rattle.names.specs.Severities.{severityCode}
 use Rattle.names.specs.declared.Lookup.{Lookup}
 use Rattle.names.specs.declared.Lookup.the-variants as Lookup
-use Rattle.variables.specs.declared.xml.XmlTarget.{XmlTarget}
-use Rattle.variables.specs.declared.xml.XmlTarget.the-variants.{Elements, Attributes, All, Neither}
+use Rattle.xml.specs.declared.XmlTarget.{XmlTarget}
+use Rattle.xml.specs.declared.XmlTarget.the-variants.{Elements, Attributes, All, Neither}
 use Rattle.rules.specs.declared.selecting.RuleIdSelector.{RuleIdSelector}
 use Rattle.rules.specs.declared.selecting.RuleIdSelector.the-variants.{Single, Range}
 

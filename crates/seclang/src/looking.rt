@@ -1,6 +1,6 @@
 // Lookups, tests, and what a rule's records say.
 ghost use mathlib.Core.Path.{_≡_};
-ghost use Rattle.variables.specs.Xml.{xmlTarget};
+ghost use Rattle.xml.specs.Xml.{xmlTarget};
 ghost use Rattle.rules.specs.Entries.{entries};
 ghost use Rattle.rules.specs.Phases.{phaseOf};
 ghost use Rattle.rules.specs.Grades.{grades};
@@ -8,7 +8,7 @@ ghost use Rattle.rules.specs.Selectors.{matched};
 ghost use Rattle.seclang.specs.Codes.{codeOf, lookupIn, testOf, targetOf, selectorOf};
 use names::Lookup;
 use rules::RuleIdSelector;
-use variables::XmlTarget;
+use xml::XmlTarget;
 
 fn code_or_none(found: Lookup) -> u64
     ensures { λ r. ⌜ r ≡ codeOf found ⌝ }
@@ -47,7 +47,7 @@ pub extern "C" fn seclang_test(test: u64, code: u64) -> bool
 pub extern "C" fn seclang_xml_target(selection: u64, text: &[u8]) -> u64
     ensures { λ r. ⌜ r ≡ targetOf (xmlTarget selection (now (text .entry))) ⌝ }
 {
-    match variables::xml_target(selection, text) {
+    match xml::xml_target(selection, text) {
         XmlTarget::Elements => 0,
         XmlTarget::Attributes => 1,
         XmlTarget::All => 2,
