@@ -1,5 +1,5 @@
 -- An answer that was told is told by whatever gives the same number and values.
-use mathlib.Core.Path.{_≡_, subst, sym, ap}
+use mathlib.Core.Path.{_≡_, _∙_, subst, sym, ap}
 use Prim.Native.Nat.{ℕ}
 use mathlib.Core.List.{List}
 use Rattle.lent.specs.Table.{Given}
@@ -12,3 +12,7 @@ module _ {old new : List ℕ} {r : ℕ} where
   -- an answer's own row, where the answer is known
   pub told-case : {A : Type 0} (row : A → Given) {x y : A} → x ≡ y → Told (row y) old new r → Told (row x) old new r
   told-case row e = told-as (sym (ap row e))
+
+-- No second answer: number and words are fixed.
+pub told-once : {g : Given} {old new new′ : List ℕ} {r r′ : ℕ} → Told g old new r → Told g old new′ r′ → (r ≡ r′) × (new ≡ new′)
+told-once x y = (x .number ∙ sym (y .number), x .values ∙ sym (y .values))
