@@ -118,7 +118,8 @@ pub extern "C" fn seclang_parse_operator(input: &[u8], values: &mut [u64]) -> u6
             let argument = operators::operator_argument(input);
             let len = argument.len();
             let past = ascii::trimmed(input).past;
-            let words = [flag(negated), name, (past - len) as u64, len as u64];
+            let place = past - len;
+            let words = [flag(negated), name, place as u64, len as u64];
             tell(0, &words, values)
         }
         Operated::TooLong => tell_one(1, lent::LIMIT, values),

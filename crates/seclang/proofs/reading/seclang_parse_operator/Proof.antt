@@ -19,8 +19,8 @@ trimmed-requires c κs = search needs
 flag-requires : tie.Need-flag-requires
 flag-requires c κs = search needs
 
-sub-t16 : tie.Need-sub-t16
-sub-t16 c = argument-short (c .before .before .before .before .before .before .parse-operator .ensures) (c .before .before .before .before .negated .given .1) (c .before .before .operator-argument .ensures) (c .before .trimmed .ensures)
+sub-place : tie.Need-sub-place
+sub-place c = argument-short (c .before .before .before .before .before .parse-operator .ensures) (c .before .before .before .negated .given .1) (c .before .operator-argument .ensures) (c .trimmed .ensures)
 
 slice-aggregate-tell : tie.Need-slice-aggregate-tell
 slice-aggregate-tell c = search needs
@@ -78,8 +78,8 @@ seclang-parse-operator-spec =
     enum-known-negated
     operator-argument-requires
     trimmed-requires
+    sub-place
     flag-requires
-    sub-t16
     slice-aggregate-tell
     tell-requires
     enum-told
