@@ -13,6 +13,8 @@ pub struct Checker {
     values: Lent<u64>,
     alone: bool,
     pub shape: usize,
+    /// Whether steps are tried at every place of a long text too.
+    pub every: bool,
     pub counts: [u64; READERS.len()],
 }
 
@@ -61,6 +63,7 @@ impl Checker {
             values: words(),
             alone,
             shape: 0,
+            every: false,
             counts: [0; READERS.len()],
         }
     }
@@ -177,10 +180,10 @@ impl Checker {
         }
     }
 
-    /// A step at each place of a short text, the first and last of a long one, and one past, with both marks, and with lines and columns that do not fit the place.
+    /// A step at each place, or the first and last of a long text, and one past, with both marks, and with lines and columns that do not fit the place.
     fn steps(&mut self, input: &[u8]) -> Checked {
-        let last = input.len().min(LIMIT);
-        for place in (0..=last + 1).filter(|place| *place < 12 || last < place + 4) {
+        let (last, every) = (input.len().min(LIMIT), self.every);
+        for place in (0..=last + 1).filter(|place| every || *place < 12 || last < place + 4) {
             self.step(input, Cursor { place, line: 1, column: place + 1, mark: place == 0 })?;
             let edges = [0, 1, 2, LIMIT, LIMIT + 1, LIMIT + 2, usize::MAX];
             let (line, column) = (edges[(place + self.shape) % 7], edges[self.shape % 7]);

@@ -49,6 +49,7 @@ impl Run {
     }
 
     fn exhaustive(&mut self, quick: bool) {
+        self.checker.every = true;
         for set in SETS {
             let longest = if quick { set.quick } else { set.full };
             for reader in set.readers {
