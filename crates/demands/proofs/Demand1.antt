@@ -8,6 +8,7 @@ use Rattle.demands.proofs.TokenCalls.{next-token-fixed, tokens-fixed, t
 use Rattle.demands.proofs.ActionCalls.{parse-actions-fixed, parse-setvar-fixed, parse-actions-row, parse-setvar-row}
 use Rattle.demands.proofs.VariableCalls.{parse-variables-fixed, parse-update-targets-fixed, parse-variables-row, parse-update-targets-row}
 use Rattle.demands.proofs.OperatorCalls.{parse-operator-fixed, operator-argument-fixed}
+use Rattle.demands.proofs.Library.{of-library}
 use Rattle.demands.proofs.ListingCalls.{write-listing-fixed, write-refusal-fixed, list-text-fixed}
 
 pub demand1 : Demand1
@@ -81,6 +82,7 @@ demand1 = record {
     write-refusal = write-refusal-fixed;
     list-text = list-text-fixed;
   };
+  of-library = of-library;
   by-table = record {
     tokens = tokens-row;
     parse-actions = parse-actions-row;

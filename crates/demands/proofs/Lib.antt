@@ -11,3 +11,4 @@ pub mod Worked
 pub mod Demand3
 pub mod Demand2
 pub mod Functions
+pub mod Library

@@ -43,6 +43,7 @@ use Rattle.listing.specs.declared.Answer as Listing
 use Rattle.demands.specs.Fixed.{Fixed, Gives}
 use Rattle.demands.specs.Calls.{Lent, Left, Wrote, Place, Records, Refusal, next-token-promise, tokens-promise, parse-actions-promise, parse-setvar-promise, parse-variables-promise, parse-update-targets-promise, parse-operator-promise, operator-argument-promise, write-listing-promise, write-refusal-promise, list-text-promise}
 use Rattle.demands.specs.Rows.{Row}
+use Rattle.demands.specs.Library.{OfLibrary}
 
 -- what is passed to a function of two or three
 abbrev pub Two : Type 0 → Type 0 → Type 0
@@ -152,4 +153,5 @@ pub record Demand1 : Type 1 where
   pub of-singles : OfSingles
   pub of-parsers : OfParsers
   pub of-listing : OfListing
+  pub of-library : OfLibrary
   pub by-table : ByTable

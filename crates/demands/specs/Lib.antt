@@ -5,3 +5,4 @@ pub mod Demand1
 pub mod Worked
 pub mod Demand3
 pub mod Demand2
+pub mod Library
