@@ -36,6 +36,30 @@ fn searched_code(name: &[u8]) -> Lookup
 }
 
 // The names that rules have most often come first, as they are written there: the search makes its tables on the stack.
+fn request_code(name: &[u8]) -> Lookup
+    ensures { λ r. ⌜ r ≡ variableCode (now (name .entry)) ⌝ }
+{
+    if is_same(name, b"REQUEST_COOKIES") {
+        return Lookup::Code(16);
+    }
+    if is_same(name, b"REQUEST_COOKIES_NAMES") {
+        return Lookup::Code(17);
+    }
+    if is_same(name, b"REQUEST_HEADERS") {
+        return Lookup::Code(14);
+    }
+    if is_same(name, b"REQUEST_FILENAME") {
+        return Lookup::Code(9);
+    }
+    if is_same(name, b"REQUEST_URI") {
+        return Lookup::Code(7);
+    }
+    if is_same(name, b"REQUEST_METHOD") {
+        return Lookup::Code(12);
+    }
+    searched_code(name)
+}
+
 pub fn variable_code(name: &[u8]) -> Lookup
     ensures { λ r. ⌜ r ≡ variableCode (now (name .entry)) ⌝ }
 {
@@ -51,28 +75,10 @@ pub fn variable_code(name: &[u8]) -> Lookup
     if is_same(name, b"ARGS_NAMES") {
         return Lookup::Code(3);
     }
-    if is_same(name, b"REQUEST_COOKIES") {
-        return Lookup::Code(16);
-    }
-    if is_same(name, b"REQUEST_COOKIES_NAMES") {
-        return Lookup::Code(17);
-    }
-    if is_same(name, b"REQUEST_HEADERS") {
-        return Lookup::Code(14);
-    }
-    if is_same(name, b"REQUEST_FILENAME") {
-        return Lookup::Code(9);
-    }
     if is_same(name, b"RESPONSE_BODY") {
         return Lookup::Code(25);
     }
-    if is_same(name, b"REQUEST_URI") {
-        return Lookup::Code(7);
-    }
-    if is_same(name, b"REQUEST_METHOD") {
-        return Lookup::Code(12);
-    }
-    searched_code(name)
+    request_code(name)
 }
 
 pub fn is_collection(code: u64) -> bool

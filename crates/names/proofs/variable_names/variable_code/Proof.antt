@@ -1,4 +1,4 @@
--- Each comparison decides one name, whose code is computed; any other name is searched.
+-- Each comparison decides one name, whose code is computed; any other name is left to `request_code`.
 use mathlib.Core.Path.{_∙_, refl, sym}
 use borrow.Author.Needs.{needs}
 use denote.Ref.{now}
@@ -58,73 +58,13 @@ is-same-requires-5 c κs = search needs
 
 returns-5 : tie.Need-returns-5
 unfolding variableCode find variables same bytes upper
-returns-5 c = told variableCode (now (c .before .before .before .before .before .before .before .before .before .before .before .before .before .before .before .before .args .name)) _ 16 refl (sym (c .before .is-same5 .ensures) ∙ c .if5 .taken)
+returns-5 c = told variableCode (now (c .before .before .before .before .before .before .before .before .before .before .before .before .before .before .before .before .args .name)) _ 25 refl (sym (c .before .is-same5 .ensures) ∙ c .if5 .taken)
 
-slice-aggregate-is-same-6 : tie.Need-slice-aggregate-is-same-6
-slice-aggregate-is-same-6 c = search needs
-
-is-same-requires-6 : tie.Need-is-same-requires-6
-is-same-requires-6 c κs = search needs
+request-code-requires : tie.Need-request-code-requires
+request-code-requires c κs = search needs
 
 returns-6 : tie.Need-returns-6
-unfolding variableCode find variables same bytes upper
-returns-6 c = told variableCode (now (c .before .before .before .before .before .before .before .before .before .before .before .before .before .before .before .before .before .before .before .args .name)) _ 17 refl (sym (c .before .is-same6 .ensures) ∙ c .if6 .taken)
-
-slice-aggregate-is-same-7 : tie.Need-slice-aggregate-is-same-7
-slice-aggregate-is-same-7 c = search needs
-
-is-same-requires-7 : tie.Need-is-same-requires-7
-is-same-requires-7 c κs = search needs
-
-returns-7 : tie.Need-returns-7
-unfolding variableCode find variables same bytes upper
-returns-7 c = told variableCode (now (c .before .before .before .before .before .before .before .before .before .before .before .before .before .before .before .before .before .before .before .before .before .before .args .name)) _ 14 refl (sym (c .before .is-same7 .ensures) ∙ c .if7 .taken)
-
-slice-aggregate-is-same-8 : tie.Need-slice-aggregate-is-same-8
-slice-aggregate-is-same-8 c = search needs
-
-is-same-requires-8 : tie.Need-is-same-requires-8
-is-same-requires-8 c κs = search needs
-
-returns-8 : tie.Need-returns-8
-unfolding variableCode find variables same bytes upper
-returns-8 c = told variableCode (now (c .before .before .before .before .before .before .before .before .before .before .before .before .before .before .before .before .before .before .before .before .before .before .before .before .before .args .name)) _ 9 refl (sym (c .before .is-same8 .ensures) ∙ c .if8 .taken)
-
-slice-aggregate-is-same-9 : tie.Need-slice-aggregate-is-same-9
-slice-aggregate-is-same-9 c = search needs
-
-is-same-requires-9 : tie.Need-is-same-requires-9
-is-same-requires-9 c κs = search needs
-
-returns-9 : tie.Need-returns-9
-unfolding variableCode find variables same bytes upper
-returns-9 c = told variableCode (now (c .before .before .before .before .before .before .before .before .before .before .before .before .before .before .before .before .before .before .before .before .before .before .before .before .before .before .before .before .args .name)) _ 25 refl (sym (c .before .is-same9 .ensures) ∙ c .if9 .taken)
-
-slice-aggregate-is-same-10 : tie.Need-slice-aggregate-is-same-10
-slice-aggregate-is-same-10 c = search needs
-
-is-same-requires-10 : tie.Need-is-same-requires-10
-is-same-requires-10 c κs = search needs
-
-returns-10 : tie.Need-returns-10
-unfolding variableCode find variables same bytes upper
-returns-10 c = told variableCode (now (c .before .before .before .before .before .before .before .before .before .before .before .before .before .before .before .before .before .before .before .before .before .before .before .before .before .before .before .before .before .before .before .args .name)) _ 7 refl (sym (c .before .is-same10 .ensures) ∙ c .if10 .taken)
-
-slice-aggregate-is-same-11 : tie.Need-slice-aggregate-is-same-11
-slice-aggregate-is-same-11 c = search needs
-
-is-same-requires-11 : tie.Need-is-same-requires-11
-is-same-requires-11 c κs = search needs
-
-returns-11 : tie.Need-returns-11
-unfolding variableCode find variables same bytes upper
-returns-11 c = told variableCode (now (c .before .before .before .before .before .before .before .before .before .before .before .before .before .before .before .before .before .before .before .before .before .before .before .before .before .before .before .before .before .before .before .before .before .before .args .name)) _ 12 refl (sym (c .before .is-same11 .ensures) ∙ c .if11 .taken)
-
-searched-code-requires : tie.Need-searched-code-requires
-searched-code-requires c κs = search needs
-
-returns-12 : tie.Need-returns-12
-returns-12 c = search needs
+returns-6 c = search needs
 
 pub variable-code-spec : {M : Type 1} → statement M
 variable-code-spec =
@@ -145,23 +85,5 @@ variable-code-spec =
     slice-aggregate-is-same-5
     is-same-requires-5
     returns-5
-    slice-aggregate-is-same-6
-    is-same-requires-6
-    returns-6
-    slice-aggregate-is-same-7
-    is-same-requires-7
-    returns-7
-    slice-aggregate-is-same-8
-    is-same-requires-8
-    returns-8
-    slice-aggregate-is-same-9
-    is-same-requires-9
-    returns-9
-    slice-aggregate-is-same-10
-    is-same-requires-10
-    returns-10
-    slice-aggregate-is-same-11
-    is-same-requires-11
-    returns-11
-    searched-code-requires
-    returns-12)
+    request-code-requires
+    returns-6)
