@@ -9,3 +9,4 @@ pub mod SignLaws
 pub mod NumeralLaws
 pub mod SignedLaws
 pub mod OneAnswer
+pub mod SameLaws

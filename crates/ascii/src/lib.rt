@@ -9,6 +9,7 @@ pub use classes::ends_operator_name;
 pub use classes::is_digit;
 pub use classes::is_letter;
 pub use classes::is_white;
+pub use folding::is_same;
 pub use folding::same_lowered;
 pub use folding::to_lower;
 pub use folding::to_upper;

@@ -20,6 +20,7 @@ demand1 = record {
     is-letter = gives _;
     to-lower = gives _;
     to-upper = gives _;
+    is-same = gives _;
     same-lowered = gives _;
     leading-white = gives _;
     trimmed-len = gives _;

@@ -7,7 +7,7 @@ use mathlib.Core.List.{List}
 use Prim.Native.Nat.{ℕ}
 use lib.ListN.{length}
 use Rattle.ascii.specs.Classes.{white, operatorNameEnd, digit, letter}
-use Rattle.ascii.specs.Fold.{lower, upper, sameLowered}
+use Rattle.ascii.specs.Fold.{lower, upper, same, sameLowered}
 use Rattle.ascii.specs.Trim.{leadingWhite, trimStart, trimEnd, trimEnds, trimmedPart}
 use Rattle.ascii.specs.Splits.{firstOf}
 use Rattle.ascii.specs.Numbers.{digitsBy, unsignedBy, signedWord}
@@ -59,6 +59,7 @@ pub record OfBytes : Type 0 where
   pub is-letter : Gives letter
   pub to-lower : Gives lower
   pub to-upper : Gives upper
+  pub is-same : Gives (λ (i : Two (List ℕ) (List ℕ)). same (i .0) (i .1))
   pub same-lowered : Gives (λ (i : Two (List ℕ) (List ℕ)). sameLowered (i .0) (i .1))
   pub leading-white : Gives leadingWhite
   pub trimmed-len : Gives (λ s. length (trimEnd s))

@@ -14,7 +14,8 @@ use Rattle.ascii.proofs.ListLaws.{next-byte}
 use Rattle.names.specs.declared.Lookup.the-variants.{Code, Unknown}
 use Rattle.names.specs.Tables.{Row, row, find, nameAt, codeAt}
 use Rattle.names.specs.Shelves.{shelved, rowIs, Shelved}
-use Rattle.names.proofs.TableLaws.{same-true, same-false, same-not, find-at, find-none, getD-map}
+use Rattle.ascii.proofs.SameLaws.{same-true, same-false, same-not}
+use Rattle.names.proofs.TableLaws.{find-at, find-none, getD-map}
 
 -- what is left to compare from the byte i on
 unfoldable pub left : List ℕ → List ℕ → ℕ → Bool

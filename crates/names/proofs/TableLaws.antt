@@ -12,34 +12,8 @@ use Rattle.ascii.specs.Fold.{same}
 use Rattle.names.specs.declared.Lookup.{Lookup}
 use Rattle.names.specs.declared.Lookup.the-variants.{Code, Unknown}
 use Rattle.names.specs.Tables.{Row, row, find, nameAt, codeAt}
-use Rattle.names.proofs.Tests.{never, and-left, and-right, every, at}
-
-pub same-refl : (a : List ℕ) → same a a ≡ true
-unfolding same
-same-refl [] = refl
-same-refl (x ∷ a) = rw (eq-eqb x x refl) (same-refl a)
-
-pub same-true : (a b : List ℕ) → same a b ≡ true → a ≡ b
-unfolding same
-same-true [] [] e = refl
-same-true [] (y ∷ b) e = absurd (never cc)
-same-true (x ∷ a) [] e = absurd (never cc)
-same-true (x ∷ a) (y ∷ b) e =
-    let p = eqb-true x y (and-left (eqb x y) (same a b) e) in
-    let q = same-true a b (and-right (eqb x y) (same a b) e) in
-    rw (p, q)
-
-pub same-false : (a b : List ℕ) → (a ≡ b → ⊥) → same a b ≡ false
-same-false a b n = go (same a b) (λ e. n (same-true a b e))
-  where
-    go : (t : Bool) → (t ≡ true → ⊥) → t ≡ false
-    go true f = absurd (f refl)
-    go false f = refl
-
-pub same-not : (a b : List ℕ) → same a b ≡ false → a ≡ b → ⊥
-same-not a b e p =
-    let q : same a b ≡ true = rw p (same-refl b) in
-    never cc
+use Rattle.ascii.proofs.SameLaws.{never, and-left, and-right, same-refl, same-true, same-false}
+use Rattle.names.proofs.Tests.{every, at}
 
 -- the first row of a name decides
 pub find-at : (rows : List Row) (name : List ℕ) (r : ℕ) → r < length rows

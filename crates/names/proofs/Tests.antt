@@ -5,18 +5,8 @@ use mathlib.Core.Bool.{Bool, true, false}
 use Prim.Native.Nat.{ℕ, zero, suc, _<_}
 use native.Mathlib.Nat.{not-suc-le-zero, le-of-suc-le-suc, eq-or-lt-of-le}
 use native.Mathlib.Omega.{arith}
+use Rattle.ascii.proofs.SameLaws.{never, and-left, and-right}
 use Rattle.ascii.specs.Choice.{and}
-
-pub never : _≡_ {A = ℕ} 0 1 → ⊥
-never z = omega arith
-
-pub and-left : (a b : Bool) → and a b ≡ true → a ≡ true
-and-left true b e = refl
-and-left false b e = e
-
-pub and-right : (a b : Bool) → and a b ≡ true → b ≡ true
-and-right true b e = e
-and-right false b e = absurd (never cc)
 
 -- the test passes at each place below n
 unfoldable pub every : (ℕ → Bool) → ℕ → Bool

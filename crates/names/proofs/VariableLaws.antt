@@ -17,7 +17,8 @@ use Rattle.names.specs.Tables.{Row, row, find, nameAt}
 use Rattle.names.specs.Sorted.{order, partAt, Packed, Placed}
 use Rattle.names.specs.Run.{run, starts, codes}
 use Rattle.names.specs.Variables.{variables}
-use Rattle.names.proofs.Tests.{never, every, at}
+use Rattle.ascii.proofs.SameLaws.{never}
+use Rattle.names.proofs.Tests.{every, at}
 use Rattle.names.proofs.TableLaws.{find-at, find-none, foundIn, agree, too-long, tabulate, tabulate-length, tabulate-at}
 use Rattle.names.proofs.SearchLaws.{distinct}
 

@@ -2,7 +2,6 @@
 ghost use mathlib.Core.Path.{_≡_};
 ghost use Prim.Native.Nat.{_≤_};
 ghost use lib.ListN.{length};
-ghost use Rattle.ascii.specs.Fold.{same};
 ghost use Rattle.names.specs.Sorted.{order};
 ghost use Rattle.names.specs.Shelves.{rowIs};
 
@@ -36,24 +35,6 @@ pub fn compare(a: &[u8], b: &[u8]) -> Order
     } else {
         Order::Same
     }
-}
-
-// Whether two texts are equal. No way out of the loop but its end, so that against a literal it is a few wide comparisons.
-pub fn is_same(a: &[u8], b: &[u8]) -> bool
-    ensures { λ r. ⌜ r ≡ same (now (a .entry)) (now (b .entry)) ⌝ }
-{
-    if a.len() != b.len() {
-        return false;
-    }
-    let mut all = true;
-    let mut i = 0;
-    while i < b.len() {
-        if a[i] != b[i] {
-            all = false;
-        }
-        i += 1;
-    }
-    all
 }
 
 // Whether the zero-filled `row` holds `name`: its length first, since a name may end in NUL bytes.

@@ -1,6 +1,5 @@
 // The operator names (operator.rs): 39 rows of 20 bytes in the enum's order, so that a row's number is the code.
 use crate::Lookup;
-use crate::comparing::is_same;
 use crate::shelving::lowered_shelf_of;
 ghost use mathlib.Core.Path.{_≡_};
 ghost use Rattle.names.specs.Operators.{operatorCode, requiresArgument};
@@ -112,22 +111,22 @@ fn searched_code(name: &[u8]) -> Lookup
 pub fn operator_code(name: &[u8]) -> Lookup
     ensures { λ r. ⌜ r ≡ operatorCode (now (name .entry)) ⌝ }
 {
-    if is_same(name, b"rx") {
+    if ascii::is_same(name, b"rx") {
         return Lookup::Code(0);
     }
-    if is_same(name, b"lt") {
+    if ascii::is_same(name, b"lt") {
         return Lookup::Code(15);
     }
-    if is_same(name, b"eq") {
+    if ascii::is_same(name, b"eq") {
         return Lookup::Code(11);
     }
-    if is_same(name, b"endsWith") {
+    if ascii::is_same(name, b"endsWith") {
         return Lookup::Code(8);
     }
-    if is_same(name, b"streq") {
+    if ascii::is_same(name, b"streq") {
         return Lookup::Code(4);
     }
-    if is_same(name, b"ge") {
+    if ascii::is_same(name, b"ge") {
         return Lookup::Code(14);
     }
     searched_code(name)

@@ -1,6 +1,5 @@
 // The variable names (variable.rs): one run of bytes, strictly ascending by name, searched by halves.
 use crate::Lookup;
-use crate::comparing::is_same;
 use crate::folding::fold;
 use crate::halving::place_of;
 use crate::packing::CODES;
@@ -39,22 +38,22 @@ fn searched_code(name: &[u8]) -> Lookup
 fn request_code(name: &[u8]) -> Lookup
     ensures { λ r. ⌜ r ≡ variableCode (now (name .entry)) ⌝ }
 {
-    if is_same(name, b"REQUEST_COOKIES") {
+    if ascii::is_same(name, b"REQUEST_COOKIES") {
         return Lookup::Code(16);
     }
-    if is_same(name, b"REQUEST_COOKIES_NAMES") {
+    if ascii::is_same(name, b"REQUEST_COOKIES_NAMES") {
         return Lookup::Code(17);
     }
-    if is_same(name, b"REQUEST_HEADERS") {
+    if ascii::is_same(name, b"REQUEST_HEADERS") {
         return Lookup::Code(14);
     }
-    if is_same(name, b"REQUEST_FILENAME") {
+    if ascii::is_same(name, b"REQUEST_FILENAME") {
         return Lookup::Code(9);
     }
-    if is_same(name, b"REQUEST_URI") {
+    if ascii::is_same(name, b"REQUEST_URI") {
         return Lookup::Code(7);
     }
-    if is_same(name, b"REQUEST_METHOD") {
+    if ascii::is_same(name, b"REQUEST_METHOD") {
         return Lookup::Code(12);
     }
     searched_code(name)
@@ -63,19 +62,19 @@ fn request_code(name: &[u8]) -> Lookup
 pub fn variable_code(name: &[u8]) -> Lookup
     ensures { λ r. ⌜ r ≡ variableCode (now (name .entry)) ⌝ }
 {
-    if is_same(name, b"TX") {
+    if ascii::is_same(name, b"TX") {
         return Lookup::Code(35);
     }
-    if is_same(name, b"ARGS") {
+    if ascii::is_same(name, b"ARGS") {
         return Lookup::Code(0);
     }
-    if is_same(name, b"XML") {
+    if ascii::is_same(name, b"XML") {
         return Lookup::Code(79);
     }
-    if is_same(name, b"ARGS_NAMES") {
+    if ascii::is_same(name, b"ARGS_NAMES") {
         return Lookup::Code(3);
     }
-    if is_same(name, b"RESPONSE_BODY") {
+    if ascii::is_same(name, b"RESPONSE_BODY") {
         return Lookup::Code(25);
     }
     request_code(name)

@@ -23,7 +23,7 @@ use Rattle.ascii.specs.declared.trimming.Part.{Part}
 use Rattle.ascii.proofs.numbers.Number.{the-type as number-type}
 use Rattle.ascii.proofs.SplitLaws.{first-fits, split-halves, split-whole}
 use Rattle.names.specs.Severities.{severityCode}
-use Rattle.names.proofs.Tests.{never}
+use Rattle.ascii.proofs.SameLaws.{never}
 use Rattle.single_action.specs.Marks.{stripped}
 use Rattle.single_action.specs.Setvar.{setvar}
 use Rattle.single_action.specs.Table.{Rule, plain, wanted, unmarked, upTo, severity, equation, expiry, setting, Row, rowAt, Placed}
@@ -170,23 +170,6 @@ transform-short (x ∷ []) h = go (eqb x 116)
     go true = refl
     go false = refl
 transform-short (x ∷ y ∷ r) h = absurd (omega arith)
-
-module _ (s : List ℕ) (h : 2 ≤ length s) where
-  both-bytes : (t : List ℕ) → 2 ≤ length t → transforms t ≡ and (eqb (getD t 0 0) 116) (eqb (getD t 1 0) 58)
-  unfolding same bytes
-  both-bytes [] h = absurd (omega arith)
-  both-bytes (x ∷ []) h = absurd (omega arith)
-  both-bytes (x ∷ y ∷ r) h = ap (and (eqb x 116)) (go (eqb y 58))
-    where
-      go : (t : Bool) → and t true ≡ t
-      go true = refl
-      go false = refl
-
-  pub transform-second : getD s 0 0 ≡ 116 → eqb (getD s 1 0) 58 ≡ transforms s
-  transform-second e = rw (both-bytes s h, eq-eqb _ _ e)
-
-  pub transform-other : (getD s 0 0 ≡ 116 → ⊥) → transforms s ≡ false
-  transform-other n = rw (both-bytes s h, ne-eqb _ _ n)
 
 transform-long : (s : List ℕ) → transforms s ≡ true → 2 ≤ length s
 transform-long s e = go (ltb (length s) 2) refl

@@ -14,7 +14,8 @@ use Rattle.ascii.specs.Text.{bytes}
 use Rattle.ascii.specs.Fold.{same}
 use Rattle.lent.specs.Buffers.{placed, stored}
 use Rattle.names.proofs.Tests.{every, at}
-use Rattle.names.proofs.TableLaws.{same-true, getD-map}
+use Rattle.ascii.proofs.SameLaws.{same-true}
+use Rattle.names.proofs.TableLaws.{getD-map}
 use Rattle.single_action.specs.Table.{Rule, plain, Row, row, rows, rowAt, ruleOf}
 use Rattle.single_action.proofs.TableLaws.{rows-count}
 

@@ -10,8 +10,8 @@ use borrow.Author.Tests.{eqb-true, le-leb}
 use Rattle.ascii.specs.Choice.{pick, and, or}
 use Rattle.ascii.specs.Text.{bytes}
 use Rattle.ascii.specs.Fold.{lower, lowered, same}
-use Rattle.names.proofs.Tests.{never, every, at}
-use Rattle.names.proofs.TableLaws.{same-refl, same-true, same-not}
+use Rattle.ascii.proofs.SameLaws.{never, same-refl, same-true, same-not}
+use Rattle.names.proofs.Tests.{every, at}
 use Rattle.single_action.specs.Table.{rows, rowAt, find, found, Placed, NoneOf, Among}
 use Rattle.single_action.proofs.TableLaws.{find-at, find-none, rows-count}
 

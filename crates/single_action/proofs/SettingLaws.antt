@@ -20,7 +20,7 @@ use Rattle.ascii.specs.declared.numbers.Number.{Number}
 use Rattle.ascii.specs.declared.numbers.Number.the-variants.{Value, Unreadable, TooLarge}
 use Rattle.ascii.proofs.numbers.Number.{the-type}
 use Rattle.ascii.proofs.TrimLaws.{ends-are, ends-fit}
-use Rattle.names.proofs.Tests.{never}
+use Rattle.ascii.proofs.SameLaws.{never}
 use Rattle.single_action.specs.Marks.{quotation, paired, unpaired}
 use Rattle.single_action.specs.Setvar.{text, nameOf, hasMacro, numberOr, plainValue, valueOf, setvarOf, delete, setvarBare, setvar, VarName, SetValue}
 use Rattle.single_action.specs.Actions.{setvarAction}

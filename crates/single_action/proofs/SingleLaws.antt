@@ -19,8 +19,7 @@ use Rattle.ascii.specs.declared.numbers.Number.the-variants.{Value, Unreadable,
 use Rattle.names.specs.declared.Lookup.{Lookup}
 use Rattle.names.specs.declared.Lookup.the-variants.{Code, Unknown}
 use Rattle.names.specs.Severities.{severityCode}
-use Rattle.names.proofs.Tests.{and-left, and-right}
-use Rattle.names.proofs.TableLaws.{same-true}
+use Rattle.ascii.proofs.SameLaws.{and-left, and-right, same-true}
 use Rattle.single_action.specs.Marks.{stripped}
 use Rattle.single_action.specs.Setvar.{setvar}
 use Rattle.single_action.specs.Table.{Rule, plain, wanted, unmarked, upTo, severity, equation, expiry, setting, Row, rows, Found, found, missing, find}

@@ -5,7 +5,7 @@ use Prim.Native.Nat.{ℕ, zero, suc, _<_, zero-le, suc-le-suc}
 use native.Mathlib.Nat.{not-suc-le-zero, le-of-suc-le-suc}
 use lib.ListN.{length, getD}
 use Rattle.ascii.specs.Fold.{lowered}
-use Rattle.names.proofs.TableLaws.{same-refl, same-false}
+use Rattle.ascii.proofs.SameLaws.{same-refl, same-false}
 use Rattle.single_action.specs.Table.{plain, Row, row, rows, found, missing, find}
 
 -- the row at a place of any table

@@ -156,7 +156,7 @@ fn is_transform(s: &[u8]) -> bool
     if s.len() < 2 {
         return false;
     }
-    if s[0] == b't' { s[1] == b':' } else { false }
+    ascii::is_same(&s[..2], b"t:")
 }
 
 // One piece, which is trimmed.

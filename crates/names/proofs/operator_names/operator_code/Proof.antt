@@ -6,7 +6,7 @@ use Rattle.ascii.specs.Text.{bytes}
 use Rattle.ascii.specs.Fold.{lower, same}
 use Rattle.names.specs.Tables.{find}
 use Rattle.names.specs.Operators.{operators, operatorCode}
-use Rattle.names.proofs.SameLaws.{told}
+use Rattle.names.proofs.CommonLaws.{told}
 use Rattle.names.proofs.operator_names.operator_code.Statement.{statement}
 use Rattle.names.proofs.operator_names.operator_code.Tie as tie
 

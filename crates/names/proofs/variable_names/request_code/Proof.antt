@@ -6,7 +6,7 @@ use Rattle.ascii.specs.Text.{bytes}
 use Rattle.ascii.specs.Fold.{upper, same}
 use Rattle.names.specs.Tables.{find}
 use Rattle.names.specs.Variables.{variables, variableCode}
-use Rattle.names.proofs.SameLaws.{told}
+use Rattle.names.proofs.CommonLaws.{told}
 use Rattle.names.proofs.variable_names.request_code.Statement.{statement}
 use Rattle.names.proofs.variable_names.request_code.Tie as tie
 

@@ -1,26 +1,28 @@
--- Two bytes, or too few.
+-- The first two bytes compared with the fixed text, or too few.
 use mathlib.Core.Path.{sym}
+use lib.Seq.{length-take-le}
 use denote.Ref.{now}
-use Rattle.single_action.proofs.JudgedLaws.{transform-short, transform-second, transform-other}
 use borrow.Author.Needs.{needs}
+use Rattle.ascii.specs.Text.{bytes}
+use Rattle.single_action.proofs.JudgedLaws.{transform-short}
 use Rattle.single_action.proofs.singles.is_transform.Statement.{statement}
 use Rattle.single_action.proofs.singles.is_transform.Tie as tie
 
 returns : tie.Need-returns
-returns c = sym (transform-short (now (c .before .args .s)) (c .if1 .taken))
+returns c = sym (transform-short (now (c .before .before .args .s)) (c .if1 .taken))
 
-shared-slice-read-if2 : tie.Need-shared-slice-read-if2
-shared-slice-read-if2 c = search needs
+slice-aggregate-is-same : tie.Need-slice-aggregate-is-same
+slice-aggregate-is-same c = sym (length-take-le 2 (now (c .before .before .before .args .s)) (c .before .if1 .left))
 
-shared-slice-read-result : tie.Need-shared-slice-read-result
-shared-slice-read-result c = search needs
+slice-aggregate-is-same-2 : tie.Need-slice-aggregate-is-same-2
+slice-aggregate-is-same-2 c = search needs
+
+is-same-requires : tie.Need-is-same-requires
+is-same-requires c κs = search needs
 
 returns-2 : tie.Need-returns-2
-returns-2 c = transform-second (now (c .before .before .before .before .args .s)) (c .before .before .before .if1 .left) (c .before .if2 .taken)
-
-returns-3 : tie.Need-returns-3
-returns-3 c = sym (transform-other (now (c .before .before .before .args .s)) (c .before .before .if1 .left) (c .if2 .left))
+unfolding bytes
+returns-2 c = c .is-same .ensures
 
 pub is-transform-spec : {M : Type 1} → statement M
-is-transform-spec =
-    tie.close (tie.spec returns shared-slice-read-if2 shared-slice-read-result returns-2 returns-3)
+is-transform-spec = tie.close (tie.spec returns slice-aggregate-is-same slice-aggregate-is-same-2 is-same-requires returns-2)
