@@ -1,6 +1,6 @@
 -- What the reader promises of its answer is told, and its buffers are left as they are.
 use borrow.Author.Needs.{needs}
-use Rattle.seclang.proofs.ToldLaws.{told-as}
+use Rattle.seclang.proofs.ToldLaws.{lists-of}
 use Rattle.seclang.proofs.printing.seclang_list_text.Statement.{statement}
 use Rattle.seclang.proofs.printing.seclang_list_text.Tie as tie
 
@@ -25,7 +25,7 @@ same-length-4 c = search needs
 returns : tie.Need-returns
 returns c =
     let x = c .before .before .before .before .before .before .before .before .before .before .list-text .ensures in
-    record { texts = x .texts; words = x .words; lists = record { told = told-as (x .line .answer) (c .before .before .tell-listed .ensures); line = x .line .buffer } }
+    record { texts = x .texts; words = x .words; lists = lists-of (x .line) (c .before .before .tell-listed .ensures) }
 
 pub seclang-list-text-spec : {M : Type 1} → statement M
 seclang-list-text-spec =

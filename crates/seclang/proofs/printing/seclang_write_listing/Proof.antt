@@ -1,6 +1,6 @@
 -- What the reader promises of its answer is told, and its buffers are left as they are.
 use borrow.Author.Needs.{needs}
-use Rattle.seclang.proofs.ToldLaws.{told-as}
+use Rattle.seclang.proofs.ToldLaws.{lists-of}
 use Rattle.seclang.proofs.printing.seclang_write_listing.Statement.{statement}
 use Rattle.seclang.proofs.printing.seclang_write_listing.Tie as tie
 
@@ -22,7 +22,7 @@ same-length-2 c = search needs
 returns : tie.Need-returns
 returns c =
     let x = c .before .before .before .before .before .before .write-listing .ensures in
-    rw (← c .before .before .before .before .before .before .before .before .stop-of .ensures) (record { told = told-as (x .answer) (c .before .before .tell-listed .ensures); line = x .buffer })
+    rw (← c .before .before .before .before .before .before .before .before .stop-of .ensures) (lists-of x (c .before .before .tell-listed .ensures))
 
 pub seclang-write-listing-spec : {M : Type 1} → statement M
 seclang-write-listing-spec =
