@@ -9,7 +9,6 @@ use Rattle.lent.specs.Gates.{firstHigh, gateOf}
 use Rattle.lent.specs.Table.{Given, given, givenBy}
 use Rattle.lent.specs.Layout.{textsOf}
 use Rattle.single_action.specs.Actions.{actionText}
-use Rattle.actions.specs.Layout.{texts}
 use Rattle.actions.specs.Promises.{actionsOutcome, setvarOutcome}
 use Rattle.actions.specs.Cases.{Comes}
 

@@ -1,6 +1,6 @@
 -- How actions become words and texts in lent memory.
 use Prim.Native.Nat.{ℕ, _+_}
-use mathlib.Core.List.{List, [], _∷_, _++_}
+use mathlib.Core.List.{List, [], _∷_}
 use lib.ListN.{length}
 use Rattle.lent.specs.Sizes.{spanWord}
 use Rattle.lent.specs.Layout.{textsOf, wordsOf}

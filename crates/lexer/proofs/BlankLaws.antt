@@ -3,25 +3,24 @@ use mathlib.Core.Path.{_≡_, refl, sym, ap, _∙_, subst}
 use mathlib.Core.Bool.{Bool, true, false}
 use mathlib.Core.List.{List, [], _∷_}
 use mathlib.Core.Logic.{⊎-elim}
-use Prim.Native.Nat.{ℕ, suc, _+_, _-_, _≤_, _<_}
+use Prim.Native.Nat.{ℕ, _+_, _-_, _≤_, _<_}
 use native.Mathlib.Numerals.{add-one}
 use native.Mathlib.Omega.{arith}
-use lib.ListN.{length, take, drop, getD, drop-of-length-le}
-use lib.Dec.{eqb}
+use lib.ListN.{length, drop, getD, drop-of-length-le}
 use borrow.Author.Tests.{ne-eqb}
-use Rattle.ascii.specs.Choice.{pick, and}
+use Rattle.ascii.specs.Choice.{and}
 use Rattle.ascii.specs.Classes.{white}
 use Rattle.ascii.proofs.ListLaws.{next-byte}
-use Rattle.lexer.specs.Bytes.{Class, class, Feed, Return, Gap, Upright, Hash, Quote, Slash, Other}
+use Rattle.lexer.specs.Bytes.{Class, class, Return, Gap, Slash}
 use Rattle.lexer.specs.Cursors.{Cursor, cursor, moved}
-use Rattle.lexer.specs.Runs.{Does, ends, takes, Spot, spot, run}
+use Rattle.lexer.specs.Runs.{ends, takes, Spot, spot, run}
 use Rattle.lexer.specs.Rules.{before, beforeBy, lineEnd}
 use Rattle.lexer.specs.Steps.{Within, Skipped}
-use Rattle.lexer.proofs.MoveLaws.{moved-feed, moved-flat, moved-place, flat, fed}
+use Rattle.lexer.proofs.MoveLaws.{moved-feed, moved-flat, moved-place}
 use Rattle.lexer.proofs.RunLaws.{run-by}
 use Rattle.lexer.proofs.WithinLaws.{within-past, skipped}
 use Rattle.lexer.proofs.PastLaws.{past-one}
-use Rattle.lexer.proofs.ClassLaws.{told, Means}
+use Rattle.lexer.proofs.ClassLaws.{told}
 use Rattle.lexer.proofs.LineEndLaws.{Ending, none, feed, pair}
 
 module _ (s : List ℕ) where

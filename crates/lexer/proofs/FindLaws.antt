@@ -7,21 +7,17 @@ use native.Mathlib.Numerals.{add-one}
 use native.Mathlib.Omega.{arith}
 use lib.ListN.{length, take, drop, getD, length-drop, drop-of-length-le}
 use lib.Seq.{drop-drop}
-use lib.Dec.{eqb}
 use Rattle.ascii.specs.Choice.{pick}
 use Rattle.ascii.specs.Classes.{white}
 use Rattle.ascii.proofs.ListLaws.{next-byte}
-use Rattle.lent.specs.Sizes.{cursorMost}
-use Rattle.lexer.specs.Bytes.{Class, class, Feed, Hash, Quote, Other, Return, Gap, Upright, Slash}
+use Rattle.lexer.specs.Bytes.{Class, class, Feed, Hash, Quote, Other}
 use Rattle.lexer.specs.Cursors.{Cursor, cursor, moved, moves}
 use Rattle.lexer.specs.Runs.{Does, takes, Spot, spot, run, text, took}
 use Rattle.lexer.specs.Rules.{before, comment, word, wordBy, quoted, plain}
 use Rattle.lexer.specs.Places.{feeds, since}
-use Rattle.lexer.specs.Tokens.{Kind, Token, next, tokenAt, tokenBy, nothing, token, made, wordKind, Directive, Word, QuotedString, Comment, Newline}
-use Rattle.lexer.specs.Promises.{lexeme, stepText}
-use Rattle.lexer.specs.Steps.{Within, part, pastBytes, Skipped, Ran, Wrote, Passes, Stepped, Ahead, Onward, found, lexemeAt}
+use Rattle.lexer.specs.Tokens.{Kind, Token, next, tokenAt, tokenBy, nothing, made, wordKind, QuotedString, Comment, Newline}
+use Rattle.lexer.specs.Steps.{Within, part, pastBytes, Skipped, Ran, Wrote, Passes, Stepped, Ahead, lexemeAt}
 use Rattle.lexer.specs.declared.moving.Run.{Run}
-use Rattle.lexer.specs.declared.stepping.Lexeme.{Lexeme}
 use Rattle.lexer.specs.declared.stepping.Found.{Found}
 use Rattle.lexer.specs.declared.stepping.Found.the-variants as Found
 use Rattle.lexer.proofs.MoveLaws.{moved-feed, dark-flat}

@@ -1,13 +1,12 @@
 -- A loop over a run: what it keeps, and how each thing that a byte can do keeps it. One set of laws for comments, words and quotes.
-use mathlib.Core.Path.{_≡_, refl, sym, ap, _∙_}
-use mathlib.Core.List.{List, [], _∷_, _++_, append-assoc, append-nil}
+use mathlib.Core.Path.{_≡_, sym, ap, _∙_}
+use mathlib.Core.List.{List, [], _∷_, _++_, append-nil}
 use Prim.Native.Nat.{ℕ, suc, _+_, _-_, _≤_, _<_}
-use native.Mathlib.Numerals.{add-one}
 use native.Mathlib.Omega.{arith}
 use lib.ListN.{length, take, drop, getD, set, drop-of-length-le, length-drop, length-take}
 use lib.Dec.{eqb}
 use lib.Seq.{take-suc, take-at, getD-drop}
-use borrow.Author.Tests.{eq-eqb, ne-eqb}
+use borrow.Author.Tests.{ne-eqb}
 use Rattle.ascii.proofs.ListLaws.{next-byte}
 use Rattle.lent.proofs.BufferLaws.{Written, written-one, front-one, written-length, written-all, front-fits}
 use Rattle.lexer.specs.Runs.{Does, ends, closes, takes, text, took}
@@ -16,7 +15,7 @@ use Rattle.lexer.specs.Steps.{part, Ran, Wrote}
 use Rattle.lexer.specs.declared.moving.Run.{Run}
 use Rattle.lexer.proofs.TestLaws.{either}
 use Rattle.lexer.proofs.MoveLaws.{feeds-append, since-append}
-use Rattle.lexer.proofs.RunLaws.{text-by, took-by, took-length}
+use Rattle.lexer.proofs.RunLaws.{text-by, took-by}
 
 -- ---- the bytes passed, one byte longer
 

@@ -1,13 +1,13 @@
 -- What the private functions promise: runs by numbers, and the cursor that a run's numbers make.
 use mathlib.Core.Path.{_≡_}
-use Prim.Native.Nat.{ℕ, suc, _+_, _-_, _≤_, _<_}
+use Prim.Native.Nat.{ℕ, _+_, _-_, _≤_, _<_}
 use mathlib.Core.Bool.{Bool, true, false}
 use mathlib.Core.List.{List, [], _∷_, _++_}
 use lib.ListN.{length, take, drop, getD}
 use Rattle.ascii.specs.Classes.{white}
 use Rattle.lent.specs.Sizes.{limit, cursorMost, spanWord}
 use Rattle.lexer.specs.Cursors.{Cursor, moves}
-use Rattle.lexer.specs.Runs.{Does, ends, closes, takes, Spot, run, text, took}
+use Rattle.lexer.specs.Runs.{Does, closes, takes, run, text, took}
 use Rattle.lexer.specs.Rules.{before}
 use Rattle.lexer.specs.Places.{feeds, since}
 use Rattle.lexer.specs.Tokens.{Kind, Token, next, reading, nothing, token}

@@ -1,11 +1,10 @@
 -- The tokens of an ASCII text have ASCII texts: a byte of a text is one that was read, or a backslash, LF, tab or CR.
-use mathlib.Core.Path.{_≡_, _∙_, refl, sym, ap, subst}
-use mathlib.Core.Bool.{Bool, true, false}
+use mathlib.Core.Path.{_≡_, refl, subst}
 use mathlib.Core.List.{List, [], _∷_, _++_}
-use Prim.Native.Nat.{ℕ, zero, suc, _+_, _≤_, _<_}
+use Prim.Native.Nat.{ℕ, zero, suc, _+_, _<_}
 use native.Mathlib.Numerals.{one-add}
 use native.Mathlib.Omega.{arith}
-use lib.ListN.{length, getD}
+use lib.ListN.{length}
 use lib.Dec.{eqb}
 use borrow.Author.Tests.{lt-leb}
 use Rattle.lent.specs.Gates.{firstHigh}
@@ -16,10 +15,10 @@ use Rattle.lexer.specs.declared.Class.the-variants.{Feed, Return, Gap, Upright,
 use Rattle.lexer.specs.declared.quotes.Mode.{Mode}
 use Rattle.lexer.specs.declared.quotes.Mode.the-variants.{Plain as plain, Escaped as escaped, AfterCr as afterCr, Margin as margin}
 use Rattle.lexer.specs.declared.Cursor.{Cursor}
-use Rattle.lexer.specs.Cursors.{moved, fresh}
-use Rattle.lexer.specs.Runs.{Does, ends, closes, takes, gives, Spot, run, text}
+use Rattle.lexer.specs.Cursors.{fresh}
+use Rattle.lexer.specs.Runs.{Does, ends, closes, takes, gives, run, text}
 use Rattle.lexer.specs.Rules.{before, lineEnd, word, wordBy, wordSlash, quoted, quotedPlain, quotedMargin, unescaped}
-use Rattle.lexer.specs.Tokens.{Token, Step, nothing, token, tokenBy, tokenAt, next, tokens, reading}
+use Rattle.lexer.specs.Tokens.{Token, tokenBy, tokenAt, next, tokens, reading}
 use Rattle.lexer.specs.Places.{All, nil, cons}
 use Rattle.lexer.proofs.TestLaws.{either}
 use Rattle.lexer.proofs.RunLaws.{run-passed}

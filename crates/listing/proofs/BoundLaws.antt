@@ -1,13 +1,13 @@
 -- How long a listing gets: an element takes at most 29 bytes with its comma and six for each byte of its text,
 -- and a text has no more tokens, and no longer texts, than bytes.
-use mathlib.Core.Path.{_≡_, _∙_, refl, sym, ap}
+use mathlib.Core.Path.{_≡_, refl, ap}
 use mathlib.Core.Bool.{Bool, true, false}
 use mathlib.Core.List.{List, [], _∷_, _++_}
 use Prim.Native.Nat.{ℕ, zero, suc, _+_, _*_, _/_, _%_, _≤_, _<_}
 use native.Mathlib.Omega.{arith}
 use lib.ListN.{length, take, length-append, length-take}
 use lib.Dec.{eqb, ltb}
-use borrow.Author.Tests.{lt-ltb, le-ltb, ltb-true, ltb-false}
+use borrow.Author.Tests.{lt-ltb}
 use Rattle.ascii.specs.Choice.{pick}
 use Rattle.lent.specs.Sizes.{limit}
 use Rattle.lexer.specs.declared.Kind.{Kind}
@@ -16,13 +16,13 @@ use Rattle.lexer.specs.declared.Column.{Column}
 use Rattle.lexer.specs.declared.Cursor.{Cursor}
 use Rattle.lexer.specs.Cursors.{fresh, moves}
 use Rattle.lexer.specs.Tokens.{Token, reading}
-use Rattle.lexer.specs.Places.{feeds, since, Placed, All, nil, cons, total, Stopped}
+use Rattle.lexer.specs.Places.{since, Placed, All, nil, cons, total}
 use Rattle.lexer.proofs.LoopLaws.{feeds-few}
 use Rattle.lexer.proofs.MoveLaws.{moves-line, moves-column}
 use Rattle.lexer.proofs.PlaceLaws.{all-map, places, texts-fit}
 use Rattle.lexer.proofs.StopLaws.{stops}
-use Rattle.listing.specs.Json.{onto, decimal, trail, joined, bracketed}
-use Rattle.listing.specs.Listings.{Stop, End, Early, rowOf, element, elements, stopAt, stopOf, listing}
+use Rattle.listing.specs.Json.{onto, decimal, trail, joined}
+use Rattle.listing.specs.Listings.{End, Early, rowOf, element, elements, stopAt, stopOf, listing}
 use Rattle.listing.specs.Steps.{pair, stopTail}
 use Rattle.listing.proofs.ElementLaws.{row-length, early-length, joined-stopped}
 use Rattle.listing.proofs.MadeLaws.{count-fits}

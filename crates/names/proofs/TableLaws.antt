@@ -6,7 +6,7 @@ use Prim.Native.Nat.{ℕ, zero, suc, _+_, _<_, zero-le, suc-le-suc}
 use native.Mathlib.Nat.{not-suc-le-zero, le-of-suc-le-suc, lt-irrefl, lt-of-le-of-lt, add-zero, suc-add, add-suc}
 use lib.ListN.{length, getD}
 use lib.Dec.{eqb, leb}
-use borrow.Author.Tests.{eq-eqb, eqb-true, leb-true}
+use borrow.Author.Tests.{eqb-true, leb-true}
 use Rattle.ascii.specs.Choice.{pick, and}
 use Rattle.ascii.specs.Fold.{same}
 use Rattle.names.specs.declared.Lookup.{Lookup}

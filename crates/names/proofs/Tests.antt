@@ -1,11 +1,10 @@
 -- A rule of a whole table as one computed test, and what it says at each place.
-use mathlib.Core.Path.{_≡_, refl}
+use mathlib.Core.Path.{_≡_}
 use mathlib.Core.Logic.{_⊎_, inl, inr}
-use mathlib.Core.Bool.{Bool, true, false}
+use mathlib.Core.Bool.{Bool, true}
 use Prim.Native.Nat.{ℕ, zero, suc, _<_}
 use native.Mathlib.Nat.{not-suc-le-zero, le-of-suc-le-suc, eq-or-lt-of-le}
-use native.Mathlib.Omega.{arith}
-use Rattle.ascii.proofs.SameLaws.{never, and-left, and-right}
+use Rattle.ascii.proofs.SameLaws.{and-left, and-right}
 use Rattle.ascii.specs.Choice.{and}
 
 -- the test passes at each place below n

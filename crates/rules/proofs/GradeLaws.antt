@@ -1,18 +1,18 @@
 -- The loop of `grade`: what a record does to the grade still to be given, by whether an id was passed.
-use mathlib.Core.Path.{_≡_, _∙_, refl, sym, ap}
+use mathlib.Core.Path.{_≡_, _∙_, refl, sym}
 use mathlib.Core.Bool.{Bool, true, false}
 use mathlib.Core.List.{List, []}
-use Prim.Native.Nat.{ℕ, suc, _+_, _-_, _≤_, _<_}
+use Prim.Native.Nat.{ℕ, _+_, _-_, _≤_, _<_}
 use native.Mathlib.Omega.{arith}
 use native.Mathlib.Nat.{zero-add}
 use lib.ListN.{length, drop, getD}
 use lib.Dec.{leb}
-use borrow.Author.Tests.{eq-eqb, ne-eqb, lt-leb, le-leb}
-use Rattle.ascii.specs.Choice.{pick, and}
+use borrow.Author.Tests.{eq-eqb, ne-eqb, lt-leb}
+use Rattle.ascii.specs.Choice.{and}
 use Rattle.lent.specs.Sizes.{actionWords}
 use Rattle.rules.specs.Entries.{Entry, entries, idCode}
 use Rattle.rules.specs.Grades.{fine, allFine, ids, grades}
-use Rattle.rules.proofs.EntryLaws.{entryAt, next-entry, no-entry}
+use Rattle.rules.proofs.EntryLaws.{next-entry, no-entry}
 
 -- how many ids were passed: more than one is refused at once
 abbrev pub passed : Bool → ℕ

@@ -1,12 +1,12 @@
 -- The grade says what document 01 says of it, in both directions.
-use mathlib.Core.Path.{_≡_, _∙_, refl, sym, ap, subst}
+use mathlib.Core.Path.{_≡_, refl, subst}
 use mathlib.Core.Bool.{Bool, true, false}
 use mathlib.Core.List.{List, [], _∷_}
 use mathlib.Core.Logic.{_↔_}
-use Prim.Native.Nat.{ℕ, _≤_, _<_}
+use Prim.Native.Nat.{ℕ, _≤_}
 use native.Mathlib.Omega.{arith}
 use lib.Dec.{eqb, leb}
-use borrow.Author.Tests.{eq-eqb, ne-eqb, eqb-true, eqb-false, le-leb, leb-true}
+use borrow.Author.Tests.{eqb-true, eqb-false, le-leb, leb-true}
 use Rattle.ascii.specs.Choice.{pick, and}
 use Rattle.rules.specs.Entries.{Entry, idCode, phaseCode, severityCode, maturityCode, accuracyCode}
 use Rattle.rules.specs.Grades.{between, fine, allFine, ids, grades, Every, none, more, Passes}

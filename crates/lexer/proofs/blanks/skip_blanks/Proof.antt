@@ -2,13 +2,13 @@
 use Rattle.lexer.proofs.blanks.skip_blanks.Statement.{statement}
 use Rattle.lexer.proofs.blanks.skip_blanks.Tie as tie
 use mathlib.Core.Path.{_≡_, _∙_, sym, refl}
-use Prim.Native.Nat.{_+_, _-_, _≤_, _<_}
+use Prim.Native.Nat.{_+_, _-_, _≤_}
 use native.Mathlib.Omega.{arith}
 use borrow.Author.Needs.{needs}
 use denote.Ref.{now}
 use mathlib.Core.List.{[], _∷_}
 use lib.ListN.{length, drop, getD}
-use Rattle.lexer.specs.Bytes.{Class, class, Feed, Return, Gap, Upright, Hash, Quote, Slash, Other}
+use Rattle.lexer.specs.Bytes.{class, Feed, Return, Gap, Upright, Hash, Quote, Slash, Other}
 use Rattle.lexer.specs.Cursors.{cursor}
 use Rattle.lexer.specs.Rules.{beforeBy, lineEnd}
 use Rattle.lexer.specs.Steps.{Skipped}

@@ -2,7 +2,7 @@
 use borrow.Author.Needs.{needs}
 use Rattle.lexer.proofs.moving.cursor_past.Statement.{statement}
 use Rattle.lexer.proofs.moving.cursor_past.Tie as tie
-use mathlib.Core.Path.{_≡_, _∙_, sym}
+use mathlib.Core.Path.{_∙_, sym}
 use Prim.Native.Nat.{_<_}
 use native.Mathlib.Omega.{arith}
 use denote.Ref.{now}

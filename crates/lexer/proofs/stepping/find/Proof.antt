@@ -4,11 +4,10 @@ use Rattle.lexer.proofs.stepping.find.Statement.{statement}
 use Rattle.lexer.proofs.stepping.find.Tie as tie
 use mathlib.Core.Path.{_≡_, _∙_, sym, refl, ap}
 use mathlib.Core.List.{[], _∷_}
-use native.Mathlib.Omega.{arith}
 use denote.Ref.{now}
 use lib.Seq.{length-take-le}
 use Prim.Native.Nat.{_+_}
-use Rattle.lexer.specs.Bytes.{Class, class, Return, Gap, Upright, Slash}
+use Rattle.lexer.specs.Bytes.{Class, Return, Gap, Upright, Slash}
 use Rattle.lexer.specs.Rules.{comment, word, quoted, plain}
 use Rattle.lexer.specs.Tokens.{tokenBy, nothing, wordKind}
 use lib.ListN.{getD, drop}

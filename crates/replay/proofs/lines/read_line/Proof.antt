@@ -1,7 +1,7 @@
 -- The loop keeps the buffer's length, and that what was read fits.
 use Rattle.replay.proofs.lines.read_line.Statement.{statement}
 use Rattle.replay.proofs.lines.read_line.Tie as tie
-use Prim.Native.Nat.{_≤_, _-_, _*_}
+use Prim.Native.Nat.{_≤_, _-_}
 use mathlib.Core.Path.{_≡_}
 use native.Mathlib.Omega.{arith}
 use borrow.Author.Needs.{needs}

@@ -5,7 +5,6 @@ use borrow.Author.Tests.{not-true, not-false}
 use borrow.Author.Needs.{needs}
 use Prim.Native.Nat.{_-_}
 use native.Mathlib.Omega.{arith}
-use denote.Ref.{now}
 use lib.ListN.{length}
 use Rattle.rules.proofs.GradeLaws.{Sofar, begun, unfit, second, turned-id, turned-other, ended}
 use Rattle.rules.proofs.grading.grade.Statement.{statement}

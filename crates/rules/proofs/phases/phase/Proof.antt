@@ -3,7 +3,6 @@ use borrow.Author.Needs.{needs}
 use mathlib.Core.Path.{refl}
 use Prim.Native.Nat.{_-_}
 use native.Mathlib.Omega.{arith}
-use denote.Ref.{now}
 use lib.ListN.{length}
 use Rattle.rules.proofs.PhaseLaws.{Sofar, phase-found, phase-passed, phase-none}
 use Rattle.rules.proofs.phases.phase.Statement.{statement}
