@@ -2,7 +2,6 @@ pub mod Tests
 pub mod TableLaws
 pub mod OrderLaws
 pub mod SearchLaws
-pub mod CommonLaws
 pub mod ShelfLaws
 pub mod FoldingLaws
 pub mod FlagLaws

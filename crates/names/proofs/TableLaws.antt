@@ -42,35 +42,37 @@ gave-true : (l : Lookup) (c : ℕ) → gave l c ≡ true → l ≡ Code c
 gave-true (Code c) d e = ap Code (eqb-true c d e)
 gave-true Unknown d e = absurd (never cc)
 
--- each row of a is found in b with its code
-unfoldable pub foundIn : List Row → List Row → Bool
-foundIn [] b = true
-foundIn (r ∷ a) b = and (gave (find b (r .name)) (r .code)) (foundIn a b)
+-- each row's name is answered with its code
+unfoldable pub answered : (List ℕ → Lookup) → List Row → Bool
+answered answer [] = true
+answered answer (r ∷ rows) = and (gave (answer (r .name)) (r .code)) (answered answer rows)
 
-carried : (a b : List Row) → foundIn a b ≡ true → (name : List ℕ) (c : ℕ) → find a name ≡ Code c → find b name ≡ Code c
-unfolding find foundIn
-carried [] b f name c e = absurd (never cc)
-carried (r ∷ a) b f name c e = go (same (r .name) name) refl (carried a b (and-right first rest f) name c) e
+-- then what is found among the rows is the answer
+pub carried : (answer : List ℕ → Lookup) (rows : List Row) → answered answer rows ≡ true
+    → (name : List ℕ) (c : ℕ) → find rows name ≡ Code c → answer name ≡ Code c
+unfolding find answered
+carried answer [] f name c e = absurd (never cc)
+carried answer (r ∷ rows) f name c e = go (same (r .name) name) refl (carried answer rows (and-right first rest f) name c) e
   where
     first : Bool
-    first = gave (find b (r .name)) (r .code)
+    first = gave (answer (r .name)) (r .code)
 
     rest : Bool
-    rest = foundIn a b
+    rest = answered answer rows
 
     go : (t : Bool) → same (r .name) name ≡ t
-        → (find a name ≡ Code c → find b name ≡ Code c)
-        → pick t (Code (r .code)) (find a name) ≡ Code c → find b name ≡ Code c
-    go true s q p = rw (sym (same-true (r .name) name s)) (gave-true (find b (r .name)) (r .code) (and-left first rest f) ∙ p)
+        → (find rows name ≡ Code c → answer name ≡ Code c)
+        → pick t (Code (r .code)) (find rows name) ≡ Code c → answer name ≡ Code c
+    go true s q p = rw (sym (same-true (r .name) name s)) (gave-true (answer (r .name)) (r .code) (and-left first rest f) ∙ p)
     go false s q p = q p
 
 -- two tables each of whose rows is found in the other with its code find the same for every name
-pub agree : (a b : List Row) → foundIn a b ≡ true → foundIn b a ≡ true → (name : List ℕ) → find a name ≡ find b name
+pub agree : (a b : List Row) → answered (find b) a ≡ true → answered (find a) b ≡ true → (name : List ℕ) → find a name ≡ find b name
 agree a b f g name = go (find a name) (find b name) refl refl
   where
     go : (x y : Lookup) → find a name ≡ x → find b name ≡ y → find a name ≡ find b name
-    go (Code c) y p q = p ∙ sym (carried a b f name c p)
-    go Unknown (Code c) p q = carried b a g name c q ∙ sym q
+    go (Code c) y p q = p ∙ sym (carried (find b) a f name c p)
+    go Unknown (Code c) p q = carried (find a) b g name c q ∙ sym q
     go Unknown Unknown p q = p ∙ sym q
 
 -- a name longer than all of the table's is not in it

@@ -19,7 +19,7 @@ use Rattle.names.specs.Run.{run, starts, codes}
 use Rattle.names.specs.Variables.{variables}
 use Rattle.ascii.proofs.SameLaws.{never}
 use Rattle.names.proofs.Tests.{every, at}
-use Rattle.names.proofs.TableLaws.{find-at, find-none, foundIn, agree, too-long, tabulate, tabulate-length, tabulate-at}
+use Rattle.names.proofs.TableLaws.{find-at, find-none, answered, agree, too-long, tabulate, tabulate-length, tabulate-at}
 use Rattle.names.proofs.SearchLaws.{distinct}
 
 isBefore : Order → Bool
@@ -71,12 +71,12 @@ table : List Row
 table = tabulate held 0 76
 
 -- each row of the run's table is found in VARIABLE_MAP with its code, and each of VARIABLE_MAP in the run's
-held-found : foundIn table variables ≡ true
-unfolding foundIn table tabulate held partAt run starts codes variables bytes find same
+held-found : answered (find variables) table ≡ true
+unfolding answered table tabulate held partAt run starts codes variables bytes find same
 held-found = refl
 
-map-found : foundIn variables table ≡ true
-unfolding foundIn table tabulate held partAt run starts codes variables bytes find same
+map-found : answered (find table) variables ≡ true
+unfolding answered table tabulate held partAt run starts codes variables bytes find same
 map-found = refl
 
 table-length : length table ≡ 76

@@ -93,7 +93,7 @@ const LENGTHS: [u8; 39] = [
 const NEEDS_ARGUMENT: [u8; 39] = *b"111111111111111110000111111111110111001";
 
 // A name longer than a row is turned away at once.
-fn searched_code(name: &[u8]) -> Lookup
+pub fn operator_code(name: &[u8]) -> Lookup
     ensures { λ r. ⌜ r ≡ operatorCode (now (name .entry)) ⌝ }
 {
     if 20 < name.len() {
@@ -105,31 +105,6 @@ fn searched_code(name: &[u8]) -> Lookup
     } else {
         Lookup::Unknown
     }
-}
-
-// The names that rules have most often come first, as they are written there: the search makes its rows on the stack.
-pub fn operator_code(name: &[u8]) -> Lookup
-    ensures { λ r. ⌜ r ≡ operatorCode (now (name .entry)) ⌝ }
-{
-    if ascii::is_same(name, b"rx") {
-        return Lookup::Code(0);
-    }
-    if ascii::is_same(name, b"lt") {
-        return Lookup::Code(15);
-    }
-    if ascii::is_same(name, b"eq") {
-        return Lookup::Code(11);
-    }
-    if ascii::is_same(name, b"endsWith") {
-        return Lookup::Code(8);
-    }
-    if ascii::is_same(name, b"streq") {
-        return Lookup::Code(4);
-    }
-    if ascii::is_same(name, b"ge") {
-        return Lookup::Code(14);
-    }
-    searched_code(name)
 }
 
 pub fn requires_argument(code: u64) -> bool

@@ -1,89 +1,90 @@
--- Each comparison decides one name, whose code is computed; any other name is left to `request_code`.
-use mathlib.Core.Path.{_∙_, refl, sym}
+-- The run, its starts and codes are those of the laws' ascending table; what is sought there is the folded name.
+use mathlib.Core.Path.{_∙_, sym, ap, subst}
+use mathlib.Core.List.{List}
+use Prim.Native.Nat.{ℕ}
 use borrow.Author.Needs.{needs}
 use denote.Ref.{now}
 use Rattle.ascii.specs.Text.{bytes}
-use Rattle.ascii.specs.Fold.{upper, same}
-use Rattle.names.specs.Tables.{find}
-use Rattle.names.specs.Variables.{variables, variableCode}
-use Rattle.names.proofs.CommonLaws.{told}
+use Rattle.ascii.specs.Fold.{upper, uppered}
+use Rattle.names.specs.declared.Lookup.the-variants.{Code}
+use Rattle.names.specs.Sorted.{Placed}
+use Rattle.names.specs.Run.{run, starts, codes}
+use Rattle.names.specs.Variables.{variableCode}
+use Rattle.names.proofs.FoldingLaws.{fold-length, folded-longer}
+use Rattle.names.proofs.VariableLaws.{packed, variable-found, variable-none, variable-long}
 use Rattle.names.proofs.variable_names.variable_code.Statement.{statement}
 use Rattle.names.proofs.variable_names.variable_code.Tie as tie
 
-slice-aggregate-is-same : tie.Need-slice-aggregate-is-same
-slice-aggregate-is-same c = search needs
-
-is-same-requires : tie.Need-is-same-requires
-is-same-requires c κs = search needs
-
 returns : tie.Need-returns
-unfolding variableCode find variables same bytes upper
-returns c = told variableCode (now (c .before .before .before .before .args .name)) _ 35 refl (sym (c .before .is-same .ensures) ∙ c .if1 .taken)
+unfolding variableCode
+returns c =
+    let s = c .before .before .args in
+    sym (variable-long (uppered (now (s .name))) (folded-longer upper 27 (now (s .name)) (c .if1 .taken)))
 
-slice-aggregate-is-same-2 : tie.Need-slice-aggregate-is-same-2
-slice-aggregate-is-same-2 c = search needs
+slice-aggregate-fold : tie.Need-slice-aggregate-fold
+slice-aggregate-fold c = search needs
 
-is-same-requires-2 : tie.Need-is-same-requires-2
-is-same-requires-2 c κs = search needs
+fold-requires : tie.Need-fold-requires
+fold-requires c κs = search needs
+
+slice-aggregate-place-of : tie.Need-slice-aggregate-place-of
+slice-aggregate-place-of c = search needs
+
+slice-aggregate-place-of-2 : tie.Need-slice-aggregate-place-of-2
+slice-aggregate-place-of-2 c = search needs
+
+array-share-prefix-folded : tie.Need-array-share-prefix-folded
+array-share-prefix-folded c = search needs
+
+slice-aggregate-place-of-3 : tie.Need-slice-aggregate-place-of-3
+slice-aggregate-place-of-3 c =
+    let f = c .before .before .before .before .fold in
+    fold-length upper (now (c .before .before .before .before .before .before .before .before .args .name)) (f .last .1 .1 .0) (f .ensures)
+
+place-of-requires : tie.Need-place-of-requires
+unfolding run starts bytes
+place-of-requires c κs = packed
+
+array-read-wide : tie.Need-array-read-wide
+array-read-wide c = search needs
+
+wide-requires : tie.Need-wide-requires
+wide-requires c κs = search needs
+
+-- what the search was given is the folded name
+abbrev sought : tie.After-place-of → List ℕ
+sought c = uppered (now (c .before .before .before .before .before .before .before .before .before .args .name))
+
+placed : (c : tie.After-place-of) → Placed run starts (sought c) (c .place-of .result)
+unfolding run starts bytes
+placed c =
+    subst (λ (n : List ℕ). Placed run starts n (c .place-of .result)) (c .before .before .before .before .before .fold .ensures) (c .place-of .ensures)
 
 returns-2 : tie.Need-returns-2
-unfolding variableCode find variables same bytes upper
-returns-2 c = told variableCode (now (c .before .before .before .before .before .before .before .args .name)) _ 0 refl (sym (c .before .is-same2 .ensures) ∙ c .if2 .taken)
-
-slice-aggregate-is-same-3 : tie.Need-slice-aggregate-is-same-3
-slice-aggregate-is-same-3 c = search needs
-
-is-same-requires-3 : tie.Need-is-same-requires-3
-is-same-requires-3 c κs = search needs
+unfolding variableCode codes
+returns-2 c =
+    let p = c .before .before in
+    ap Code (c .wide .ensures) ∙ sym (variable-found (sought p) (p .place-of .result) (placed p) (c .before .if2 .taken))
 
 returns-3 : tie.Need-returns-3
-unfolding variableCode find variables same bytes upper
-returns-3 c = told variableCode (now (c .before .before .before .before .before .before .before .before .before .before .args .name)) _ 79 refl (sym (c .before .is-same3 .ensures) ∙ c .if3 .taken)
-
-slice-aggregate-is-same-4 : tie.Need-slice-aggregate-is-same-4
-slice-aggregate-is-same-4 c = search needs
-
-is-same-requires-4 : tie.Need-is-same-requires-4
-is-same-requires-4 c κs = search needs
-
-returns-4 : tie.Need-returns-4
-unfolding variableCode find variables same bytes upper
-returns-4 c = told variableCode (now (c .before .before .before .before .before .before .before .before .before .before .before .before .before .args .name)) _ 3 refl (sym (c .before .is-same4 .ensures) ∙ c .if4 .taken)
-
-slice-aggregate-is-same-5 : tie.Need-slice-aggregate-is-same-5
-slice-aggregate-is-same-5 c = search needs
-
-is-same-requires-5 : tie.Need-is-same-requires-5
-is-same-requires-5 c κs = search needs
-
-returns-5 : tie.Need-returns-5
-unfolding variableCode find variables same bytes upper
-returns-5 c = told variableCode (now (c .before .before .before .before .before .before .before .before .before .before .before .before .before .before .before .before .args .name)) _ 25 refl (sym (c .before .is-same5 .ensures) ∙ c .if5 .taken)
-
-request-code-requires : tie.Need-request-code-requires
-request-code-requires c κs = search needs
-
-returns-6 : tie.Need-returns-6
-returns-6 c = search needs
+unfolding variableCode
+returns-3 c =
+    let p = c .before in
+    sym (variable-none (sought p) (p .place-of .result) (placed p) (c .if2 .left))
 
 pub variable-code-spec : {M : Type 1} → statement M
 variable-code-spec =
     tie.close
     (tie.spec
-    slice-aggregate-is-same
-    is-same-requires
     returns
-    slice-aggregate-is-same-2
-    is-same-requires-2
+    slice-aggregate-fold
+    fold-requires
+    slice-aggregate-place-of
+    slice-aggregate-place-of-2
+    array-share-prefix-folded
+    slice-aggregate-place-of-3
+    place-of-requires
+    array-read-wide
+    wide-requires
     returns-2
-    slice-aggregate-is-same-3
-    is-same-requires-3
-    returns-3
-    slice-aggregate-is-same-4
-    is-same-requires-4
-    returns-4
-    slice-aggregate-is-same-5
-    is-same-requires-5
-    returns-5
-    request-code-requires
-    returns-6)
+    returns-3)

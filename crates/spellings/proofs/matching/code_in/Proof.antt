@@ -1,0 +1,117 @@
+-- The loop keeps that what is left of the run decides the whole.
+use mathlib.Core.Path.{_≡_, _∙_, refl, sym}
+use Prim.Native.Nat.{_+_, _-_, _≤_}
+use native.Mathlib.Omega.{arith}
+use borrow.Author.Needs.{needs}
+use denote.Ref.{now}
+use lib.ListN.{length, drop, length-drop}
+use Rattle.spellings.specs.Runs.{spelled}
+use Rattle.spellings.proofs.RunLaws.{spelled-length, left, found, passed, none-left, too-short}
+use Rattle.spellings.proofs.matching.code_in.Statement.{statement}
+use Rattle.spellings.proofs.matching.code_in.Tie as tie
+
+abbrev Inv-loop : tie.InvT-loop
+Inv-loop name run codes caseless n at₀ k₀ at k =
+    (at ≤ length run) × (left (length name) run codes (spelled caseless name) at k ≡ left (length name) run codes (spelled caseless name) 0 0)
+
+abbrev μ-loop : tie.MeasureT-loop
+μ-loop name run codes caseless n at₀ k₀ at k = length codes - k
+
+loop-holds : tie.Need-loop-holds Inv-loop μ-loop
+loop-holds c = (omega arith, refl)
+
+sub-if1 : tie.Need-sub-if1 Inv-loop μ-loop
+sub-if1 c = omega arith
+
+returns : tie.Need-returns Inv-loop μ-loop
+returns c =
+    let s = c .before .before .before .before .before .before .args in
+    let l = c .before .before .loop in
+    let run = now (s .run) in
+    record {
+      first = sym (too-short (length (now (s .name))) (drop (l .at) run) (drop (l .k) (now (s .codes))) (spelled (s .caseless) (now (s .name)))
+          (omega (arith, length-drop (l .at) run)) (spelled-length (s .caseless) (now (s .name))))
+          ∙ l .inv .1;
+    }
+
+add-past : tie.Need-add-past Inv-loop μ-loop
+add-past c = omega arith
+
+sub-is-name : tie.Need-sub-is-name Inv-loop μ-loop
+sub-is-name c = omega arith
+
+part-is-name-start : tie.Need-part-is-name-start Inv-loop μ-loop
+part-is-name-start c = omega arith
+
+part-is-name-end : tie.Need-part-is-name-end Inv-loop μ-loop
+part-is-name-end c = omega arith
+
+is-name-requires : tie.Need-is-name-requires Inv-loop μ-loop
+is-name-requires c κs = search needs
+
+mul-t16 : tie.Need-mul-t16 Inv-loop μ-loop
+mul-t16 c = search needs
+
+shared-slice-read-t18 : tie.Need-shared-slice-read-t18 Inv-loop μ-loop
+shared-slice-read-t18 c = search needs
+
+returns-2 : tie.Need-returns-2 Inv-loop μ-loop
+returns-2 c =
+    let s = c .before .before .before .before .before .before .before .before .before .before .args in
+    let l = c .before .before .before .before .before .before .loop in
+    let n = length (now (s .name)) in
+    let e : l .at + n - l .at ≡ n = omega arith in
+    record {
+      first = found n (now (s .run)) (now (s .codes)) (spelled (s .caseless) (now (s .name))) (l .at) (l .k) (omega arith)
+          (rw e at (sym (c .before .before .is-name .ensures) ∙ c .before .if2 .taken))
+          ∙ l .inv .1;
+    }
+
+add-k : tie.Need-add-k Inv-loop μ-loop
+add-k c = omega arith
+
+loop-less : tie.Need-loop-less Inv-loop μ-loop
+loop-less c = omega arith
+
+loop-again : tie.Need-loop-again Inv-loop μ-loop
+loop-again c =
+    let s = c .before .before .before .before .before .before .before .before .before .args in
+    let l = c .before .before .before .before .before .loop in
+    let n = length (now (s .name)) in
+    let e : l .at + n - l .at ≡ n = omega arith in (
+      omega arith,
+      passed n (now (s .run)) (now (s .codes)) (spelled (s .caseless) (now (s .name))) (l .at) (l .k) (omega arith)
+          (rw e at (sym (c .before .is-name .ensures) ∙ c .if2 .left))
+          ∙ l .inv .1,
+    )
+
+returns-3 : tie.Need-returns-3 Inv-loop μ-loop
+returns-3 c =
+    let s = c .before .before .before .before .before .args in
+    let l = c .before .loop in
+    record {
+      first = sym (none-left (length (now (s .name))) (now (s .run)) (now (s .codes)) (spelled (s .caseless) (now (s .name))) (l .at) (l .k) (c .loop-test .left))
+          ∙ l .inv .1;
+    }
+
+pub code-in-spec : {M : Type 1} → statement M
+code-in-spec =
+    tie.close
+    (tie.spec
+    Inv-loop
+    μ-loop
+    loop-holds
+    sub-if1
+    returns
+    add-past
+    sub-is-name
+    part-is-name-start
+    part-is-name-end
+    is-name-requires
+    mul-t16
+    shared-slice-read-t18
+    returns-2
+    add-k
+    loop-less
+    loop-again
+    returns-3)
