@@ -20,7 +20,7 @@ fn parsed(s: &[u8]) -> Answer
     }
     let first = f.first;
     let past = f.past;
-    match names::operator_code(&s[first..past]) {
+    match spellings::operator_code(&s[first..past]) {
         Lookup::Code(name) => Answer::Parsed {
             negated: f.negated,
             name,
