@@ -85,7 +85,7 @@ variables =
     row "REQBODY_ERROR_MSG" 88 ∷
     row "REQBODY_PROCESSOR_ERROR" 89 ∷
     row "REQBODY_PROCESSOR_ERROR_MSG" 90 ∷
-    row "MULTIPART_STRICT_ERROR" 91 ∷  -- MultipartStrictCheck, not MultipartStrictError (78)
+    row "MULTIPART_STRICT_ERROR" 91 ∷  -- MultipartStrictCheck, not MultipartStrictError (76)
     row "MULTIPART_PART_HEADERS" 78 ∷
     []
 
