@@ -11,7 +11,7 @@ use Rattle.ascii.specs.Choice.{pick, and}
 use Rattle.ascii.specs.Fold.{same}
 use Rattle.names.specs.declared.Lookup.{Lookup}
 use Rattle.names.specs.declared.Lookup.the-variants.{Code, Unknown}
-use Rattle.names.specs.Tables.{Row, row, find, nameAt, codeAt}
+use Rattle.names.specs.Tables.{Row, row, find, gave, answered, nameAt, codeAt}
 use Rattle.ascii.proofs.SameLaws.{never, and-left, and-right, same-refl, same-true, same-false}
 use Rattle.names.proofs.Tests.{every, at}
 
@@ -33,21 +33,11 @@ find-none [] name n = refl
 find-none (t ∷ rows) name n =
     rw (same-false (t .name) name (n 0 (suc-le-suc zero-le))) (find-none rows name (λ k l. n (suc k) (suc-le-suc l)))
 
--- a lookup gave this code
-abbrev pub gave : Lookup → ℕ → Bool
-gave (Code c) d = eqb c d
-gave Unknown d = false
-
 gave-true : (l : Lookup) (c : ℕ) → gave l c ≡ true → l ≡ Code c
 gave-true (Code c) d e = ap Code (eqb-true c d e)
 gave-true Unknown d e = absurd (never cc)
 
--- each row's name is answered with its code
-unfoldable pub answered : (List ℕ → Lookup) → List Row → Bool
-answered answer [] = true
-answered answer (r ∷ rows) = and (gave (answer (r .name)) (r .code)) (answered answer rows)
-
--- then what is found among the rows is the answer
+-- where each row is answered with its code, what is found among them is the answer
 pub carried : (answer : List ℕ → Lookup) (rows : List Row) → answered answer rows ≡ true
     → (name : List ℕ) (c : ℕ) → find rows name ≡ Code c → answer name ≡ Code c
 unfolding find answered

@@ -13,13 +13,13 @@ use Rattle.ascii.specs.Fold.{same}
 use Rattle.names.specs.declared.Lookup.the-variants.{Code, Unknown}
 use Rattle.names.specs.declared.comparing.Order.{Order}
 use Rattle.names.specs.declared.comparing.Order.the-variants.{Before, Same, After}
-use Rattle.names.specs.Tables.{Row, row, find, nameAt}
+use Rattle.names.specs.Tables.{Row, row, find, answered, nameAt}
 use Rattle.names.specs.Sorted.{order, partAt, Packed, Placed}
 use Rattle.names.specs.Run.{run, starts, codes}
 use Rattle.names.specs.Variables.{variables}
 use Rattle.ascii.proofs.SameLaws.{never}
 use Rattle.names.proofs.Tests.{every, at}
-use Rattle.names.proofs.TableLaws.{find-at, find-none, answered, agree, too-long, tabulate, tabulate-length, tabulate-at}
+use Rattle.names.proofs.TableLaws.{find-at, find-none, agree, too-long, tabulate, tabulate-length, tabulate-at}
 use Rattle.names.proofs.SearchLaws.{distinct}
 
 isBefore : Order → Bool

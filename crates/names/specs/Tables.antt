@@ -4,7 +4,8 @@ use Prim.Native.String.{String}
 use mathlib.Core.Bool.{Bool, true, false}
 use mathlib.Core.List.{List, [], _∷_}
 use lib.ListN.{getD}
-use Rattle.ascii.specs.Choice.{pick}
+use lib.Dec.{eqb}
+use Rattle.ascii.specs.Choice.{pick, and}
 use Rattle.ascii.specs.Text.{bytes}
 use Rattle.ascii.specs.Fold.{lower, upper, same}
 use Rattle.names.specs.declared.Lookup.{Lookup}
@@ -21,6 +22,16 @@ row text n = record { name = bytes text; code = n }
 unfoldable pub find : List Row → List ℕ → Lookup
 find [] name = Unknown
 find (r ∷ rows) name = pick (same (r .name) name) (Code (r .code)) (find rows name)
+
+-- a lookup gave this code
+abbrev pub gave : Lookup → ℕ → Bool
+gave (Code c) d = eqb c d
+gave Unknown d = false
+
+-- each row's name is answered with its code
+unfoldable pub answered : (List ℕ → Lookup) → List Row → Bool
+answered answer [] = true
+answered answer (r ∷ rows) = and (gave (answer (r .name)) (r .code)) (answered answer rows)
 
 -- the name and the code at a place of a table
 abbrev pub nameAt : List Row → ℕ → List ℕ
