@@ -9,7 +9,7 @@ use Rattle.lent.specs.declared.gating.Gate.{Gate}
 use Rattle.lent.specs.declared.gating.Gate.the-variants.{Open, TooLong, NotAscii, Short}
 use Rattle.lent.proofs.GateLaws.{gate-row}
 use Rattle.operators.specs.Operators.{Reading, accepted, unknown, operator}
-use Rattle.operators.specs.Places.{namePlace}
+use Rattle.operators.specs.Places.{namePlace, argumentPlace}
 use Rattle.operators.specs.Promises as O
 use Rattle.operators.specs.declared.Answer.{Answer}
 use Rattle.operators.specs.declared.Answer.the-variants as Answer
@@ -19,12 +19,12 @@ use Rattle.demands.specs.Calls.{parse-operator-promise, operator-argumen
 use native.Mathlib.Omega.{arith}
 use Rattle.lent.proofs.GateLaws.{Row}
 
-reading-told : (s : List ℕ) (x : Reading) → (r : Answer) × (O.answerGiven r ≡ O.givenBy (O.outcomeOf s x))
-reading-told s (accepted x) = (Answer.Parsed (x .negated) (x .name), refl)
+reading-told : (s : List ℕ) (x : Reading) → (r : Answer) × (O.answerGiven r ≡ O.givenBy s (O.outcomeOf s x))
+reading-told s (accepted x) = (Answer.Parsed (x .negated) (x .name) (argumentPlace s) (length (x .argument)), refl)
 reading-told s (unknown name) = (Answer.Unknown (namePlace s) (length name), refl)
 
 -- no buffer is asked for, so that 3 cannot come
-gate-told : (s : List ℕ) (x : Reading) (g : Gate) → Row s 0 0 g → (r : Answer) × (O.answerGiven r ≡ O.givenBy (pastGate g (O.outcomeOf s x)))
+gate-told : (s : List ℕ) (x : Reading) (g : Gate) → Row s 0 0 g → (r : Answer) × (O.answerGiven r ≡ O.givenBy s (pastGate g (O.outcomeOf s x)))
 gate-told s x Open h = reading-told s x
 gate-told s x TooLong h = (Answer.TooLong, refl)
 gate-told s x (NotAscii p) h = (Answer.NotAscii p, refl)

@@ -74,7 +74,7 @@ pub record Equal : Type 0 where
   pub parse-update-targets : (i : Lent) (o : Left Read.Answer) → parse-update-targets-promise i o → Opened (i .input) (length (i .text)) (length (i .input))
       → Equals (Variables.updated (length (i .records)) (readAll lookedUp (Variable.pieces (i .input)))) (Variables.answerGiven (o .answer)) (i .text) (o .text) (i .records) (o .records)
   pub parse-operator : (s : List ℕ) (r : Parsed.Answer) → parse-operator-promise s r → Opened s 0 0
-      → Operators.answerGiven r ≡ Operators.givenBy (Operators.outcomeOf s (operator s))
+      → Operators.answerGiven r ≡ Operators.givenBy s (Operators.outcomeOf s (operator s))
   pub operator-argument : (s part : List ℕ) → operator-argument-promise s part → Opened s 0 0 → part ≡ Operators.argumentBy (Operators.outcomeOf s (operator s))
   -- RFC 8259: whatever bytes are read, what the listing program prints is a JSON text
   pub listing : (s : List ℕ) → JsonText (printed s)

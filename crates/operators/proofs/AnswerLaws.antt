@@ -3,12 +3,16 @@ use mathlib.Core.Path.{_≡_, _∙_, refl, sym, ap}
 use mathlib.Core.Bool.{Bool, true, false}
 use mathlib.Core.List.{List, [], _∷_}
 use mathlib.Core.Logic.{⊎-elim}
-use Prim.Native.Nat.{ℕ}
+use Prim.Native.Nat.{ℕ, _+_, _-_, _≤_}
 use native.Mathlib.Omega.{arith}
+use lib.ListN.{length, take, drop, getD}
 use types.Run.{OneOf}
 use denote.Enum.Declared.{tagOf}
+use Rattle.ascii.specs.Choice.{bit}
+use Rattle.ascii.specs.Classes.{white}
+use Rattle.ascii.proofs.TrimLaws.{ends-fit}
 use Rattle.lent.specs.Gates.{gateOf}
-use Rattle.lent.specs.Table.{Given, Outcome, refuses, reads, pastGate}
+use Rattle.lent.specs.Table.{Given, given, Outcome, refuses, reads, pastGate}
 use Rattle.lent.specs.declared.gating.Gate.{Gate}
 use Rattle.lent.specs.declared.gating.Gate.the-variants as Gate
 use Rattle.lent.proofs.gating.Gate as gates
@@ -17,12 +21,12 @@ use Rattle.names.specs.Operators.{operatorCode}
 use Rattle.names.specs.declared.Lookup.{Lookup}
 use Rattle.names.specs.declared.Lookup.the-variants as Lookup
 use Rattle.operators.specs.Operators.{Spec, Reading, nameOf, operator}
-use Rattle.operators.specs.Places.{afterAt, isNamed}
+use Rattle.operators.specs.Places.{afterAt, isNamed, argumentPlace}
 use Rattle.operators.specs.Promises.{answerGiven, outcomeOf, operatorOutcome, givenBy, argumentBy, ParseOperator, OperatorArgument}
 use Rattle.operators.specs.declared.Answer.{Answer}
 use Rattle.operators.specs.declared.Answer.the-variants as Answer
 use Rattle.operators.proofs.Answer.{the-type}
-use Rattle.operators.proofs.PlaceLaws.{argumentText}
+use Rattle.operators.proofs.PlaceLaws.{argumentText, argument-ends, argument-at}
 use Rattle.operators.proofs.FoundLaws.{plain, known, missed}
 
 -- ---- parse_operator
@@ -43,7 +47,7 @@ module _ (s : List ℕ) where
 
   -- the arm of Open and Short
   pub answer-open : (g : Gate) → g ≡ gateOf s 0 0 → OneOf (0 ∷ 3 ∷ []) (tagOf gates.the-type g)
-      → (r : Answer) → answerGiven r ≡ givenBy (outcomeOf s (operator s)) → ParseOperator s r
+      → (r : Answer) → answerGiven r ≡ givenBy s (outcomeOf s (operator s)) → ParseOperator s r
   unfolding operatorOutcome
   answer-open Gate.Open e k r a = record { answer = rw (sym e) a }
   answer-open Gate.TooLong e k r a = absurd (⊎-elim (λ z. omega arith) (λ z. omega arith) k)
@@ -55,54 +59,73 @@ module _ (s : List ℕ) where
 abbrev number : Given → ℕ
 number g = g .number
 
--- the arms of the answer
-parsed-number : (r : Answer) → tagOf the-type r ≡ 0 → answerGiven r .number ≡ 0
-parsed-number (Answer.Parsed negated name) k = refl
-parsed-number Answer.TooLong k = absurd (omega arith)
-parsed-number (Answer.NotAscii p) k = absurd (omega arith)
-parsed-number (Answer.Unknown p l) k = absurd (omega arith)
+abbrev value : ℕ → Given → ℕ
+value i g = getD (g .values) i 0
 
 other-number : (r : Answer) → OneOf (1 ∷ 2 ∷ 3 ∷ []) (tagOf the-type r) → answerGiven r .number ≡ 0 → ⊥
-other-number (Answer.Parsed negated name) k z = ⊎-elim (λ z. omega arith) (λ k. ⊎-elim (λ z. omega arith) (λ z. omega arith) k) k
+other-number (Answer.Parsed negated name place len) k z = ⊎-elim (λ z. omega arith) (λ k. ⊎-elim (λ z. omega arith) (λ z. omega arith) k) k
 other-number Answer.TooLong k z = omega arith
 other-number (Answer.NotAscii p) k z = omega arith
 other-number (Answer.Unknown p l) k z = omega arith
 
--- what is not read has the empty argument
-refused-argument : (o : Outcome Spec) → (givenBy o .number ≡ 0 → ⊥) → argumentBy o ≡ []
-refused-argument (refuses f) h = refl
-refused-argument (reads x) h = absurd (h refl)
+-- a call that reads has the argument of the places
+pub record Argued (s : List ℕ) (o : Outcome Spec) : Type 0 where
+  pub found : Spec
+  pub is-read : o ≡ reads found
+  pub text-is : found .argument ≡ argumentText s (isNamed s)
 
 module _ (s : List ℕ) where
-  -- an operator that is read has the argument of the places
-  accepted-argument : givenBy (outcomeOf s (operator s)) .number ≡ 0 → argumentBy (outcomeOf s (operator s)) ≡ argumentText s (isNamed s)
-  accepted-argument z = go (isNamed s) refl
+  -- what is not read has the empty argument
+  refused-argument : (o : Outcome Spec) → (givenBy s o .number ≡ 0 → ⊥) → argumentBy o ≡ []
+  refused-argument (refuses f) h = refl
+  refused-argument (reads x) h = absurd (h refl)
+
+  accepted-argued : givenBy s (outcomeOf s (operator s)) .number ≡ 0 → Argued s (outcomeOf s (operator s))
+  accepted-argued z = go (isNamed s) refl
     where
-      look : isNamed s ≡ true → (l : Lookup) → operatorCode (nameOf (afterAt s)) ≡ l
-          → argumentBy (outcomeOf s (operator s)) ≡ argumentText s true
-      look h (Lookup.Code code) f = ap (λ (x : Reading). argumentBy (outcomeOf s x)) (known s h code f)
+      look : isNamed s ≡ true → (l : Lookup) → operatorCode (nameOf (afterAt s)) ≡ l → Argued s (outcomeOf s (operator s))
+      look h (Lookup.Code code) f =
+          record { found = _; is-read = ap (outcomeOf s) (known s h code f); text-is = sym (ap (argumentText s) h) }
       look h Lookup.Unknown f =
-          let y = sym (ap (λ (x : Reading). givenBy (outcomeOf s x) .number) (missed s h f)) ∙ z in
+          let y = sym (ap (λ (x : Reading). givenBy s (outcomeOf s x) .number) (missed s h f)) ∙ z in
           absurd (omega arith)
 
-      go : (b : Bool) → isNamed s ≡ b → argumentBy (outcomeOf s (operator s)) ≡ argumentText s b
+      go : (b : Bool) → isNamed s ≡ b → Argued s (outcomeOf s (operator s))
       go true h = look h (operatorCode (nameOf (afterAt s))) refl
-      go false h = ap (λ (x : Reading). argumentBy (outcomeOf s x)) (plain s h)
+      go false h = record { found = _; is-read = ap (outcomeOf s) (plain s h); text-is = sym (ap (argumentText s) h) }
 
-  -- and so has the whole call, past the gate
-  pub gate-argument : (g : Gate) → givenBy (pastGate g (outcomeOf s (operator s))) .number ≡ 0
-      → argumentBy (pastGate g (outcomeOf s (operator s))) ≡ argumentText s (isNamed s)
-  gate-argument Gate.Open z = accepted-argument z
-  gate-argument Gate.TooLong z = absurd (omega arith)
-  gate-argument (Gate.NotAscii p) z = absurd (omega arith)
-  gate-argument Gate.Short z = absurd (omega arith)
-
-  pub argument-read : (r : Answer) → ParseOperator s r → tagOf the-type r ≡ 0
-      → (part : List ℕ) → part ≡ argumentText s (isNamed s) → OperatorArgument s part
-  unfolding operatorOutcome
-  argument-read r p k part e =
-      record { argument = e ∙ sym (gate-argument (gateOf s 0 0) (sym (ap number (p .answer)) ∙ parsed-number r k)) }
+  pub gate-argued : (g : Gate) → givenBy s (pastGate g (outcomeOf s (operator s))) .number ≡ 0 → Argued s (pastGate g (outcomeOf s (operator s)))
+  gate-argued Gate.Open z = accepted-argued z
+  gate-argued Gate.TooLong z = absurd (omega arith)
+  gate-argued (Gate.NotAscii p) z = absurd (omega arith)
+  gate-argued Gate.Short z = absurd (omega arith)
 
   pub argument-refused : (r : Answer) → ParseOperator s r → OneOf (1 ∷ 2 ∷ 3 ∷ []) (tagOf the-type r) → OperatorArgument s []
   argument-refused r p k =
       record { argument = sym (refused-argument (operatorOutcome s) (λ z. other-number r k (ap number (p .answer) ∙ z))) }
+
+-- the arm of an operator that is read
+module _ (s : List ℕ) (r : Answer) (x : ParseOperator s r) {negated : Bool} {name place len : ℕ} (e : r ≡ Answer.Parsed negated name place len) where
+  told : given 0 (bit negated ∷ name ∷ place ∷ len ∷ []) ≡ givenBy s (operatorOutcome s)
+  told = sym (ap answerGiven e) ∙ x .answer
+
+  argued : Argued s (operatorOutcome s)
+  unfolding operatorOutcome
+  argued = gate-argued s (gateOf s 0 0) (sym (ap number told))
+
+  row : given 0 (bit negated ∷ name ∷ place ∷ len ∷ []) ≡ givenBy s (reads (argued .found))
+  row = told ∙ ap (givenBy s) (argued .is-read)
+
+  place-is : place ≡ argumentPlace s
+  place-is = ap (value 2) row
+
+  len-is : len ≡ length (argumentText s (isNamed s))
+  len-is = ap (value 3) row ∙ ap length (argued .text-is)
+
+  pub argument-in : place + len ≤ length s
+  argument-in = omega (arith, place-is, len-is, argument-ends s, ends-fit white s)
+
+  pub argument-read : (end : ℕ) → end ≡ place + len → OperatorArgument s (take (end - place) (drop place s))
+  argument-read end f =
+      let n : end - place ≡ length (argumentText s (isNamed s)) = omega (arith, len-is) in
+      record { argument = rw (n, place-is) (argument-at s) ∙ sym (ap argumentBy (argued .is-read) ∙ argued .text-is) }

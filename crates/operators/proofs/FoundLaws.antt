@@ -1,4 +1,4 @@
--- What the places found say of the operator: the part lent for the name, the answer by its lookup, and the argument's part.
+-- What the places found say of the operator: the part lent for the name, and the answer by its lookup, with the argument's place and length.
 use mathlib.Core.Path.{_≡_, _∙_, sym, ap}
 use mathlib.Core.Bool.{Bool, true, false}
 use mathlib.Core.List.{List, [], _∷_}
@@ -18,7 +18,7 @@ use Rattle.operators.specs.Places.{textEnd, bodyPlace, afterAt, namePlac
 use Rattle.operators.specs.Promises.{answerGiven, outcomeOf, givenBy}
 use Rattle.operators.specs.declared.finding.Found.{Found}
 use Rattle.operators.specs.declared.Answer.the-variants as Answer
-use Rattle.operators.proofs.PlaceLaws.{past-fits, name-stands, argumentText, argument-stands, argument-fits}
+use Rattle.operators.proofs.PlaceLaws.{past-fits, name-stands, argumentText, argument-fits, argument-ends}
 
 -- ---- the operator, by what is written
 
@@ -38,6 +38,9 @@ module _ (s : List ℕ) where
 
 -- ---- by the places found
 
+rows : {f g k a b l m : ℕ} → f ≡ g → a ≡ b → l ≡ m → given 0 (f ∷ k ∷ a ∷ l ∷ []) ≡ given 0 (g ∷ k ∷ b ∷ m ∷ [])
+rows d e f = rw (d, e, f)
+
 module _ (s : List ℕ) (f : Found) (e : f ≡ foundOf s) where
   found-negated : f .negated ≡ starts 33 (trimEnds s)
   unfolding foundOf
@@ -54,6 +57,21 @@ module _ (s : List ℕ) (f : Found) (e : f ≡ foundOf s) where
   found-end : f .end ≡ textEnd s
   unfolding foundOf
   found-end = ap (λ (f : Found). f .end) e
+
+  pub argument-ordered : f .argument ≤ f .end
+  argument-ordered = omega (arith, found-argument, found-end, argument-fits s)
+
+  found-length : f .end - f .argument ≡ length (argumentText s (isNamed s))
+  found-length = omega (arith, found-argument, found-end, argument-ends s)
+
+  -- the operator that is read, by its code and argument
+  abbrev read : ℕ → List ℕ → Reading
+  read code argument = spec (starts 33 (trimEnds s)) code argument
+
+  answer-read : (code : ℕ) → operator s ≡ read code (argumentText s (isNamed s))
+      → answerGiven (Answer.Parsed (f .negated) code (f .argument) (f .end - f .argument)) ≡ givenBy s (outcomeOf s (operator s))
+  answer-read code o =
+      rows (ap bit found-negated) found-argument found-length ∙ sym (ap (λ (x : Reading). givenBy s (outcomeOf s x)) o)
 
   module _ (h : f .named ≡ true) where
     is-named : isNamed s ≡ true
@@ -80,33 +98,21 @@ module _ (s : List ℕ) (f : Found) (e : f ≡ foundOf s) where
         ap (λ (k : ℕ). take k (drop (f .first) s)) n ∙ ap (λ (k : ℕ). take (nameLength (afterAt s)) (drop k s)) found-first ∙ name-stands s
 
     pub answer-known : (code : ℕ) → operatorCode (take (f .past - f .first) (drop (f .first) s)) ≡ Lookup.Code code
-        → answerGiven (Answer.Parsed (f .negated) code) ≡ givenBy (outcomeOf s (operator s))
+        → answerGiven (Answer.Parsed (f .negated) code (f .argument) (f .end - f .argument)) ≡ givenBy s (outcomeOf s (operator s))
     answer-known code l =
-        ap (λ (b : Bool). given 0 (bit b ∷ code ∷ [])) found-negated
-        ∙ sym (ap (λ (x : Reading). givenBy (outcomeOf s x)) (known s is-named code (sym (ap operatorCode name-text) ∙ l)))
+        answer-read code (known s is-named code (sym (ap operatorCode name-text) ∙ l) ∙ sym (ap (λ (b : Bool). read code (argumentText s b)) is-named))
 
     pub answer-unknown : operatorCode (take (f .past - f .first) (drop (f .first) s)) ≡ Lookup.Unknown
-        → answerGiven (Answer.Unknown (f .first) (f .past - f .first)) ≡ givenBy (outcomeOf s (operator s))
+        → answerGiven (Answer.Unknown (f .first) (f .past - f .first)) ≡ givenBy s (outcomeOf s (operator s))
     answer-unknown l =
         let n : f .past - f .first ≡ length (nameOf (afterAt s)) =
         omega (arith, found-first, found-past, length-take-le (nameLength (afterAt s)) (afterAt s) (leading-fits inName (afterAt s))) in
         ap (λ (p : ℕ). refused (unknownOperator p (f .past - f .first))) found-first
         ∙ ap (λ (k : ℕ). refused (unknownOperator (namePlace s) k)) n
-        ∙ sym (ap (λ (x : Reading). givenBy (outcomeOf s x)) (missed s is-named (sym (ap operatorCode name-text) ∙ l)))
+        ∙ sym (ap (λ (x : Reading). givenBy s (outcomeOf s x)) (missed s is-named (sym (ap operatorCode name-text) ∙ l)))
 
-  pub answer-plain : f .named ≡ false → answerGiven (Answer.Parsed (f .negated) 0) ≡ givenBy (outcomeOf s (operator s))
+  pub answer-plain : f .named ≡ false
+      → answerGiven (Answer.Parsed (f .negated) 0 (f .argument) (f .end - f .argument)) ≡ givenBy s (outcomeOf s (operator s))
   answer-plain h =
-      ap (λ (b : Bool). given 0 (bit b ∷ 0 ∷ [])) found-negated
-      ∙ sym (ap (λ (x : Reading). givenBy (outcomeOf s x)) (plain s (sym found-named ∙ h)))
-
-  pub argument-ordered : f .argument ≤ f .end
-  argument-ordered = omega (arith, found-argument, found-end, argument-fits s)
-
-  pub argument-within : f .end ≤ length s
-  argument-within = omega (arith, found-end, ends-fit white s)
-
-  -- the part handed back
-  pub argument-text : take (f .end - f .argument) (drop (f .argument) s) ≡ argumentText s (isNamed s)
-  argument-text =
-      ap (λ (k : ℕ). take (k - f .argument) (drop (f .argument) s)) found-end
-      ∙ ap (λ (k : ℕ). take (textEnd s - k) (drop k s)) found-argument ∙ argument-stands s
+      let e = sym found-named ∙ h in
+      answer-read 0 (plain s e ∙ sym (ap (λ (b : Bool). read 0 (argumentText s b)) e))

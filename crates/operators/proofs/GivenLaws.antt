@@ -15,14 +15,14 @@ use Rattle.operators.specs.declared.Answer.the-variants as Answer
 answerFrom : Given → Answer
 answerFrom g =
     let v : ℕ → ℕ = λ i. getD (g .values) i 0 in
-    pick (eqb (g .number) 0) (Answer.Parsed (eqb (v 0) 1) (v 1))
+    pick (eqb (g .number) 0) (Answer.Parsed (eqb (v 0) 1) (v 1) (v 2) (v 3))
     (pick (eqb (g .number) 1) Answer.TooLong
     (pick (eqb (g .number) 2) (Answer.NotAscii (v 0))
     (Answer.Unknown (v 0) (v 1))))
 
 answer-back : (r : Answer) → answerFrom (answerGiven r) ≡ r
 unfolding answerFrom
-answer-back (Answer.Parsed negated name) = rw (bit-back negated)
+answer-back (Answer.Parsed negated name place len) = rw (bit-back negated)
 answer-back Answer.TooLong = refl
 answer-back (Answer.NotAscii place) = refl
 answer-back (Answer.Unknown place len) = refl

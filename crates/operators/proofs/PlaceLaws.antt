@@ -7,11 +7,11 @@ use Prim.Native.Nat.{ℕ, zero, suc, _+_, _-_, _≤_}
 use native.Mathlib.Numerals.{unary-clauses}
 use native.Mathlib.Omega.{arith}
 use lib.ListN.{length, drop, take, length-drop}
-use lib.Seq.{drop-drop, take-take, take-nil}
+use lib.Seq.{drop-drop, take-take, take-nil, length-take-le}
 use Rattle.ascii.specs.Choice.{pick}
 use Rattle.ascii.specs.Classes.{white}
 use Rattle.ascii.specs.Trim.{trimStart, trimEnds, leadingWhite}
-use Rattle.ascii.proofs.TrimLaws.{leading-fits, start-is, ends-are}
+use Rattle.ascii.proofs.TrimLaws.{leading-fits, start-is, ends-are, ends-fit}
 use Rattle.operators.specs.Operators.{starts, nameLength, nameOf, afterName, unsigned, inName}
 use Rattle.operators.specs.Places.{signWidth, textEnd, bodyPlace, afterAt, namePlace, namePast, isNamed, argumentPlace}
 use Rattle.operators.proofs.NameLaws.{starts-some}
@@ -109,3 +109,21 @@ module _ (s : List ℕ) where
       go true e =
           let k = signWidth (trimEnds s) + 1 + nameLength (afterAt s) in
           omega (arith, past-fits e, leading-fits white (afterName (afterAt s)), ap length tail-is, length-drop k (trimEnds s))
+
+  -- the argument ends where the trimmed text does
+  pub argument-ends : argumentPlace s + length (argumentText (isNamed s)) ≡ textEnd s
+  argument-ends =
+      omega (
+        arith,
+        ap length argument-stands,
+        argument-fits,
+        ends-fit white s,
+        length-drop (argumentPlace s) s,
+        length-take-le (textEnd s - argumentPlace s) (drop (argumentPlace s) s) (omega (arith, ends-fit white s, length-drop (argumentPlace s) s)),
+      )
+
+  -- so that its place and its own length cut it out
+  pub argument-at : take (length (argumentText (isNamed s))) (drop (argumentPlace s) s) ≡ argumentText (isNamed s)
+  argument-at =
+      let n : length (argumentText (isNamed s)) ≡ textEnd s - argumentPlace s = omega (arith, argument-ends) in
+      ap (λ (k : ℕ). take k (drop (argumentPlace s) s)) n ∙ argument-stands

@@ -4,7 +4,7 @@ use mathlib.Core.Path.{_≡_, _∙_, refl, sym, ap, subst}
 use mathlib.Core.Bool.{Bool, true, false}
 use mathlib.Core.List.{List, [], _∷_}
 use mathlib.Core.Logic.{_↔_, _⊎_, inl, inr}
-use Prim.Native.Nat.{ℕ, zero, suc, _-_, _≤_, _<_}
+use Prim.Native.Nat.{ℕ, _≤_, _<_}
 use native.Mathlib.Omega.{arith}
 use lib.ListN.{length, take, drop}
 use lib.Seq.{length-take-le}
@@ -22,14 +22,14 @@ use Rattle.names.specs.declared.Lookup.{Lookup}
 use Rattle.names.specs.declared.Lookup.the-variants as Lookup
 use Rattle.ascii.proofs.TrimLaws.{leading-fits}
 use Rattle.operators.specs.Operators.{Spec, Reading, accepted, unknown, starts, nameLength, nameOf, afterName, unsigned, operator, inName}
-use Rattle.operators.specs.Places.{afterAt, namePlace, isNamed, argumentPlace, textEnd}
+use Rattle.operators.specs.Places.{afterAt, namePlace, isNamed, argumentPlace}
 use Rattle.operators.specs.Promises.{answerGiven, outcomeOf, operatorOutcome, givenBy, argumentBy, partPlace, ParseOperator, OperatorArgument}
 use Rattle.operators.specs.Calls.{Missing, Meant, unwritten, written}
 use Rattle.operators.specs.declared.Answer.{Answer}
 use Rattle.operators.specs.declared.Answer.the-variants as Answer
-use Rattle.operators.proofs.PlaceLaws.{name-stands, argumentText, argument-stands}
+use Rattle.operators.proofs.PlaceLaws.{name-stands, argument-at}
 use Rattle.operators.proofs.FoundLaws.{plain, known, missed}
-use Rattle.operators.proofs.AnswerLaws.{gate-argument}
+use Rattle.operators.proofs.AnswerLaws.{Argued, gate-argued}
 use Rattle.operators.proofs.GivenLaws.{answer-told}
 
 -- ---- past the gate
@@ -96,13 +96,13 @@ module _ (s : List ℕ) where
 
 -- ---- parse_operator
 
-given-number : (o : Outcome Spec) → givenBy o .number ≡ numberOf o
-given-number (refuses f) = refl
-given-number (reads x) = refl
+given-number : (s : List ℕ) (o : Outcome Spec) → givenBy s o .number ≡ numberOf o
+given-number s (refuses f) = refl
+given-number s (reads x) = refl
 
 -- No number but 0, 1, 2 and 8.
 pub parse-operator-numbers : (r : Answer) → (answerGiven r .number ≡ 0) ⊎ ((answerGiven r .number ≡ 1) ⊎ ((answerGiven r .number ≡ 2) ⊎ (answerGiven r .number ≡ 8)))
-parse-operator-numbers (Answer.Parsed negated name) = inl refl
+parse-operator-numbers (Answer.Parsed negated name place len) = inl refl
 parse-operator-numbers Answer.TooLong = inr (inl refl)
 parse-operator-numbers (Answer.NotAscii place) = inr (inr (inl refl))
 parse-operator-numbers (Answer.Unknown place len) = inr (inr (inr refl))
@@ -110,7 +110,7 @@ parse-operator-numbers (Answer.Unknown place len) = inr (inr (inr refl))
 module _ {s : List ℕ} {r : Answer} (x : ParseOperator s r) where
   number-is : answerGiven r .number ≡ numberOf (pastGate (gateOf s 0 0) (past s))
   unfolding operatorOutcome
-  number-is = ap (λ (g : Given). g .number) (x .answer) ∙ given-number (operatorOutcome s)
+  number-is = ap (λ (g : Given). g .number) (x .answer) ∙ given-number s (operatorOutcome s)
 
   -- Number 1: the input is over the limit.
   pub parse-operator-1 : (answerGiven r .number ≡ 1) ↔ (limit < length s)
@@ -133,9 +133,9 @@ module _ {s : List ℕ} {r : Answer} (x : ParseOperator s r) where
       rw number-is (λ e. (n .0 e .0, meant-is s .0 (n .0 e .1)), λ p. n .1 (p .0, meant-is s .1 (p .1)))
 
   -- what is given back, by the gate's answer
-  by-gate : (g : Gate) → Row s 0 0 g → answerGiven r ≡ givenBy (pastGate g (past s))
+  by-gate : (g : Gate) → Row s 0 0 g → answerGiven r ≡ givenBy s (pastGate g (past s))
   unfolding operatorOutcome
-  by-gate g h = x .answer ∙ ap givenBy (past-row s 0 0 (past s) g h)
+  by-gate g h = x .answer ∙ ap (givenBy s) (past-row s 0 0 (past s) g h)
 
   -- Each answer in full.
   pub parse-operator-long : limit < length s → r ≡ Answer.TooLong
@@ -147,36 +147,25 @@ module _ {s : List ℕ} {r : Answer} (x : ParseOperator s r) where
   pub parse-operator-unknown : Opened s 0 0 → Missing s → r ≡ Answer.Unknown (namePlace s) (length (nameOf (afterAt s)))
   parse-operator-unknown o m =
       answer-told r (Answer.Unknown (namePlace s) (length (nameOf (afterAt s))))
-      (by-gate Gate.Open o ∙ ap (λ (y : Reading). givenBy (outcomeOf s y)) (operator-missing s m))
+      (by-gate Gate.Open o ∙ ap (λ (y : Reading). givenBy s (outcomeOf s y)) (operator-missing s m))
 
-  pub parse-operator-reads : Opened s 0 0 → (m : Meant s) → r ≡ Answer.Parsed (meaning s m .negated) (meaning s m .name)
+  pub parse-operator-reads : Opened s 0 0 → (m : Meant s) → r ≡ Answer.Parsed (meaning s m .negated) (meaning s m .name) (argumentPlace s) (length (meaning s m .argument))
   parse-operator-reads o m =
-      answer-told r (Answer.Parsed (meaning s m .negated) (meaning s m .name))
-      (by-gate Gate.Open o ∙ ap (λ (y : Reading). givenBy (outcomeOf s y)) (operator-meant s m))
+      answer-told r (Answer.Parsed (meaning s m .negated) (meaning s m .name) (argumentPlace s) (length (meaning s m .argument)))
+      (by-gate Gate.Open o ∙ ap (λ (y : Reading). givenBy s (outcomeOf s y)) (operator-meant s m))
 
 -- ---- operator_argument
-
--- what was cut out of a list is as long as it is
-own-length : (n : ℕ) (l : List ℕ) → take (length (take n l)) l ≡ take n l
-own-length zero [] = refl
-own-length zero (x ∷ l) = refl
-own-length (suc n) [] = refl
-own-length (suc n) (x ∷ l) = ap (λ (r : List ℕ). x ∷ r) (own-length n l)
 
 front : (l : List ℕ) → take 0 l ≡ []
 front [] = refl
 front (x ∷ l) = refl
 
 module _ (s : List ℕ) where
-  text-stands : take (length (argumentText s (isNamed s))) (drop (argumentPlace s) s) ≡ argumentText s (isNamed s)
-  text-stands =
-      subst (λ (t : List ℕ). take (length t) (drop (argumentPlace s) s) ≡ t) (argument-stands s)
-      (own-length (textEnd s - argumentPlace s) (drop (argumentPlace s) s))
-
-  part-stands : (o : Outcome Spec) → (givenBy o .number ≡ 0 → argumentBy o ≡ argumentText s (isNamed s))
-      → take (length (argumentBy o)) (drop (partPlace s o) s) ≡ argumentBy o
+  part-stands : (o : Outcome Spec) → (givenBy s o .number ≡ 0 → Argued s o) → take (length (argumentBy o)) (drop (partPlace s o) s) ≡ argumentBy o
   part-stands (refuses f) h = front s
-  part-stands (reads x) h = subst (λ (t : List ℕ). take (length t) (drop (argumentPlace s) s) ≡ t) (sym (h refl)) text-stands
+  part-stands (reads x) h =
+      let a = h refl in
+      subst (λ (t : List ℕ). take (length t) (drop (argumentPlace s) s) ≡ t) (sym (ap argumentBy (a .is-read) ∙ a .text-is)) (argument-at s)
 
 module _ {s part : List ℕ} (x : OperatorArgument s part) where
   argument-by : (g : Gate) → Row s 0 0 g → part ≡ argumentBy (pastGate g (past s))
@@ -188,7 +177,7 @@ module _ {s part : List ℕ} (x : OperatorArgument s part) where
   unfolding operatorOutcome
   operator-argument-part =
       subst (λ (t : List ℕ). take (length t) (drop (partPlace s (pastGate (gateOf s 0 0) (past s))) s) ≡ t) (sym (x .argument))
-      (part-stands s (pastGate (gateOf s 0 0) (past s)) (gate-argument s (gateOf s 0 0)))
+      (part-stands s (pastGate (gateOf s 0 0) (past s)) (gate-argued s (gateOf s 0 0)))
 
   -- Empty on every refusal, and else the operator's own.
   pub operator-argument-long : limit < length s → part ≡ []

@@ -11,9 +11,9 @@ use Rattle.operators.specs.Places.{namePlace, argumentPlace}
 use Rattle.operators.specs.declared.Answer.{Answer}
 use Rattle.operators.specs.declared.Answer.the-variants as Answer
 
--- The paper's number and values for each answer: with 0, whether it is negated and the name's code.
+-- The paper's number and values for each answer: with 0, whether it is negated, the name's code, and the argument's place in the input and its length.
 abbrev pub answerGiven : Answer → Given
-answerGiven (Answer.Parsed negated name) = given 0 (bit negated ∷ name ∷ [])
+answerGiven (Answer.Parsed negated name place len) = given 0 (bit negated ∷ name ∷ place ∷ len ∷ [])
 answerGiven Answer.TooLong = refused tooLong
 answerGiven (Answer.NotAscii place) = refused (notAscii place)
 answerGiven (Answer.Unknown place len) = refused (unknownOperator place len)
@@ -27,9 +27,9 @@ outcomeOf s (unknown name) = refuses (unknownOperator (namePlace s) (length name
 unfoldable pub operatorOutcome : List ℕ → Outcome Spec
 operatorOutcome s = pastGate (gateOf s 0 0) (outcomeOf s (operator s))
 
-abbrev pub givenBy : Outcome Spec → Given
-givenBy (refuses f) = refused f
-givenBy (reads x) = given 0 (bit (x .negated) ∷ x .name ∷ [])
+abbrev pub givenBy : List ℕ → Outcome Spec → Given
+givenBy s (refuses f) = refused f
+givenBy s (reads x) = given 0 (bit (x .negated) ∷ x .name ∷ argumentPlace s ∷ length (x .argument) ∷ [])
 
 -- The argument handed back: on any refusal the empty one.
 abbrev pub argumentBy : Outcome Spec → List ℕ
@@ -42,7 +42,7 @@ partPlace s (refuses f) = 0
 partPlace s (reads x) = argumentPlace s
 
 pub record ParseOperator (s : List ℕ) (r : Answer) : Type 0 where
-  pub answer : answerGiven r ≡ givenBy (operatorOutcome s)
+  pub answer : answerGiven r ≡ givenBy s (operatorOutcome s)
 
 pub record OperatorArgument (s part : List ℕ) : Type 0 where
   pub argument : part ≡ argumentBy (operatorOutcome s)

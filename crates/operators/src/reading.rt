@@ -9,13 +9,17 @@ use names::Lookup;
 
 // The operator of an input that passed the gate.
 fn parsed(s: &[u8]) -> Answer
-    ensures { λ r. ⌜ answerGiven r ≡ givenBy (outcomeOf (now (s .entry)) (operator (now (s .entry)))) ⌝ }
+    ensures { λ r. ⌜ answerGiven r ≡ givenBy (now (s .entry)) (outcomeOf (now (s .entry)) (operator (now (s .entry)))) ⌝ }
 {
     let f = find(s);
+    let place = f.argument;
+    let len = f.end - place;
     if !f.named {
         return Answer::Parsed {
             negated: f.negated,
             name: 0,
+            place,
+            len,
         };
     }
     let first = f.first;
@@ -24,6 +28,8 @@ fn parsed(s: &[u8]) -> Answer
         Lookup::Code(name) => Answer::Parsed {
             negated: f.negated,
             name,
+            place,
+            len,
         },
         Lookup::Unknown => Answer::Unknown {
             place: first,
@@ -52,11 +58,11 @@ pub fn operator_argument(input: &[u8]) -> &[u8]
         Answer::Parsed {
             negated: _,
             name: _,
+            place,
+            len,
         } => {
-            let f = find(input);
-            let argument = f.argument;
-            let end = f.end;
-            &input[argument..end]
+            let end = place + len;
+            &input[place..end]
         }
         _ => &input[..0],
     }

@@ -6,7 +6,12 @@ use operators::Answer;
 
 pub fn print_operator(input: &[u8]) {
     match operators::parse_operator(input) {
-        Answer::Parsed { negated, name } => {
+        Answer::Parsed {
+            negated,
+            name,
+            place: _,
+            len: _,
+        } => {
             let argument = operators::operator_argument(input);
             print_number(0);
             print_number(if negated { 1 } else { 0 });

@@ -1,2 +1,1 @@
 pub mod ToldLaws
-pub mod OperatorLaws

@@ -2,19 +2,14 @@
 use mathlib.Core.Path.{_≡_}
 use Prim.Native.Nat.{ℕ}
 use mathlib.Core.Bool.{Bool}
-use mathlib.Core.List.{List, [], _∷_, _++_}
+use mathlib.Core.List.{List}
 use lib.ListN.{length}
-use lib.Dec.{eqb}
 use Rattle.ascii.specs.Choice.{pick}
-use Rattle.lent.specs.Table.{Given, given, Outcome, Filled, givenBy, textBy, recordsBy}
+use Rattle.lent.specs.Table.{Outcome, Filled, givenBy, textBy, recordsBy}
 use Rattle.lexer.specs.declared.Cursor.{Cursor}
 use Rattle.lexer.specs.Cursors.{line, column}
 use Rattle.lexer.specs.Promises.{nextOutcome, nextGivenBy, nextTextBy, tokensOutcome}
 use Rattle.actions.specs.Promises.{actionsGate, actionsOutcome, scratchBy}
-use Rattle.operators.specs.Operators.{Spec}
-use Rattle.operators.specs.Places.{argumentPlace}
-use Rattle.operators.specs.Promises.{argumentBy}
-use Rattle.operators.specs.Promises as Operating
 use Rattle.listing.specs.declared.Stop.{Stop}
 use Rattle.listing.specs.declared.Stop.the-variants as Stop
 use Rattle.listing.specs.Listings.{lineOf}
@@ -38,15 +33,6 @@ pub record FillsActions (s text text′ work work′ records records′ old new 
 pub record Steps (s : List ℕ) (c : Cursor) (text text′ old new : List ℕ) (r : ℕ) : Type 0 where
   pub told : Told (nextGivenBy (nextOutcome s c (length text))) old new r
   pub texts : text′ ≡ nextTextBy (nextOutcome s c (length text)) text
-
--- ---- an operator
-
--- With 0, where the argument stands in the input and how long it is come last.
-abbrev pub withArgument : ℕ → ℕ → Given → Given
-withArgument place len g = pick (eqb (g .number) 0) (given 0 (g .values ++ (place ∷ len ∷ []))) g
-
-abbrev pub operatorGiven : List ℕ → Outcome Spec → Given
-operatorGiven s o = withArgument (argumentPlace s) (length (argumentBy o)) (Operating.givenBy o)
 
 -- ---- listings
 

@@ -5,21 +5,17 @@ ghost use Rattle.lexer.specs.Cursors.{cursor};
 ghost use Rattle.lexer.specs.Promises.{tokensOutcome};
 ghost use Rattle.actions.specs.Promises.{setvarOutcome};
 ghost use Rattle.variables.specs.Promises.{variablesOutcome, updateOutcome};
-ghost use Rattle.operators.specs.Promises.{operatorOutcome};
+ghost use Rattle.operators.specs.Promises as Operating;
 ghost use Rattle.seclang.specs.Told.{Told};
-ghost use Rattle.seclang.specs.Readers.{Steps, Fills, FillsActions, operatorGiven};
-use crate::telling::flag;
-use crate::telling::tell;
+ghost use Rattle.seclang.specs.Readers.{Steps, Fills, FillsActions};
 use crate::telling::tell_acted;
-use crate::telling::tell_one;
+use crate::telling::tell_operated;
 use crate::telling::tell_reading;
 use crate::telling::tell_step;
 use crate::telling::tell_targeted;
-use crate::telling::tell_two;
 use lexer::Column;
 use lexer::Cursor;
 use lexer::Line;
-use operators::Answer as Operated;
 
 #[no_mangle]
 pub extern "C" fn seclang_next_token(
@@ -111,19 +107,7 @@ pub extern "C" fn seclang_parse_update_targets(
 
 #[no_mangle]
 pub extern "C" fn seclang_parse_operator(input: &[u8], values: &mut [u64]) -> u64
-    ensures { λ r. ⌜ Told (operatorGiven (now (input .entry)) (operatorOutcome (now (input .entry)))) (now (values .entry)) (now (values .exit)) r ⌝ }
+    ensures { λ r. ⌜ Told (Operating.givenBy (now (input .entry)) (Operating.operatorOutcome (now (input .entry)))) (now (values .entry)) (now (values .exit)) r ⌝ }
 {
-    match operators::parse_operator(input) {
-        Operated::Parsed { negated, name } => {
-            let argument = operators::operator_argument(input);
-            let len = argument.len();
-            let past = ascii::trimmed(input).past;
-            let place = past - len;
-            let words = [flag(negated), name, place as u64, len as u64];
-            tell(0, &words, values)
-        }
-        Operated::TooLong => tell_one(1, lent::LIMIT, values),
-        Operated::NotAscii(place) => tell_one(2, place, values),
-        Operated::Unknown { place, len } => tell_two(8, place, len, values),
-    }
+    tell_operated(operators::parse_operator(input), values)
 }

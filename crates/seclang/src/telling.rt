@@ -7,6 +7,7 @@ ghost use Rattle.lexer.specs.Layout.{kindCode};
 ghost use Rattle.lexer.specs.Promises as Lexing;
 ghost use Rattle.actions.specs.Promises as Acting;
 ghost use Rattle.variables.specs.Promises as Targeting;
+ghost use Rattle.operators.specs.Promises as Operating;
 ghost use Rattle.listing.specs.Promises as Listing;
 ghost use Rattle.seclang.specs.Told.{Told};
 use actions::Answer as Acted;
@@ -16,6 +17,7 @@ use lexer::Kind;
 use lexer::Lexeme;
 use lexer::Step;
 use listing::Answer as Listed;
+use operators::Answer as Operated;
 use variables::Answer as Targeted;
 
 // A number, and its values where they fit.
@@ -154,6 +156,25 @@ pub fn tell_targeted(answer: Targeted, values: &mut [u64]) -> u64
         Targeted::Short => tell_one(3, 0, values),
         Targeted::Unknown { piece, name } => tell_two(7, piece, name, values),
         Targeted::NoRoom(needed) => tell_one(4, needed, values),
+    }
+}
+
+pub fn tell_operated(answer: Operated, values: &mut [u64]) -> u64
+    ensures { λ r. ⌜ Told (Operating.answerGiven answer) (now (values .entry)) (now (values .exit)) r ⌝ }
+{
+    match answer {
+        Operated::Parsed {
+            negated,
+            name,
+            place,
+            len,
+        } => {
+            let words = [flag(negated), name, place as u64, len as u64];
+            tell(0, &words, values)
+        }
+        Operated::TooLong => tell_one(1, lent::LIMIT, values),
+        Operated::NotAscii(place) => tell_one(2, place, values),
+        Operated::Unknown { place, len } => tell_two(8, place, len, values),
     }
 }
 

@@ -1,35 +1,35 @@
--- By the answer of parse_operator: where it is read, the places found cut the argument out.
+-- By the answer of parse_operator: where it is read, the place and length that it gives cut the argument out.
+use mathlib.Core.Path.{refl}
 use native.Mathlib.Omega.{arith}
 use borrow.Author.Needs.{needs}
 use denote.Ref.{now}
-use Rattle.operators.proofs.FoundLaws.{argument-ordered, argument-within, argument-text}
-use Rattle.operators.proofs.AnswerLaws.{argument-read, argument-refused}
+use Rattle.operators.proofs.AnswerLaws.{argument-in, argument-read, argument-refused}
 use Rattle.operators.proofs.reading.operator_argument.Statement.{statement}
 use Rattle.operators.proofs.reading.operator_argument.Tie as tie
 
 parse-operator-requires : tie.Need-parse-operator-requires
 parse-operator-requires c κs = search needs
 
-enum-told : tie.Need-enum-told
-enum-told c = search needs
+enum-known-place : tie.Need-enum-known-place
+enum-known-place c = search needs
 
-find-requires : tie.Need-find-requires
-find-requires c κs = search needs
+add-end : tie.Need-add-end
+add-end c = omega (arith, argument-in (now (c .before .before .before .before .before .args .input)) _ (c .before .before .before .parse-operator .ensures) (c .before .place .given .1))
 
 sub-result : tie.Need-sub-result
-sub-result c = omega (arith, argument-ordered (now (c .before .before .before .before .before .args .input)) _ (c .find .ensures))
+sub-result c = search needs
 
 part-result-start : tie.Need-part-result-start
-part-result-start c = omega (arith, argument-ordered (now (c .before .before .before .before .before .args .input)) _ (c .find .ensures))
+part-result-start c = search needs
 
 part-result-end : tie.Need-part-result-end
-part-result-end c = omega (arith, argument-within (now (c .before .before .before .before .before .args .input)) _ (c .find .ensures))
+part-result-end c = omega (arith, argument-in (now (c .before .before .before .before .before .args .input)) _ (c .before .before .before .parse-operator .ensures) (c .before .place .given .1))
 
 slice-aggregate-result : tie.Need-slice-aggregate-result
 slice-aggregate-result c = search needs
 
 returns : tie.Need-returns
-returns c = argument-read (now (c .before .before .before .before .before .before .args .input)) _ (c .before .before .before .before .parse-operator .ensures) (c .before .before .before .match .keys1) _ (argument-text (now (c .before .before .before .before .before .before .args .input)) _ (c .before .find .ensures))
+returns c = argument-read (now (c .before .before .before .before .before .before .args .input)) _ (c .before .before .before .before .parse-operator .ensures) (c .before .before .place .given .1) _ refl
 
 returns-2 : tie.Need-returns-2
 returns-2 c = argument-refused (now (c .before .before .before .before .args .input)) _ (c .before .before .parse-operator .ensures) (c .before .match .keys2)
@@ -39,8 +39,8 @@ operator-argument-spec =
     tie.close
     (tie.spec
     parse-operator-requires
-    enum-told
-    find-requires
+    enum-known-place
+    add-end
     sub-result
     part-result-start
     part-result-end
