@@ -6,7 +6,9 @@ use Prim.Native.Nat.{ℕ, _+_, _≤_, _<_}
 use native.Mathlib.Omega.{arith}
 use lib.ListN.{length, drop, getD}
 use lib.Dec.{eqb}
+use borrow.Author.Tests.{ne-eqb}
 use Rattle.ascii.specs.Classes.{operatorNameEnd}
+use Rattle.ascii.proofs.ByteLaws.{above}
 use Rattle.ascii.proofs.TrimLaws.{leading-more, leading-stop}
 use Rattle.operators.specs.Operators.{starts, inName, nameLength}
 
@@ -18,6 +20,10 @@ module _ (s : List ℕ) (i : ℕ) (h : i < length s) where
 
   pub name-stop : operatorNameEnd (getD s i 0) ≡ true → nameLength (drop i s) ≡ 0
   name-stop w = leading-stop inName s i h (rw w)
+
+pub past-blank : (b : ℕ) → 32 < b → operatorNameEnd b ≡ false
+unfolding operatorNameEnd
+past-blank b h = simp (above 9 10 b (omega arith) (omega arith), above 12 13 b (omega arith) (omega arith), ne-eqb b 32 (omega arith))
 
 -- ---- the first byte
 

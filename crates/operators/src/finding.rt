@@ -38,6 +38,10 @@ fn sign_width(s: &[u8]) -> usize
 fn ends_name(b: u8) -> bool
     ensures { λ r. ⌜ r ≡ operatorNameEnd b ⌝ }
 {
+    // Nearly every byte of a name is past the blank, and one test is enough for it.
+    if 32 < b {
+        return false;
+    }
     ascii::ends_operator_name(b)
 }
 
