@@ -1,6 +1,7 @@
 // Where an operator's parts stand in the input, by numbers, so that a name and an argument are parts and no copies.
 ghost use mathlib.Core.Path.{_≡_};
 ghost use Rattle.ascii.specs.Classes.{operatorNameEnd};
+ghost use Rattle.ascii.specs.Trim.{leadingWhite};
 ghost use Rattle.operators.specs.Operators.{starts, nameLength};
 ghost use Rattle.operators.specs.Places.{signWidth, foundOf};
 
@@ -32,6 +33,18 @@ fn sign_width(s: &[u8]) -> usize
         return 0;
     }
     1 + ascii::leading_white(&s[1..])
+}
+
+// How many white bytes stand between a name and its argument: what ended the name is one, and is not looked at again.
+fn gap_width(s: &[u8]) -> usize
+    requires { ⌜ nameLength (now s) ≡ 0 ⌝ }
+    ensures { λ r. ⌜ r ≡ leadingWhite (now (s .entry)) ⌝ }
+{
+    if s.len() == 0 {
+        return 0;
+    }
+    let after = &s[1..];
+    1 + ascii::leading_white(after)
 }
 
 // A class of its own, and not the whitespace of trimming: a vertical tab ends no name.
@@ -81,7 +94,7 @@ pub fn find(s: &[u8]) -> Found
     }
     let first = body + 1;
     let past = first + name_length(&s[first..end]);
-    let gap = ascii::leading_white(&s[past..end]);
+    let gap = gap_width(&s[past..end]);
     Found {
         negated,
         named: true,

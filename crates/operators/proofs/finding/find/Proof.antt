@@ -12,6 +12,7 @@ use Rattle.ascii.proofs.TrimLaws.{ends-fit}
 use Rattle.operators.specs.Operators.{starts, nameLength, afterName}
 use Rattle.operators.specs.Places.{signWidth, textEnd, afterAt, isNamed, foundOf}
 use Rattle.operators.proofs.FindLaws.{Begun, text-at, end-in, body-in, body-at, name-in, name-at, tail-in, tail-at, argument-in}
+use Rattle.operators.proofs.NameLaws.{name-ended}
 use Rattle.operators.proofs.finding.find.Statement.{statement}
 use Rattle.operators.proofs.finding.find.Tie as tie
 
@@ -103,21 +104,21 @@ length-is c = c .name-length .ensures ∙ ap nameLength (name-at (begun (c .befo
 add-past : tie.Need-add-past
 add-past c = omega (arith, tail-in (begun (c .before .before .before .before .before)) (written (c .before .before)) _ (length-is c), end-in (begun (c .before .before .before .before .before)))
 
-sub-leading-white : tie.Need-sub-leading-white
-sub-leading-white c = omega (arith, tail-in (begun (c .before .before .before .before .before)) (written (c .before .before)) _ (length-is c))
+sub-gap-width : tie.Need-sub-gap-width
+sub-gap-width c = omega (arith, tail-in (begun (c .before .before .before .before .before)) (written (c .before .before)) _ (length-is c))
 
-part-leading-white-start : tie.Need-part-leading-white-start
-part-leading-white-start c = omega (arith, tail-in (begun (c .before .before .before .before .before)) (written (c .before .before)) _ (length-is c))
+part-gap-width-start : tie.Need-part-gap-width-start
+part-gap-width-start c = omega (arith, tail-in (begun (c .before .before .before .before .before)) (written (c .before .before)) _ (length-is c))
 
-part-leading-white-end : tie.Need-part-leading-white-end
-part-leading-white-end c = omega (arith, end-in (begun (c .before .before .before .before .before)))
+part-gap-width-end : tie.Need-part-gap-width-end
+part-gap-width-end c = omega (arith, end-in (begun (c .before .before .before .before .before)))
 
-leading-white-requires : tie.Need-leading-white-requires
-leading-white-requires c κs = search needs
+gap-width-requires : tie.Need-gap-width-requires
+gap-width-requires c κs = ap nameLength (tail-at (begun (c .before .before .before .before .before .before)) (written (c .before .before .before)) _ (length-is (c .before))) ∙ name-ended (afterAt (now (c .before .before .before .before .before .before .before .before .before .before .before .args .s)))
 
 -- the whitespace after it
-gap-is : (c : tie.After-leading-white) → c .leading-white .result ≡ leadingWhite (afterName (afterAt (now (c .before .before .before .before .before .before .before .before .before .before .before .before .args .s))))
-gap-is c = c .leading-white .ensures ∙ ap leadingWhite (tail-at (begun (c .before .before .before .before .before .before .before)) (written (c .before .before .before .before)) _ (length-is (c .before .before)))
+gap-is : (c : tie.After-gap-width) → c .gap-width .result ≡ leadingWhite (afterName (afterAt (now (c .before .before .before .before .before .before .before .before .before .before .before .before .args .s))))
+gap-is c = c .gap-width .ensures ∙ ap leadingWhite (tail-at (begun (c .before .before .before .before .before .before .before)) (written (c .before .before .before .before)) _ (length-is (c .before .before)))
 
 add-t21 : tie.Need-add-t21
 add-t21 c = omega (arith, argument-in (begun (c .before .before .before .before .before .before .before)) (written (c .before .before .before .before)) _ (length-is (c .before .before)) _ (gap-is c), end-in (begun (c .before .before .before .before .before .before .before)))
@@ -150,9 +151,9 @@ find-spec =
     part-name-length-end
     name-length-requires
     add-past
-    sub-leading-white
-    part-leading-white-start
-    part-leading-white-end
-    leading-white-requires
+    sub-gap-width
+    part-gap-width-start
+    part-gap-width-end
+    gap-width-requires
     add-t21
     returns-2)
