@@ -14,7 +14,7 @@ use Rattle.names.specs.Tables.{find, answered}
 use Rattle.names.specs.declared.Lookup.{Lookup}
 use Rattle.names.specs.declared.Lookup.the-variants.{Code, Unknown}
 use Rattle.names.proofs.TableLaws.{carried}
-use Rattle.spellings.specs.Runs.{cut, spelled, InRun, Sure}
+use Rattle.spellings.specs.Runs.{cut, spelled, InRun, Hinted}
 
 pub spelled-length : (caseless : Bool) (name : List ℕ) → length (spelled caseless name) ≡ length name
 spelled-length true name = length-map name lower
@@ -52,14 +52,15 @@ too-short n run (c ∷ codes) seen h e =
 
 -- ---- what is found is the answer
 
--- one computed test of a run, at the length of its names
-pub sure : {answer : List ℕ → Lookup} {run codes name : List ℕ} (n : ℕ) → length name ≡ n → answered answer (cut n run codes) ≡ true → Sure answer run codes name
-sure n e t = record { told = rw e t }
+pub hint : (answer : List ℕ → Lookup) (n : ℕ) {run codes name : List ℕ} {caseless : Bool} {r : Lookup} → InRun run codes name caseless r
+    → length name ≡ n
+    → answered answer (cut n run codes) ≡ true
+    → Hinted (answer (spelled caseless name)) r
+hint answer n {run} {codes} {name} {caseless} {r} x e t = go r (x .first)
+  where
+    go : (q : Lookup) → q ≡ find (cut (length name) run codes) (spelled caseless name) → Hinted (answer (spelled caseless name)) q
+    go (Code c) p = carried answer (cut n run codes) t (spelled caseless name) c (sym (rw e at p))
+    go Unknown p = tt
 
-pub told-by : {answer : List ℕ → Lookup} {run codes name : List ℕ} {caseless : Bool} {r : Lookup} {c : ℕ}
-    → Sure answer run codes name
-    → InRun run codes name caseless r
-    → r ≡ Code c
-    → Code c ≡ answer (spelled caseless name)
-told-by {answer} {run} {codes} {name} {caseless} {r} {c} x y e =
-    sym (carried answer (cut (length name) run codes) (x .told) (spelled caseless name) c (sym (y .first) ∙ e))
+pub hint-is : {answer r : Lookup} {c : ℕ} → Hinted answer r → r ≡ Code c → Code c ≡ answer
+hint-is {answer} h e = sym (rw e at h)

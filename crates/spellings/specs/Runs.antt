@@ -5,8 +5,9 @@ use mathlib.Core.Bool.{Bool, true, false}
 use mathlib.Core.List.{List, [], _∷_}
 use lib.ListN.{length, take, drop}
 use Rattle.ascii.specs.Fold.{lowered}
-use Rattle.names.specs.Tables.{Row, find, answered}
+use Rattle.names.specs.Tables.{Row, find}
 use Rattle.names.specs.declared.Lookup.{Lookup}
+use Rattle.names.specs.declared.Lookup.the-variants.{Code, Unknown}
 
 -- the run cut into names of n bytes, each with its code
 unfoldable pub cut : ℕ → List ℕ → List ℕ → List Row
@@ -22,6 +23,7 @@ spelled false name = name
 pub record InRun (run codes name : List ℕ) (caseless : Bool) (r : Lookup) : Type 0 where
   pub first : r ≡ find (cut (length name) run codes) (spelled caseless name)
 
--- each name of the run is answered with its code
-pub record Sure (answer : List ℕ → Lookup) (run codes name : List ℕ) : Type 0 where
-  pub told : answered answer (cut (length name) run codes) ≡ true
+-- nothing is said, or what the answer is
+abbrev pub Hinted : Lookup → Lookup → Type 0
+Hinted answer (Code c) = answer ≡ Code c
+Hinted answer Unknown = Unit {0}

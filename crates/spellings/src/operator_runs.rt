@@ -1,96 +1,102 @@
 // Operator names by their length, in small letters; compared in any letter case, since rules have both @beginsWith and @beginswith.
 ghost use mathlib.Core.Path.{_≡_};
-ghost use Rattle.names.specs.Tables.{find};
-ghost use Rattle.names.specs.Operators.{operators, operatorCode};
-ghost use Rattle.spellings.specs.Runs.{Sure};
+ghost use Rattle.names.specs.Operators.{operatorCode};
+ghost use Rattle.spellings.specs.Runs.{Hinted};
 use crate::matching::code_in;
 use names::Lookup;
 
-// What the run gives; a name that it does not have is left to the rows.
-fn operator_in(name: &[u8], run: &[u8], codes: &[u64]) -> Lookup
-    requires { ⌜ Sure (find operators) (now run) (now codes) (now name) ⌝ }
-    ensures { λ r. ⌜ r ≡ operatorCode (now (name .entry)) ⌝ }
-{
-    match code_in(name, run, codes, true) {
-        Lookup::Code(code) => Lookup::Code(code),
-        Lookup::Unknown => names::operator_code(name),
-    }
-}
-
 // Two letters to five.
 fn of_two_to_five(name: &[u8]) -> Lookup
-    ensures { λ r. ⌜ r ≡ operatorCode (now (name .entry)) ⌝ }
+    ensures { λ r. ⌜ Hinted (operatorCode (now (name .entry))) r ⌝ }
 {
     match name.len() {
-        2 => operator_in(name, b"rxpmeqnegtgeltle", &[0, 1, 11, 12, 13, 14, 15, 16]),
-        3 => operator_in(name, b"pmfrbl", &[3, 31]),
-        4 => operator_in(name, b"rsub", &[38]),
-        5 => operator_in(name, b"streq", &[4]),
-        _ => names::operator_code(name),
+        2 => code_in(
+            name,
+            b"rxpmeqnegtgeltle",
+            &[0, 1, 11, 12, 13, 14, 15, 16],
+            true,
+        ),
+        3 => code_in(name, b"pmfrbl", &[3, 31], true),
+        4 => code_in(name, b"rsub", &[38], true),
+        5 => code_in(name, b"streq", &[4], true),
+        _ => Lookup::Unknown,
     }
 }
 
 // Six to nine.
 fn of_six_to_nine(name: &[u8]) -> Lookup
-    ensures { λ r. ⌜ r ≡ operatorCode (now (name .entry)) ⌝ }
+    ensures { λ r. ⌜ Hinted (operatorCode (now (name .entry))) r ⌝ }
 {
     match name.len() {
-        6 => operator_in(name, b"within", &[9]),
-        7 => operator_in(name, b"ipmatchnomatch", &[28, 36]),
-        8 => operator_in(
+        6 => code_in(name, b"within", &[9], true),
+        7 => code_in(name, b"ipmatchnomatch", &[28, 36], true),
+        8 => code_in(
             name,
             b"containsendswithstrmatchverifyccipmatchf",
             &[5, 8, 10, 25, 30],
+            true,
         ),
-        9 => operator_in(
+        9 => code_in(
             name,
             b"detectxssverifyssnverifycpfgeolookupgsblookupfuzzyhash",
             &[18, 26, 27, 32, 33, 35],
+            true,
         ),
-        _ => names::operator_code(name),
+        _ => Lookup::Unknown,
     }
 }
 
 // Ten to fourteen.
 fn of_ten_to_fourteen(name: &[u8]) -> Lookup
-    ensures { λ r. ⌜ r ≡ operatorCode (now (name .entry)) ⌝ }
+    ensures { λ r. ⌜ Hinted (operatorCode (now (name .entry))) r ⌝ }
 {
     match name.len() {
-        10 => operator_in(name, b"pmfromfilebeginswithdetectsqli", &[2, 7, 17]),
-        11 => operator_in(name, b"validatedtdinspectfile", &[23, 34]),
-        12 => operator_in(name, b"containswordvalidatehash", &[6, 22]),
-        14 => operator_in(name, b"validateschema", &[24]),
-        _ => names::operator_code(name),
+        10 => code_in(name, b"pmfromfilebeginswithdetectsqli", &[2, 7, 17], true),
+        11 => code_in(name, b"validatedtdinspectfile", &[23, 34], true),
+        12 => code_in(name, b"containswordvalidatehash", &[6, 22], true),
+        14 => code_in(name, b"validateschema", &[24], true),
+        _ => Lookup::Unknown,
     }
 }
 
 // Fifteen to twenty.
 fn of_fifteen_to_twenty(name: &[u8]) -> Lookup
-    ensures { λ r. ⌜ r ≡ operatorCode (now (name .entry)) ⌝ }
+    ensures { λ r. ⌜ Hinted (operatorCode (now (name .entry))) r ⌝ }
 {
     match name.len() {
-        15 => operator_in(name, b"ipmatchfromfile", &[29]),
-        17 => operator_in(name, b"validatebyterange", &[21]),
-        18 => operator_in(name, b"unconditionalmatch", &[37]),
-        19 => operator_in(name, b"validateurlencoding", &[19]),
-        20 => operator_in(name, b"validateutf8encoding", &[20]),
-        _ => names::operator_code(name),
+        15 => code_in(name, b"ipmatchfromfile", &[29], true),
+        17 => code_in(name, b"validatebyterange", &[21], true),
+        18 => code_in(name, b"unconditionalmatch", &[37], true),
+        19 => code_in(name, b"validateurlencoding", &[19], true),
+        20 => code_in(name, b"validateutf8encoding", &[20], true),
+        _ => Lookup::Unknown,
     }
 }
 
-// A name is compared with those of its length.
+// A name that is in no run is left to the rows, which stay a call.
+fn settled(hint: Lookup, name: &[u8]) -> Lookup
+    requires { ⌜ Hinted (operatorCode (now name)) hint ⌝ }
+    ensures { λ r. ⌜ r ≡ operatorCode (now (name .entry)) ⌝ }
+{
+    match hint {
+        Lookup::Code(code) => Lookup::Code(code),
+        Lookup::Unknown => names::operator_code(name),
+    }
+}
+
+// A name is compared with those of its length first.
 pub fn operator_code(name: &[u8]) -> Lookup
     ensures { λ r. ⌜ r ≡ operatorCode (now (name .entry)) ⌝ }
 {
     let n = name.len();
     if n <= 5 {
-        return of_two_to_five(name);
+        return settled(of_two_to_five(name), name);
     }
     if n <= 9 {
-        return of_six_to_nine(name);
+        return settled(of_six_to_nine(name), name);
     }
     if n <= 14 {
-        return of_ten_to_fourteen(name);
+        return settled(of_ten_to_fourteen(name), name);
     }
-    of_fifteen_to_twenty(name)
+    settled(of_fifteen_to_twenty(name), name)
 }

@@ -1,164 +1,181 @@
 // Variable names by their length, compared as rules write them, in capitals.
 ghost use mathlib.Core.Path.{_≡_};
 ghost use Rattle.names.specs.Variables.{variableCode};
-ghost use Rattle.spellings.specs.Runs.{Sure};
+ghost use Rattle.spellings.specs.Runs.{Hinted};
 use crate::matching::code_in;
 use names::Lookup;
 
-// What the run gives; a name in other letters, or of no variable, is left to the search by halves.
-fn variable_in(name: &[u8], run: &[u8], codes: &[u64]) -> Lookup
-    requires { ⌜ Sure variableCode (now run) (now codes) (now name) ⌝ }
-    ensures { λ r. ⌜ r ≡ variableCode (now (name .entry)) ⌝ }
-{
-    match code_in(name, run, codes, false) {
-        Lookup::Code(code) => Lookup::Code(code),
-        Lookup::Unknown => names::variable_code(name),
-    }
-}
-
 // Two letters to five.
 fn of_two_to_five(name: &[u8]) -> Lookup
-    ensures { λ r. ⌜ r ≡ variableCode (now (name .entry)) ⌝ }
+    ensures { λ r. ⌜ Hinted (variableCode (now (name .entry))) r ⌝ }
 {
     match name.len() {
-        2 => variable_in(name, b"TXIP", &[35, 38]),
-        3 => variable_in(name, b"XMLENVGEO", &[79, 37, 42]),
-        4 => variable_in(name, b"ARGSUSERTIME", &[0, 41, 47]),
-        5 => variable_in(name, b"FILES", &[56]),
-        _ => names::variable_code(name),
+        2 => code_in(name, b"TXIP", &[35, 38], false),
+        3 => code_in(name, b"XMLENVGEO", &[79, 37, 42], false),
+        4 => code_in(name, b"ARGSUSERTIME", &[0, 41, 47], false),
+        5 => code_in(name, b"FILES", &[56], false),
+        _ => Lookup::Unknown,
     }
 }
 
 // Six to nine.
 fn of_six_to_nine(name: &[u8]) -> Lookup
-    ensures { λ r. ⌜ r ≡ variableCode (now (name .entry)) ⌝ }
+    ensures { λ r. ⌜ Hinted (variableCode (now (name .entry))) r ⌝ }
 {
     match name.len() {
-        6 => variable_in(name, b"GLOBAL", &[39]),
-        7 => variable_in(name, b"SESSION", &[36]),
-        8 => variable_in(
+        6 => code_in(name, b"GLOBAL", &[39], false),
+        7 => code_in(name, b"SESSION", &[36], false),
+        8 => code_in(
             name,
             b"ARGS_GETRESOURCETIME_DAYTIME_MINTIME_SECTIME_MONDURATION",
             &[1, 40, 49, 51, 52, 54, 64],
+            false,
         ),
-        9 => variable_in(
+        9 => code_in(
             name,
             b"ARGS_POSTTIME_HOURTIME_WDAYTIME_YEARUNIQUE_IDAUTH_TYPE",
             &[2, 50, 53, 55, 61, 85],
+            false,
         ),
-        _ => names::variable_code(name),
+        _ => Lookup::Unknown,
     }
 }
 
 // Ten to twelve.
 fn of_ten_to_twelve(name: &[u8]) -> Lookup
-    ensures { λ r. ⌜ r ≡ variableCode (now (name .entry)) ⌝ }
+    ensures { λ r. ⌜ Hinted (variableCode (now (name .entry))) r ⌝ }
 {
     match name.len() {
-        10 => variable_in(name, b"ARGS_NAMESTIME_EPOCH", &[3, 48]),
-        11 => variable_in(
+        10 => code_in(name, b"ARGS_NAMESTIME_EPOCH", &[3, 48], false),
+        11 => code_in(
             name,
             b"REQUEST_URIREMOTE_ADDRREMOTE_PORTREMOTE_HOSTREMOTE_USERSERVER_ADDRSERVER_PORTSERVER_NAMEMATCHED_VARFILES_SIZESFILES_NAMESSTATUS_LINE",
             &[7, 28, 29, 30, 31, 32, 33, 34, 43, 57, 60, 82],
+            false,
         ),
-        12 => variable_in(
+        12 => code_in(
             name,
             b"REQUEST_LINEREQUEST_BODYQUERY_STRINGMATCHED_VARSFULL_REQUEST",
             &[11, 18, 20, 44, 83],
+            false,
         ),
-        _ => names::variable_code(name),
+        _ => Lookup::Unknown,
     }
 }
 
 // Thirteen to fifteen.
 fn of_thirteen_to_fifteen(name: &[u8]) -> Lookup
-    ensures { λ r. ⌜ r ≡ variableCode (now (name .entry)) ⌝ }
+    ensures { λ r. ⌜ Hinted (variableCode (now (name .entry))) r ⌝ }
 {
     match name.len() {
-        13 => variable_in(name, b"RESPONSE_BODYREQBODY_ERROR", &[25, 87]),
-        14 => variable_in(
+        13 => code_in(name, b"RESPONSE_BODYREQBODY_ERROR", &[25, 87], false),
+        14 => code_in(
             name,
             b"REQUEST_METHODARGS_GET_NAMESFILES_TMPNAMES",
             &[12, 4, 58],
+            false,
         ),
-        15 => variable_in(
+        15 => code_in(
             name,
             b"REQUEST_HEADERSREQUEST_COOKIESARGS_POST_NAMESREQUEST_URI_RAWRESPONSE_STATUS",
             &[14, 16, 5, 8, 21],
+            false,
         ),
-        _ => names::variable_code(name),
+        _ => Lookup::Unknown,
     }
 }
 
 // Sixteen to nineteen.
 fn of_sixteen_to_nineteen(name: &[u8]) -> Lookup
-    ensures { λ r. ⌜ r ≡ variableCode (now (name .entry)) ⌝ }
+    ensures { λ r. ⌜ Hinted (variableCode (now (name .entry))) r ⌝ }
 {
     match name.len() {
-        16 => variable_in(
+        16 => code_in(
             name,
             b"REQUEST_FILENAMEREQUEST_BASENAMEREQUEST_PROTOCOLRESPONSE_HEADERSMATCHED_VAR_NAMEHIGHEST_SEVERITY",
             &[9, 10, 13, 23, 45, 81],
+            false,
         ),
-        17 => variable_in(
+        17 => code_in(
             name,
             b"RESPONSE_PROTOCOLREQBODY_PROCESSORREQBODY_ERROR_MSG",
             &[22, 86, 88],
+            false,
         ),
-        18 => variable_in(name, b"ARGS_COMBINED_SIZEMATCHED_VARS_NAMES", &[6, 46]),
-        19 => variable_in(
+        18 => code_in(
+            name,
+            b"ARGS_COMBINED_SIZEMATCHED_VARS_NAMES",
+            &[6, 46],
+            false,
+        ),
+        19 => code_in(
             name,
             b"REQUEST_BODY_LENGTHFILES_COMBINED_SIZEFULL_REQUEST_LENGTH",
             &[19, 59, 84],
+            false,
         ),
-        _ => names::variable_code(name),
+        _ => Lookup::Unknown,
     }
 }
 
 // Twenty-one and more.
 fn of_twenty_and_more(name: &[u8]) -> Lookup
-    ensures { λ r. ⌜ r ≡ variableCode (now (name .entry)) ⌝ }
+    ensures { λ r. ⌜ Hinted (variableCode (now (name .entry))) r ⌝ }
 {
     match name.len() {
-        21 => variable_in(
+        21 => code_in(
             name,
             b"REQUEST_COOKIES_NAMESREQUEST_HEADERS_NAMESRESPONSE_CONTENT_TYPE",
             &[17, 15, 26],
+            false,
         ),
-        22 => variable_in(
+        22 => code_in(
             name,
             b"RESPONSE_HEADERS_NAMESMULTIPART_STRICT_ERRORMULTIPART_PART_HEADERS",
             &[24, 91, 78],
+            false,
         ),
-        23 => variable_in(
+        23 => code_in(
             name,
             b"RESPONSE_CONTENT_LENGTHREQBODY_PROCESSOR_ERROR",
             &[27, 89],
+            false,
         ),
-        27 => variable_in(name, b"REQBODY_PROCESSOR_ERROR_MSG", &[90]),
-        _ => names::variable_code(name),
+        27 => code_in(name, b"REQBODY_PROCESSOR_ERROR_MSG", &[90], false),
+        _ => Lookup::Unknown,
     }
 }
 
-// A name is compared with those of its length.
+// A name in other letters, or of no variable, is left to the search by halves, which stays a call.
+fn settled(hint: Lookup, name: &[u8]) -> Lookup
+    requires { ⌜ Hinted (variableCode (now name)) hint ⌝ }
+    ensures { λ r. ⌜ r ≡ variableCode (now (name .entry)) ⌝ }
+{
+    match hint {
+        Lookup::Code(code) => Lookup::Code(code),
+        Lookup::Unknown => names::variable_code(name),
+    }
+}
+
+// A name is compared with those of its length first.
 pub fn variable_code(name: &[u8]) -> Lookup
     ensures { λ r. ⌜ r ≡ variableCode (now (name .entry)) ⌝ }
 {
     let n = name.len();
     if n <= 5 {
-        return of_two_to_five(name);
+        return settled(of_two_to_five(name), name);
     }
     if n <= 9 {
-        return of_six_to_nine(name);
+        return settled(of_six_to_nine(name), name);
     }
     if n <= 12 {
-        return of_ten_to_twelve(name);
+        return settled(of_ten_to_twelve(name), name);
     }
     if n <= 15 {
-        return of_thirteen_to_fifteen(name);
+        return settled(of_thirteen_to_fifteen(name), name);
     }
     if n <= 19 {
-        return of_sixteen_to_nineteen(name);
+        return settled(of_sixteen_to_nineteen(name), name);
     }
-    of_twenty_and_more(name)
+    settled(of_twenty_and_more(name), name)
 }

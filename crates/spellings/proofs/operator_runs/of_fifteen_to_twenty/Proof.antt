@@ -1,83 +1,80 @@
--- One computed test for each run: its names have its codes.
+-- What each run holds is answered with its code, by one computed test.
 use mathlib.Core.Path.{refl}
 use native.Mathlib.Omega.{arith}
 use borrow.Author.Needs.{needs}
 use Rattle.ascii.specs.Text.{bytes}
 use Rattle.ascii.specs.Fold.{same}
 use Rattle.names.specs.Tables.{find, answered}
-use Rattle.names.specs.Operators.{operators}
+use Rattle.names.specs.Operators.{operators, operatorCode}
 use Rattle.spellings.specs.Runs.{cut}
-use Rattle.spellings.proofs.RunLaws.{sure}
+use Rattle.spellings.proofs.RunLaws.{hint}
 use Rattle.spellings.proofs.operator_runs.of_fifteen_to_twenty.Statement.{statement}
 use Rattle.spellings.proofs.operator_runs.of_fifteen_to_twenty.Tie as tie
 
-slice-aggregate-operator-in : tie.Need-slice-aggregate-operator-in
-slice-aggregate-operator-in c = search needs
+slice-aggregate-code-in : tie.Need-slice-aggregate-code-in
+slice-aggregate-code-in c = search needs
 
-slice-aggregate-operator-in-2 : tie.Need-slice-aggregate-operator-in-2
-slice-aggregate-operator-in-2 c = search needs
+slice-aggregate-code-in-2 : tie.Need-slice-aggregate-code-in-2
+slice-aggregate-code-in-2 c = search needs
 
-operator-in-requires : tie.Need-operator-in-requires
-unfolding answered cut find operators same bytes
-operator-in-requires c κs = sure 15 (omega arith) refl
+code-in-requires : tie.Need-code-in-requires
+code-in-requires c κs = search needs
 
-slice-aggregate-operator-in-3 : tie.Need-slice-aggregate-operator-in-3
-slice-aggregate-operator-in-3 c = search needs
+slice-aggregate-code-in-3 : tie.Need-slice-aggregate-code-in-3
+slice-aggregate-code-in-3 c = search needs
 
-slice-aggregate-operator-in-4 : tie.Need-slice-aggregate-operator-in-4
-slice-aggregate-operator-in-4 c = search needs
+slice-aggregate-code-in-4 : tie.Need-slice-aggregate-code-in-4
+slice-aggregate-code-in-4 c = search needs
 
-operator-in-requires-2 : tie.Need-operator-in-requires-2
-unfolding answered cut find operators same bytes
-operator-in-requires-2 c κs = sure 17 (omega arith) refl
+code-in-requires-2 : tie.Need-code-in-requires-2
+code-in-requires-2 c κs = search needs
 
-slice-aggregate-operator-in-5 : tie.Need-slice-aggregate-operator-in-5
-slice-aggregate-operator-in-5 c = search needs
+slice-aggregate-code-in-5 : tie.Need-slice-aggregate-code-in-5
+slice-aggregate-code-in-5 c = search needs
 
-slice-aggregate-operator-in-6 : tie.Need-slice-aggregate-operator-in-6
-slice-aggregate-operator-in-6 c = search needs
+slice-aggregate-code-in-6 : tie.Need-slice-aggregate-code-in-6
+slice-aggregate-code-in-6 c = search needs
 
-operator-in-requires-3 : tie.Need-operator-in-requires-3
-unfolding answered cut find operators same bytes
-operator-in-requires-3 c κs = sure 18 (omega arith) refl
+code-in-requires-3 : tie.Need-code-in-requires-3
+code-in-requires-3 c κs = search needs
 
-slice-aggregate-operator-in-7 : tie.Need-slice-aggregate-operator-in-7
-slice-aggregate-operator-in-7 c = search needs
+slice-aggregate-code-in-7 : tie.Need-slice-aggregate-code-in-7
+slice-aggregate-code-in-7 c = search needs
 
-slice-aggregate-operator-in-8 : tie.Need-slice-aggregate-operator-in-8
-slice-aggregate-operator-in-8 c = search needs
+slice-aggregate-code-in-8 : tie.Need-slice-aggregate-code-in-8
+slice-aggregate-code-in-8 c = search needs
 
-operator-in-requires-4 : tie.Need-operator-in-requires-4
-unfolding answered cut find operators same bytes
-operator-in-requires-4 c κs = sure 19 (omega arith) refl
+code-in-requires-4 : tie.Need-code-in-requires-4
+code-in-requires-4 c κs = search needs
 
-slice-aggregate-operator-in-9 : tie.Need-slice-aggregate-operator-in-9
-slice-aggregate-operator-in-9 c = search needs
+slice-aggregate-code-in-9 : tie.Need-slice-aggregate-code-in-9
+slice-aggregate-code-in-9 c = search needs
 
-slice-aggregate-operator-in-10 : tie.Need-slice-aggregate-operator-in-10
-slice-aggregate-operator-in-10 c = search needs
+slice-aggregate-code-in-10 : tie.Need-slice-aggregate-code-in-10
+slice-aggregate-code-in-10 c = search needs
 
-operator-in-requires-5 : tie.Need-operator-in-requires-5
-unfolding answered cut find operators same bytes
-operator-in-requires-5 c κs = sure 20 (omega arith) refl
-
-operator-code-requires : tie.Need-operator-code-requires
-operator-code-requires c κs = search needs
+code-in-requires-5 : tie.Need-code-in-requires-5
+code-in-requires-5 c κs = search needs
 
 returns : tie.Need-returns
-returns c = search needs
+unfolding operatorCode answered cut find operators same bytes
+returns c = hint (find operators) 15 (c .code-in .ensures) (omega arith) refl
 
 returns-2 : tie.Need-returns-2
-returns-2 c = search needs
+unfolding operatorCode answered cut find operators same bytes
+returns-2 c = hint (find operators) 17 (c .code-in2 .ensures) (omega arith) refl
 
 returns-3 : tie.Need-returns-3
-returns-3 c = search needs
+unfolding operatorCode answered cut find operators same bytes
+returns-3 c = hint (find operators) 18 (c .code-in3 .ensures) (omega arith) refl
 
 returns-4 : tie.Need-returns-4
-returns-4 c = search needs
+unfolding operatorCode answered cut find operators same bytes
+returns-4 c = hint (find operators) 19 (c .code-in4 .ensures) (omega arith) refl
 
 returns-5 : tie.Need-returns-5
-returns-5 c = search needs
+unfolding operatorCode answered cut find operators same bytes
+returns-5 c = hint (find operators) 20 (c .code-in5 .ensures) (omega arith) refl
 
 returns-6 : tie.Need-returns-6
 returns-6 c = search needs
@@ -86,22 +83,21 @@ pub of-fifteen-to-twenty-spec : {M : Type 1} → statement M
 of-fifteen-to-twenty-spec =
     tie.close
     (tie.spec
-    slice-aggregate-operator-in
-    slice-aggregate-operator-in-2
-    operator-in-requires
-    slice-aggregate-operator-in-3
-    slice-aggregate-operator-in-4
-    operator-in-requires-2
-    slice-aggregate-operator-in-5
-    slice-aggregate-operator-in-6
-    operator-in-requires-3
-    slice-aggregate-operator-in-7
-    slice-aggregate-operator-in-8
-    operator-in-requires-4
-    slice-aggregate-operator-in-9
-    slice-aggregate-operator-in-10
-    operator-in-requires-5
-    operator-code-requires
+    slice-aggregate-code-in
+    slice-aggregate-code-in-2
+    code-in-requires
+    slice-aggregate-code-in-3
+    slice-aggregate-code-in-4
+    code-in-requires-2
+    slice-aggregate-code-in-5
+    slice-aggregate-code-in-6
+    code-in-requires-3
+    slice-aggregate-code-in-7
+    slice-aggregate-code-in-8
+    code-in-requires-4
+    slice-aggregate-code-in-9
+    slice-aggregate-code-in-10
+    code-in-requires-5
     returns
     returns-2
     returns-3
