@@ -73,30 +73,32 @@ fn of_fifteen_to_twenty(name: &[u8]) -> Lookup
     }
 }
 
-// A name that is in no run is left to the rows, which stay a call.
-fn settled(hint: Lookup, name: &[u8]) -> Lookup
-    requires { ⌜ Hinted (operatorCode (now name)) hint ⌝ }
-    ensures { λ r. ⌜ r ≡ operatorCode (now (name .entry)) ⌝ }
-{
-    match hint {
-        Lookup::Code(code) => Lookup::Code(code),
-        Lookup::Unknown => names::operator_code(name),
-    }
-}
-
-// A name is compared with those of its length first.
-pub fn operator_code(name: &[u8]) -> Lookup
-    ensures { λ r. ⌜ r ≡ operatorCode (now (name .entry)) ⌝ }
+// The code that a name of its length gives, if any.
+fn operator_code_hint(name: &[u8]) -> Lookup
+    ensures { λ r. ⌜ Hinted (operatorCode (now (name .entry))) r ⌝ }
 {
     let n = name.len();
     if n <= 5 {
-        return settled(of_two_to_five(name), name);
+        return of_two_to_five(name);
     }
     if n <= 9 {
-        return settled(of_six_to_nine(name), name);
+        return of_six_to_nine(name);
     }
     if n <= 14 {
-        return settled(of_ten_to_fourteen(name), name);
+        return of_ten_to_fourteen(name);
     }
-    settled(of_fifteen_to_twenty(name), name)
+    of_fifteen_to_twenty(name)
+}
+
+// A name that no run has is left to the rows; one longer than all, at once.
+pub fn operator_code(name: &[u8]) -> Lookup
+    ensures { λ r. ⌜ r ≡ operatorCode (now (name .entry)) ⌝ }
+{
+    if 20 < name.len() {
+        return names::operator_code(name);
+    }
+    match operator_code_hint(name) {
+        Lookup::Code(code) => Lookup::Code(code),
+        Lookup::Unknown => names::operator_code(name),
+    }
 }

@@ -146,36 +146,38 @@ fn of_twenty_and_more(name: &[u8]) -> Lookup
     }
 }
 
-// A name in other letters, or of no variable, is left to the search by halves, which stays a call.
-fn settled(hint: Lookup, name: &[u8]) -> Lookup
-    requires { ⌜ Hinted (variableCode (now name)) hint ⌝ }
-    ensures { λ r. ⌜ r ≡ variableCode (now (name .entry)) ⌝ }
-{
-    match hint {
-        Lookup::Code(code) => Lookup::Code(code),
-        Lookup::Unknown => names::variable_code(name),
-    }
-}
-
-// A name is compared with those of its length first.
-pub fn variable_code(name: &[u8]) -> Lookup
-    ensures { λ r. ⌜ r ≡ variableCode (now (name .entry)) ⌝ }
+// The code that a name of its length gives, if any.
+fn variable_code_hint(name: &[u8]) -> Lookup
+    ensures { λ r. ⌜ Hinted (variableCode (now (name .entry))) r ⌝ }
 {
     let n = name.len();
     if n <= 5 {
-        return settled(of_two_to_five(name), name);
+        return of_two_to_five(name);
     }
     if n <= 9 {
-        return settled(of_six_to_nine(name), name);
+        return of_six_to_nine(name);
     }
     if n <= 12 {
-        return settled(of_ten_to_twelve(name), name);
+        return of_ten_to_twelve(name);
     }
     if n <= 15 {
-        return settled(of_thirteen_to_fifteen(name), name);
+        return of_thirteen_to_fifteen(name);
     }
     if n <= 19 {
-        return settled(of_sixteen_to_nineteen(name), name);
+        return of_sixteen_to_nineteen(name);
     }
-    settled(of_twenty_and_more(name), name)
+    of_twenty_and_more(name)
+}
+
+// A name in other letters, or of no variable, is left to the search by halves; one longer than all, at once.
+pub fn variable_code(name: &[u8]) -> Lookup
+    ensures { λ r. ⌜ r ≡ variableCode (now (name .entry)) ⌝ }
+{
+    if 27 < name.len() {
+        return names::variable_code(name);
+    }
+    match variable_code_hint(name) {
+        Lookup::Code(code) => Lookup::Code(code),
+        Lookup::Unknown => names::variable_code(name),
+    }
 }
