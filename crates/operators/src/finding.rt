@@ -51,11 +51,17 @@ fn gap_width(s: &[u8]) -> usize
 fn ends_name(b: u8) -> bool
     ensures { λ r. ⌜ r ≡ operatorNameEnd b ⌝ }
 {
-    // Nearly every byte of a name is past the blank, and one test is enough for it.
+    ascii::ends_operator_name(b)
+}
+
+// The same: nearly every byte of a name is past the blank, and one test is enough for it.
+fn stops_name(b: u8) -> bool
+    ensures { λ r. ⌜ r ≡ operatorNameEnd b ⌝ }
+{
     if 32 < b {
         return false;
     }
-    ascii::ends_operator_name(b)
+    ends_name(b)
 }
 
 // How many bytes stand before the first that ends a name.
@@ -64,7 +70,7 @@ fn name_length(s: &[u8]) -> usize
 {
     let mut i = 0;
     while i < s.len() {
-        if ends_name(s[i]) {
+        if stops_name(s[i]) {
             return i;
         }
         i += 1;

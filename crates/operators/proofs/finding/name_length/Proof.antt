@@ -20,16 +20,16 @@ abbrev μ-loop : tie.MeasureT-loop
 loop-holds : tie.Need-loop-holds Inv-loop μ-loop
 loop-holds c = (omega arith, omega arith)
 
-shared-slice-read-ends-name :
-    tie.Need-shared-slice-read-ends-name Inv-loop μ-loop
-shared-slice-read-ends-name c = search needs
+shared-slice-read-stops-name :
+    tie.Need-shared-slice-read-stops-name Inv-loop μ-loop
+shared-slice-read-stops-name c = search needs
 
-ends-name-requires : tie.Need-ends-name-requires Inv-loop μ-loop
-ends-name-requires c κs = search needs
+stops-name-requires : tie.Need-stops-name-requires Inv-loop μ-loop
+stops-name-requires c κs = search needs
 
 returns : tie.Need-returns Inv-loop μ-loop
 returns c =
-    let w = sym (c .before .ends-name .ensures) ∙ c .if1 .taken in
+    let w = sym (c .before .stops-name .ensures) ∙ c .if1 .taken in
     omega (arith, name-stop (now (c .before .before .before .before .before .before .args .s)) (c .before .before .before .before .loop .i) (c .before .before .before .loop-test .taken) w)
 
 add-i : tie.Need-add-i Inv-loop μ-loop
@@ -40,7 +40,7 @@ loop-less c = search needs
 
 loop-again : tie.Need-loop-again Inv-loop μ-loop
 loop-again c =
-    let w = sym (c .before .ends-name .ensures) ∙ c .if1 .left in
+    let w = sym (c .before .stops-name .ensures) ∙ c .if1 .left in
     omega (arith, name-more (now (c .before .before .before .before .before .before .args .s)) (c .before .before .before .before .loop .i) (c .before .before .before .loop-test .taken) w)
 
 returns-2 : tie.Need-returns-2 Inv-loop μ-loop
@@ -53,8 +53,8 @@ name-length-spec =
     Inv-loop
     μ-loop
     loop-holds
-    shared-slice-read-ends-name
-    ends-name-requires
+    shared-slice-read-stops-name
+    stops-name-requires
     returns
     add-i
     loop-less
