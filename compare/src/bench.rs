@@ -9,10 +9,12 @@ use crate::readers::Reader;
 use crate::{original, ours, real};
 use std::hint::black_box;
 use std::path::PathBuf;
-use std::time::Instant;
 
 /// Rounds of each side in turn; the median of each is shown.
 const ROUNDS: usize = 11;
+
+/// How long a round is, in nanoseconds.
+const ROUND: f64 = 1e8;
 
 /// The inputs of each row.
 #[derive(Default)]
@@ -90,15 +92,19 @@ impl Room {
     }
 }
 
-/// Nanoseconds that this thread ran, which other programs on the machine do not add to; by the wall where Linux does not say.
-struct Clock(Instant);
+extern "C" {
+    fn clock_gettime(clock: i32, time: *mut [i64; 2]) -> i32;
+}
 
-impl Clock {
-    fn ran(&self) -> f64 {
-        let said = std::fs::read_to_string("/proc/thread-self/schedstat").ok();
-        let ran = said.and_then(|line| line.split(' ').next()?.parse().ok());
-        ran.unwrap_or_else(|| self.0.elapsed().as_nanos() as f64)
-    }
+/// CLOCK_THREAD_CPUTIME_ID of Linux.
+const OF_THIS_THREAD: i32 = 3;
+
+/// Nanoseconds that this thread ran, which other programs on the machine do not add to.
+fn ran() -> f64 {
+    let mut time = [0; 2];
+    let done = unsafe { clock_gettime(OF_THIS_THREAD, &mut time) };
+    assert_eq!(done, 0, "no clock of this thread");
+    time[0] as f64 * 1e9 + time[1] as f64
 }
 
 struct Row<'a> {
@@ -212,17 +218,20 @@ impl Row<'_> {
         }
     }
 
-    /// Nanoseconds for a pass, the median over rounds of so many passes.
+    /// Nanoseconds for a pass of one side, over so many.
+    fn timed(&self, ours: bool, passes: usize, room: &mut Room) -> f64 {
+        let began = ran();
+        (0..passes).for_each(|_| self.pass(ours, room));
+        (ran() - began) / passes as f64
+    }
+
+    /// Nanoseconds for a pass of each side: the median over rounds of so many passes that a round takes some ROUND.
     fn medians(&self, room: &mut Room) -> [f64; 2] {
-        // long enough that the clock, which may go by ticks of 4 ms, tells them apart
-        let passes = 1 + 30_000_000 / (self.bytes() + 1);
-        let clock = Clock(Instant::now());
+        let passes = [true, false].map(|ours| 1 + (ROUND / self.timed(ours, 1 + 1_000_000 / (self.bytes() + 1), room)) as usize);
         let mut times = [Vec::new(), Vec::new()];
         for _ in 0..ROUNDS {
             for (side, of) in times.iter_mut().enumerate() {
-                let began = clock.ran();
-                (0..passes).for_each(|_| self.pass(side == 0, room));
-                of.push((clock.ran() - began) / passes as f64);
+                of.push(self.timed(side == 0, passes[side], room));
             }
         }
         times.map(|mut of| {

@@ -1,10 +1,8 @@
 -- A run of names of one length, and what a name found in it says.
 use mathlib.Core.Path.{_≡_}
 use Prim.Native.Nat.{ℕ}
-use mathlib.Core.Bool.{Bool, true, false}
 use mathlib.Core.List.{List, [], _∷_}
 use lib.ListN.{length, take, drop}
-use Rattle.ascii.specs.Fold.{lowered}
 use Rattle.names.specs.Tables.{Row, find}
 use Rattle.names.specs.declared.Lookup.{Lookup}
 use Rattle.names.specs.declared.Lookup.the-variants.{Code, Unknown}
@@ -14,14 +12,9 @@ unfoldable pub cut : ℕ → List ℕ → List ℕ → List Row
 cut n run [] = []
 cut n run (c ∷ codes) = record { name = take n run; code = c } ∷ cut n (drop n run) codes
 
--- a name as it is compared: in small letters, or as it stands
-abbrev pub spelled : Bool → List ℕ → List ℕ
-spelled true name = lowered name
-spelled false name = name
-
 -- r is the code of the first name of the run, cut by the name's own length, that is the name
-pub record InRun (run codes name : List ℕ) (caseless : Bool) (r : Lookup) : Type 0 where
-  pub first : r ≡ find (cut (length name) run codes) (spelled caseless name)
+pub record InRun (run codes name : List ℕ) (r : Lookup) : Type 0 where
+  pub first : r ≡ find (cut (length name) run codes) name
 
 -- nothing is said, or what the answer is
 abbrev pub Hinted : Lookup → Lookup → Type 0

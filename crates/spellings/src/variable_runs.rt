@@ -10,10 +10,10 @@ fn of_two_to_five(name: &[u8]) -> Lookup
     ensures { λ r. ⌜ Hinted (variableCode (now (name .entry))) r ⌝ }
 {
     match name.len() {
-        2 => code_in(name, b"TXIP", &[35, 38], false),
-        3 => code_in(name, b"XMLENVGEO", &[79, 37, 42], false),
-        4 => code_in(name, b"ARGSUSERTIME", &[0, 41, 47], false),
-        5 => code_in(name, b"FILES", &[56], false),
+        2 => code_in(name, b"TXIP", &[35, 38]),
+        3 => code_in(name, b"XMLENVGEO", &[79, 37, 42]),
+        4 => code_in(name, b"ARGSUSERTIME", &[0, 41, 47]),
+        5 => code_in(name, b"FILES", &[56]),
         _ => Lookup::Unknown,
     }
 }
@@ -23,19 +23,17 @@ fn of_six_to_nine(name: &[u8]) -> Lookup
     ensures { λ r. ⌜ Hinted (variableCode (now (name .entry))) r ⌝ }
 {
     match name.len() {
-        6 => code_in(name, b"GLOBAL", &[39], false),
-        7 => code_in(name, b"SESSION", &[36], false),
+        6 => code_in(name, b"GLOBAL", &[39]),
+        7 => code_in(name, b"SESSION", &[36]),
         8 => code_in(
             name,
             b"ARGS_GETRESOURCETIME_DAYTIME_MINTIME_SECTIME_MONDURATION",
             &[1, 40, 49, 51, 52, 54, 64],
-            false,
         ),
         9 => code_in(
             name,
             b"ARGS_POSTTIME_HOURTIME_WDAYTIME_YEARUNIQUE_IDAUTH_TYPE",
             &[2, 50, 53, 55, 61, 85],
-            false,
         ),
         _ => Lookup::Unknown,
     }
@@ -46,18 +44,16 @@ fn of_ten_to_twelve(name: &[u8]) -> Lookup
     ensures { λ r. ⌜ Hinted (variableCode (now (name .entry))) r ⌝ }
 {
     match name.len() {
-        10 => code_in(name, b"ARGS_NAMESTIME_EPOCH", &[3, 48], false),
+        10 => code_in(name, b"ARGS_NAMESTIME_EPOCH", &[3, 48]),
         11 => code_in(
             name,
             b"REQUEST_URIREMOTE_ADDRREMOTE_PORTREMOTE_HOSTREMOTE_USERSERVER_ADDRSERVER_PORTSERVER_NAMEMATCHED_VARFILES_SIZESFILES_NAMESSTATUS_LINE",
             &[7, 28, 29, 30, 31, 32, 33, 34, 43, 57, 60, 82],
-            false,
         ),
         12 => code_in(
             name,
             b"REQUEST_LINEREQUEST_BODYQUERY_STRINGMATCHED_VARSFULL_REQUEST",
             &[11, 18, 20, 44, 83],
-            false,
         ),
         _ => Lookup::Unknown,
     }
@@ -68,18 +64,16 @@ fn of_thirteen_to_fifteen(name: &[u8]) -> Lookup
     ensures { λ r. ⌜ Hinted (variableCode (now (name .entry))) r ⌝ }
 {
     match name.len() {
-        13 => code_in(name, b"RESPONSE_BODYREQBODY_ERROR", &[25, 87], false),
+        13 => code_in(name, b"RESPONSE_BODYREQBODY_ERROR", &[25, 87]),
         14 => code_in(
             name,
             b"REQUEST_METHODARGS_GET_NAMESFILES_TMPNAMES",
             &[12, 4, 58],
-            false,
         ),
         15 => code_in(
             name,
             b"REQUEST_HEADERSREQUEST_COOKIESARGS_POST_NAMESREQUEST_URI_RAWRESPONSE_STATUS",
             &[14, 16, 5, 8, 21],
-            false,
         ),
         _ => Lookup::Unknown,
     }
@@ -94,25 +88,17 @@ fn of_sixteen_to_nineteen(name: &[u8]) -> Lookup
             name,
             b"REQUEST_FILENAMEREQUEST_BASENAMEREQUEST_PROTOCOLRESPONSE_HEADERSMATCHED_VAR_NAMEHIGHEST_SEVERITY",
             &[9, 10, 13, 23, 45, 81],
-            false,
         ),
         17 => code_in(
             name,
             b"RESPONSE_PROTOCOLREQBODY_PROCESSORREQBODY_ERROR_MSG",
             &[22, 86, 88],
-            false,
         ),
-        18 => code_in(
-            name,
-            b"ARGS_COMBINED_SIZEMATCHED_VARS_NAMES",
-            &[6, 46],
-            false,
-        ),
+        18 => code_in(name, b"ARGS_COMBINED_SIZEMATCHED_VARS_NAMES", &[6, 46]),
         19 => code_in(
             name,
             b"REQUEST_BODY_LENGTHFILES_COMBINED_SIZEFULL_REQUEST_LENGTH",
             &[19, 59, 84],
-            false,
         ),
         _ => Lookup::Unknown,
     }
@@ -127,21 +113,18 @@ fn of_twenty_and_more(name: &[u8]) -> Lookup
             name,
             b"REQUEST_COOKIES_NAMESREQUEST_HEADERS_NAMESRESPONSE_CONTENT_TYPE",
             &[17, 15, 26],
-            false,
         ),
         22 => code_in(
             name,
             b"RESPONSE_HEADERS_NAMESMULTIPART_STRICT_ERRORMULTIPART_PART_HEADERS",
             &[24, 91, 78],
-            false,
         ),
         23 => code_in(
             name,
             b"RESPONSE_CONTENT_LENGTHREQBODY_PROCESSOR_ERROR",
             &[27, 89],
-            false,
         ),
-        27 => code_in(name, b"REQBODY_PROCESSOR_ERROR_MSG", &[90], false),
+        27 => code_in(name, b"REQBODY_PROCESSOR_ERROR_MSG", &[90]),
         _ => Lookup::Unknown,
     }
 }

@@ -5,17 +5,16 @@ use native.Mathlib.Omega.{arith}
 use borrow.Author.Needs.{needs}
 use denote.Ref.{now}
 use lib.ListN.{length, drop, length-drop}
-use Rattle.spellings.specs.Runs.{spelled}
-use Rattle.spellings.proofs.RunLaws.{spelled-length, left, found, passed, none-left, too-short}
+use Rattle.spellings.proofs.RunLaws.{left, found, passed, none-left, too-short}
 use Rattle.spellings.proofs.matching.code_in.Statement.{statement}
 use Rattle.spellings.proofs.matching.code_in.Tie as tie
 
 abbrev Inv-loop : tie.InvT-loop
-Inv-loop name run codes caseless n at₀ k₀ at k =
-    (at ≤ length run) × (left (length name) run codes (spelled caseless name) at k ≡ left (length name) run codes (spelled caseless name) 0 0)
+Inv-loop name run codes n at₀ k₀ at k =
+    (at ≤ length run) × (left (length name) run codes name at k ≡ left (length name) run codes name 0 0)
 
 abbrev μ-loop : tie.MeasureT-loop
-μ-loop name run codes caseless n at₀ k₀ at k = length codes - k
+μ-loop name run codes n at₀ k₀ at k = length codes - k
 
 loop-holds : tie.Need-loop-holds Inv-loop μ-loop
 loop-holds c = (omega arith, refl)
@@ -29,31 +28,31 @@ returns c =
     let l = c .before .before .loop in
     let run = now (s .run) in
     record {
-      first = sym (too-short (length (now (s .name))) (drop (l .at) run) (drop (l .k) (now (s .codes))) (spelled (s .caseless) (now (s .name)))
-          (omega (arith, length-drop (l .at) run)) (spelled-length (s .caseless) (now (s .name))))
+      first = sym (too-short (length (now (s .name))) (drop (l .at) run) (drop (l .k) (now (s .codes))) (now (s .name))
+          (omega (arith, length-drop (l .at) run)) refl)
           ∙ l .inv .1;
     }
 
 add-past : tie.Need-add-past Inv-loop μ-loop
 add-past c = omega arith
 
-sub-is-name : tie.Need-sub-is-name Inv-loop μ-loop
-sub-is-name c = omega arith
+sub-is-same : tie.Need-sub-is-same Inv-loop μ-loop
+sub-is-same c = omega arith
 
-part-is-name-start : tie.Need-part-is-name-start Inv-loop μ-loop
-part-is-name-start c = omega arith
+part-is-same-start : tie.Need-part-is-same-start Inv-loop μ-loop
+part-is-same-start c = omega arith
 
-part-is-name-end : tie.Need-part-is-name-end Inv-loop μ-loop
-part-is-name-end c = omega arith
+part-is-same-end : tie.Need-part-is-same-end Inv-loop μ-loop
+part-is-same-end c = omega arith
 
-is-name-requires : tie.Need-is-name-requires Inv-loop μ-loop
-is-name-requires c κs = search needs
+is-same-requires : tie.Need-is-same-requires Inv-loop μ-loop
+is-same-requires c κs = search needs
 
-mul-t16 : tie.Need-mul-t16 Inv-loop μ-loop
-mul-t16 c = search needs
+mul-t15 : tie.Need-mul-t15 Inv-loop μ-loop
+mul-t15 c = search needs
 
-shared-slice-read-t18 : tie.Need-shared-slice-read-t18 Inv-loop μ-loop
-shared-slice-read-t18 c = search needs
+shared-slice-read-t17 : tie.Need-shared-slice-read-t17 Inv-loop μ-loop
+shared-slice-read-t17 c = search needs
 
 returns-2 : tie.Need-returns-2 Inv-loop μ-loop
 returns-2 c =
@@ -62,8 +61,8 @@ returns-2 c =
     let n = length (now (s .name)) in
     let e : l .at + n - l .at ≡ n = omega arith in
     record {
-      first = found n (now (s .run)) (now (s .codes)) (spelled (s .caseless) (now (s .name))) (l .at) (l .k) (omega arith)
-          (rw e at (sym (c .before .before .is-name .ensures) ∙ c .before .if2 .taken))
+      first = found n (now (s .run)) (now (s .codes)) (now (s .name)) (l .at) (l .k) (omega arith)
+          (rw e at (sym (c .before .before .is-same .ensures) ∙ c .before .if2 .taken))
           ∙ l .inv .1;
     }
 
@@ -80,8 +79,8 @@ loop-again c =
     let n = length (now (s .name)) in
     let e : l .at + n - l .at ≡ n = omega arith in (
       omega arith,
-      passed n (now (s .run)) (now (s .codes)) (spelled (s .caseless) (now (s .name))) (l .at) (l .k) (omega arith)
-          (rw e at (sym (c .before .is-name .ensures) ∙ c .if2 .left))
+      passed n (now (s .run)) (now (s .codes)) (now (s .name)) (l .at) (l .k) (omega arith)
+          (rw e at (sym (c .before .is-same .ensures) ∙ c .if2 .left))
           ∙ l .inv .1,
     )
 
@@ -90,7 +89,7 @@ returns-3 c =
     let s = c .before .before .before .before .before .args in
     let l = c .before .loop in
     record {
-      first = sym (none-left (length (now (s .name))) (now (s .run)) (now (s .codes)) (spelled (s .caseless) (now (s .name))) (l .at) (l .k) (c .loop-test .left))
+      first = sym (none-left (length (now (s .name))) (now (s .run)) (now (s .codes)) (now (s .name)) (l .at) (l .k) (c .loop-test .left))
           ∙ l .inv .1;
     }
 
@@ -104,12 +103,12 @@ code-in-spec =
     sub-if1
     returns
     add-past
-    sub-is-name
-    part-is-name-start
-    part-is-name-end
-    is-name-requires
-    mul-t16
-    shared-slice-read-t18
+    sub-is-same
+    part-is-same-start
+    part-is-same-end
+    is-same-requires
+    mul-t15
+    shared-slice-read-t17
     returns-2
     add-k
     loop-less

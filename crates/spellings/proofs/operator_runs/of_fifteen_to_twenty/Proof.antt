@@ -1,9 +1,9 @@
--- What each run holds is answered with its code, by one computed test.
+-- One computed test for each run: its names have its codes.
 use mathlib.Core.Path.{refl}
 use native.Mathlib.Omega.{arith}
 use borrow.Author.Needs.{needs}
 use Rattle.ascii.specs.Text.{bytes}
-use Rattle.ascii.specs.Fold.{same}
+use Rattle.ascii.specs.Fold.{lower, same}
 use Rattle.names.specs.Tables.{find, answered}
 use Rattle.names.specs.Operators.{operators, operatorCode}
 use Rattle.spellings.specs.Runs.{cut}
@@ -57,24 +57,24 @@ code-in-requires-5 : tie.Need-code-in-requires-5
 code-in-requires-5 c κs = search needs
 
 returns : tie.Need-returns
-unfolding operatorCode answered cut find operators same bytes
-returns c = hint (find operators) 15 (c .code-in .ensures) (omega arith) refl
+unfolding answered cut operatorCode find operators same bytes lower
+returns c = hint operatorCode 15 (c .code-in .ensures) (omega arith) refl
 
 returns-2 : tie.Need-returns-2
-unfolding operatorCode answered cut find operators same bytes
-returns-2 c = hint (find operators) 17 (c .code-in2 .ensures) (omega arith) refl
+unfolding answered cut operatorCode find operators same bytes lower
+returns-2 c = hint operatorCode 17 (c .code-in2 .ensures) (omega arith) refl
 
 returns-3 : tie.Need-returns-3
-unfolding operatorCode answered cut find operators same bytes
-returns-3 c = hint (find operators) 18 (c .code-in3 .ensures) (omega arith) refl
+unfolding answered cut operatorCode find operators same bytes lower
+returns-3 c = hint operatorCode 18 (c .code-in3 .ensures) (omega arith) refl
 
 returns-4 : tie.Need-returns-4
-unfolding operatorCode answered cut find operators same bytes
-returns-4 c = hint (find operators) 19 (c .code-in4 .ensures) (omega arith) refl
+unfolding answered cut operatorCode find operators same bytes lower
+returns-4 c = hint operatorCode 19 (c .code-in4 .ensures) (omega arith) refl
 
 returns-5 : tie.Need-returns-5
-unfolding operatorCode answered cut find operators same bytes
-returns-5 c = hint (find operators) 20 (c .code-in5 .ensures) (omega arith) refl
+unfolding answered cut operatorCode find operators same bytes lower
+returns-5 c = hint operatorCode 20 (c .code-in5 .ensures) (omega arith) refl
 
 returns-6 : tie.Need-returns-6
 returns-6 c = search needs

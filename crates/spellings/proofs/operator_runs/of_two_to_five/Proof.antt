@@ -1,9 +1,9 @@
--- What each run holds is answered with its code, by one computed test.
+-- One computed test for each run: its names have its codes.
 use mathlib.Core.Path.{refl}
 use native.Mathlib.Omega.{arith}
 use borrow.Author.Needs.{needs}
 use Rattle.ascii.specs.Text.{bytes}
-use Rattle.ascii.specs.Fold.{same}
+use Rattle.ascii.specs.Fold.{lower, same}
 use Rattle.names.specs.Tables.{find, answered}
 use Rattle.names.specs.Operators.{operators, operatorCode}
 use Rattle.spellings.specs.Runs.{cut}
@@ -48,20 +48,20 @@ code-in-requires-4 : tie.Need-code-in-requires-4
 code-in-requires-4 c κs = search needs
 
 returns : tie.Need-returns
-unfolding operatorCode answered cut find operators same bytes
-returns c = hint (find operators) 2 (c .code-in .ensures) (omega arith) refl
+unfolding answered cut operatorCode find operators same bytes lower
+returns c = hint operatorCode 2 (c .code-in .ensures) (omega arith) refl
 
 returns-2 : tie.Need-returns-2
-unfolding operatorCode answered cut find operators same bytes
-returns-2 c = hint (find operators) 3 (c .code-in2 .ensures) (omega arith) refl
+unfolding answered cut operatorCode find operators same bytes lower
+returns-2 c = hint operatorCode 3 (c .code-in2 .ensures) (omega arith) refl
 
 returns-3 : tie.Need-returns-3
-unfolding operatorCode answered cut find operators same bytes
-returns-3 c = hint (find operators) 4 (c .code-in3 .ensures) (omega arith) refl
+unfolding answered cut operatorCode find operators same bytes lower
+returns-3 c = hint operatorCode 4 (c .code-in3 .ensures) (omega arith) refl
 
 returns-4 : tie.Need-returns-4
-unfolding operatorCode answered cut find operators same bytes
-returns-4 c = hint (find operators) 5 (c .code-in4 .ensures) (omega arith) refl
+unfolding answered cut operatorCode find operators same bytes lower
+returns-4 c = hint operatorCode 5 (c .code-in4 .ensures) (omega arith) refl
 
 returns-5 : tie.Need-returns-5
 returns-5 c = search needs

@@ -1,15 +1,15 @@
--- What each run holds is answered with its code, by one computed test.
+-- One computed test for each run: its names have its codes.
 use mathlib.Core.Path.{refl}
 use native.Mathlib.Omega.{arith}
 use borrow.Author.Needs.{needs}
 use Rattle.ascii.specs.Text.{bytes}
-use Rattle.ascii.specs.Fold.{same}
+use Rattle.ascii.specs.Fold.{lower, same}
 use Rattle.names.specs.Tables.{find, answered}
 use Rattle.names.specs.Operators.{operators, operatorCode}
 use Rattle.spellings.specs.Runs.{cut}
 use Rattle.spellings.proofs.RunLaws.{hint}
-use Rattle.spellings.proofs.operator_runs.of_six_to_nine.Statement.{statement}
-use Rattle.spellings.proofs.operator_runs.of_six_to_nine.Tie as tie
+use Rattle.spellings.proofs.operator_runs.of_eleven_to_fourteen.Statement.{statement}
+use Rattle.spellings.proofs.operator_runs.of_eleven_to_fourteen.Tie as tie
 
 slice-aggregate-code-in : tie.Need-slice-aggregate-code-in
 slice-aggregate-code-in c = search needs
@@ -38,36 +38,23 @@ slice-aggregate-code-in-6 c = search needs
 code-in-requires-3 : tie.Need-code-in-requires-3
 code-in-requires-3 c κs = search needs
 
-slice-aggregate-code-in-7 : tie.Need-slice-aggregate-code-in-7
-slice-aggregate-code-in-7 c = search needs
-
-slice-aggregate-code-in-8 : tie.Need-slice-aggregate-code-in-8
-slice-aggregate-code-in-8 c = search needs
-
-code-in-requires-4 : tie.Need-code-in-requires-4
-code-in-requires-4 c κs = search needs
-
 returns : tie.Need-returns
-unfolding operatorCode answered cut find operators same bytes
-returns c = hint (find operators) 6 (c .code-in .ensures) (omega arith) refl
+unfolding answered cut operatorCode find operators same bytes lower
+returns c = hint operatorCode 11 (c .code-in .ensures) (omega arith) refl
 
 returns-2 : tie.Need-returns-2
-unfolding operatorCode answered cut find operators same bytes
-returns-2 c = hint (find operators) 7 (c .code-in2 .ensures) (omega arith) refl
+unfolding answered cut operatorCode find operators same bytes lower
+returns-2 c = hint operatorCode 12 (c .code-in2 .ensures) (omega arith) refl
 
 returns-3 : tie.Need-returns-3
-unfolding operatorCode answered cut find operators same bytes
-returns-3 c = hint (find operators) 8 (c .code-in3 .ensures) (omega arith) refl
+unfolding answered cut operatorCode find operators same bytes lower
+returns-3 c = hint operatorCode 14 (c .code-in3 .ensures) (omega arith) refl
 
 returns-4 : tie.Need-returns-4
-unfolding operatorCode answered cut find operators same bytes
-returns-4 c = hint (find operators) 9 (c .code-in4 .ensures) (omega arith) refl
+returns-4 c = search needs
 
-returns-5 : tie.Need-returns-5
-returns-5 c = search needs
-
-pub of-six-to-nine-spec : {M : Type 1} → statement M
-of-six-to-nine-spec =
+pub of-eleven-to-fourteen-spec : {M : Type 1} → statement M
+of-eleven-to-fourteen-spec =
     tie.close
     (tie.spec
     slice-aggregate-code-in
@@ -79,11 +66,7 @@ of-six-to-nine-spec =
     slice-aggregate-code-in-5
     slice-aggregate-code-in-6
     code-in-requires-3
-    slice-aggregate-code-in-7
-    slice-aggregate-code-in-8
-    code-in-requires-4
     returns
     returns-2
     returns-3
-    returns-4
-    returns-5)
+    returns-4)
