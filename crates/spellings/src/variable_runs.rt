@@ -153,7 +153,7 @@ fn variable_code_hint(name: &[u8]) -> Lookup
 }
 
 // A name in other letters, or of no variable, is left to the search by halves; one longer than all, at once.
-pub fn variable_code(name: &[u8]) -> Lookup
+fn by_length(name: &[u8]) -> Lookup
     ensures { λ r. ⌜ r ≡ variableCode (now (name .entry)) ⌝ }
 {
     if 27 < name.len() {
@@ -162,5 +162,33 @@ pub fn variable_code(name: &[u8]) -> Lookup
     match variable_code_hint(name) {
         Lookup::Code(code) => Lookup::Code(code),
         Lookup::Unknown => names::variable_code(name),
+    }
+}
+
+// The names that rules have most often. Where a length has one of them alone, it is one or two wide comparisons.
+fn commonest(name: &[u8]) -> Lookup
+    ensures { λ r. ⌜ Hinted (variableCode (now (name .entry))) r ⌝ }
+{
+    match name.len() {
+        2 => code_in(name, b"TX", &[35]),
+        3 => code_in(name, b"XML", &[79]),
+        4 => code_in(name, b"ARGS", &[0]),
+        10 => code_in(name, b"ARGS_NAMES", &[3]),
+        11 => code_in(name, b"REQUEST_URI", &[7]),
+        13 => code_in(name, b"RESPONSE_BODY", &[25]),
+        14 => code_in(name, b"REQUEST_METHOD", &[12]),
+        15 => code_in(name, b"REQUEST_COOKIESREQUEST_HEADERS", &[16, 14]),
+        16 => code_in(name, b"REQUEST_FILENAME", &[9]),
+        21 => code_in(name, b"REQUEST_COOKIES_NAMES", &[17]),
+        _ => Lookup::Unknown,
+    }
+}
+
+pub fn variable_code(name: &[u8]) -> Lookup
+    ensures { λ r. ⌜ r ≡ variableCode (now (name .entry)) ⌝ }
+{
+    match commonest(name) {
+        Lookup::Code(code) => Lookup::Code(code),
+        Lookup::Unknown => by_length(name),
     }
 }

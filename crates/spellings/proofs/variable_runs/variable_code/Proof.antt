@@ -4,14 +4,8 @@ use Rattle.spellings.proofs.RunLaws.{hint-is}
 use Rattle.spellings.proofs.variable_runs.variable_code.Statement.{statement}
 use Rattle.spellings.proofs.variable_runs.variable_code.Tie as tie
 
-variable-code-requires : tie.Need-variable-code-requires
-variable-code-requires c κs = search needs
-
-returns : tie.Need-returns
-returns c = search needs
-
-variable-code-hint-requires : tie.Need-variable-code-hint-requires
-variable-code-hint-requires c κs = search needs
+commonest-requires : tie.Need-commonest-requires
+commonest-requires c κs = search needs
 
 enum-known-code : tie.Need-enum-known-code
 enum-known-code c = search needs
@@ -19,24 +13,16 @@ enum-known-code c = search needs
 enum-told : tie.Need-enum-told
 enum-told c = search needs
 
-variable-code-requires-2 : tie.Need-variable-code-requires-2
-variable-code-requires-2 c κs = search needs
+by-length-requires : tie.Need-by-length-requires
+by-length-requires c κs = search needs
+
+returns : tie.Need-returns
+returns c = hint-is (c .before .before .before .commonest .ensures) (c .before .code .given .1)
 
 returns-2 : tie.Need-returns-2
-returns-2 c = hint-is (c .before .before .before .variable-code-hint .ensures) (c .before .code .given .1)
-
-returns-3 : tie.Need-returns-3
-returns-3 c = search needs
+returns-2 c = search needs
 
 pub variable-code-spec : {M : Type 1} → statement M
 variable-code-spec =
     tie.close
-    (tie.spec
-    variable-code-requires
-    returns
-    variable-code-hint-requires
-    enum-known-code
-    enum-told
-    variable-code-requires-2
-    returns-2
-    returns-3)
+    (tie.spec commonest-requires enum-known-code enum-told by-length-requires returns returns-2)
