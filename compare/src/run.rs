@@ -94,6 +94,25 @@ impl Run {
         }
     }
 
+    /// Each name in three letter cases, one byte shorter and longer, and with every other byte at each of its places.
+    fn names(&mut self) {
+        let before = self.done();
+        for name in original::names() {
+            let longer = [name.as_bytes(), b"\0"].concat();
+            let spellings = [name.to_lowercase().into_bytes(), name.to_uppercase().into_bytes(), name.as_bytes()[1..].to_vec(), longer];
+            let changed = (0..name.len()).flat_map(|place| (0..=255).map(move |byte| (place, byte)));
+            let near = changed.map(|(place, byte)| {
+                let mut text = name.as_bytes().to_vec();
+                text[place] = byte;
+                text
+            });
+            if !spellings.into_iter().chain(near).all(|text| self.case(Reader::Lookup, &text)) {
+                return;
+            }
+        }
+        println!("every name, and every other byte at each of its places: {} cases", self.done() - before);
+    }
+
     /// Each reader at the limit and beside it, with each shape of what is lent.
     fn limits(&mut self) {
         for reader in TEXT_READERS {
@@ -200,6 +219,9 @@ pub fn all(wanted: &Wanted) -> bool {
             real.arguments.len(),
             run.done() - before
         );
+    }
+    if run.fine {
+        run.names();
     }
     if run.fine && !wanted.alone {
         run.limits();
