@@ -33,21 +33,9 @@ module _ (t : List ℕ) where
   unfolding keyTarget
   is-neither e f = rw (← elements t, e, ← attributes t, f)
 
-slice-aggregate-same-lowered : tie.Need-slice-aggregate-same-lowered
-slice-aggregate-same-lowered c = search needs
-
-same-lowered-requires : tie.Need-same-lowered-requires
-same-lowered-requires c κs = search needs
-
 returns : tie.Need-returns
 unfolding bytes
 returns c = sym (is-elements _ (sym (c .before .same-lowered .ensures) ∙ c .if1 .taken))
-
-slice-aggregate-same-lowered-2 : tie.Need-slice-aggregate-same-lowered-2
-slice-aggregate-same-lowered-2 c = search needs
-
-same-lowered-requires-2 : tie.Need-same-lowered-requires-2
-same-lowered-requires-2 c κs = search needs
 
 returns-2 : tie.Need-returns-2
 unfolding bytes
@@ -61,10 +49,10 @@ pub key-target-spec : {M : Type 1} → statement M
 key-target-spec =
     tie.close
     (tie.spec
-    slice-aggregate-same-lowered
-    same-lowered-requires
+    (λ c. search needs)
+    (λ c κs. search needs)
     returns
-    slice-aggregate-same-lowered-2
-    same-lowered-requires-2
+    (λ c. search needs)
+    (λ c κs. search needs)
     returns-2
     returns-3)

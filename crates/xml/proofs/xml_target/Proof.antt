@@ -6,12 +6,6 @@ use borrow.Author.Needs.{needs}
 use Rattle.xml.proofs.xml_target.Statement.{statement}
 use Rattle.xml.proofs.xml_target.Tie as tie
 
-trim-requires : tie.Need-trim-requires
-trim-requires c κs = search needs
-
-key-target-requires : tie.Need-key-target-requires
-key-target-requires c κs = search needs
-
 returns : tie.Need-returns
 unfolding xmlTarget
 returns c = rw (c .match .keys1)
@@ -26,4 +20,4 @@ returns-3 c = let n = c .before .before .args .selection in simp (ne-eqb n 0 (c 
 
 pub xml-target-spec : {M : Type 1} → statement M
 xml-target-spec =
-    tie.close (tie.spec trim-requires key-target-requires returns returns-2 returns-3)
+    tie.close (tie.spec (λ c κs. search needs) (λ c κs. search needs) returns returns-2 returns-3)

@@ -31,20 +31,8 @@ loop-holds c = cutting-none _ _ (c .before .pre)
 shared-slice-read-b : tie.Need-shared-slice-read-b Inv-loop μ-loop
 shared-slice-read-b c = omega arith
 
-add-first-of : tie.Need-add-first-of Inv-loop μ-loop
-add-first-of c = search needs
-
 sub-first-of : tie.Need-sub-first-of Inv-loop μ-loop
 sub-first-of c = omega arith
-
-part-first-of-start : tie.Need-part-first-of-start Inv-loop μ-loop
-part-first-of-start c = search needs
-
-part-first-of-end : tie.Need-part-first-of-end Inv-loop μ-loop
-part-first-of-end c = search needs
-
-first-of-requires : tie.Need-first-of-requires Inv-loop μ-loop
-first-of-requires c κs = search needs
 
 run-ends : (c : tie.After-first-of Inv-loop μ-loop) → c .before .before .before .before .before .loop .at + (1 + c .first-of .result) ≤ length (now (c .before .before .before .before .before .before .before .args .s))
 run-ends c = run-fits (c .before .before .before .before .before .loop .inv) (c .before .before .before .before .loop-test .taken) (mark-is _ (c .before .before .match .keys1)) _ (run-is c)
@@ -62,9 +50,6 @@ returns c =
 
 add-depth : tie.Need-add-depth Inv-loop μ-loop
 add-depth c = omega (arith, c .before .before .before .loop .inv .shallow)
-
-sub-depth : tie.Need-sub-depth Inv-loop μ-loop
-sub-depth c = search needs
 
 returns-2 : tie.Need-returns-2 Inv-loop μ-loop
 returns-2 c = cutting-stop (c .before .before .before .before .loop .inv) (c .before .before .before .loop-test .taken) (c .before .match .keys4) (c .if3 .taken)
@@ -112,16 +97,16 @@ part-end-spec =
     μ-loop
     loop-holds
     shared-slice-read-b
-    add-first-of
+    (λ c. search needs)
     sub-first-of
-    part-first-of-start
-    part-first-of-end
-    first-of-requires
+    (λ c. search needs)
+    (λ c. search needs)
+    (λ c κs. search needs)
     add-at
     add-at-2
     returns
     add-depth
-    sub-depth
+    (λ c. search needs)
     returns-2
     add-at-3
     loop-less

@@ -5,23 +5,11 @@ use Rattle.actions.proofs.FinishLaws.{scratch-fits, scratch-filled}
 use Rattle.actions.proofs.lists.fill_scratch.Statement.{statement}
 use Rattle.actions.proofs.lists.fill_scratch.Tie as tie
 
-normalise-requires : tie.Need-normalise-requires
-normalise-requires c κs = search needs
-
 sub-clear-bytes : tie.Need-sub-clear-bytes
 sub-clear-bytes c = scratch-fits (now (c .before .before .before .before .before .before .args .input)) (now (c .before .before .before .before .before .before .args .scratch)) _ (c .before .before .normalise .ensures) (c .before .before .normalise .kept .1 .0)
 
 part-clear-bytes-start : tie.Need-part-clear-bytes-start
 part-clear-bytes-start c = scratch-fits (now (c .before .before .before .before .before .before .args .input)) (now (c .before .before .before .before .before .before .args .scratch)) _ (c .before .before .normalise .ensures) (c .before .before .normalise .kept .1 .0)
-
-part-clear-bytes-end : tie.Need-part-clear-bytes-end
-part-clear-bytes-end c = search needs
-
-clear-bytes-requires : tie.Need-clear-bytes-requires
-clear-bytes-requires c κs = search needs
-
-same-length : tie.Need-same-length
-same-length c = search needs
 
 returns : tie.Need-returns
 returns c = (scratch-filled (now (c .before .before .before .before .before .before .before .before .before .before .args .input)) (now (c .before .before .before .before .before .before .before .before .before .before .args .scratch)) _ (c .before .before .before .before .before .before .normalise .ensures) (c .before .before .before .before .before .before .normalise .kept .1 .0) (c .before .before .clear-bytes .ensures), c .before .before .before .before .before .before .normalise .ensures .count)
@@ -30,10 +18,10 @@ pub fill-scratch-spec : {M : Type 1} → statement M
 fill-scratch-spec =
     tie.close
     (tie.spec
-    normalise-requires
+    (λ c κs. search needs)
     sub-clear-bytes
     part-clear-bytes-start
-    part-clear-bytes-end
-    clear-bytes-requires
-    same-length
+    (λ c. search needs)
+    (λ c κs. search needs)
+    (λ c. search needs)
     returns)

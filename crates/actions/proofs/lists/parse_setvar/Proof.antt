@@ -6,35 +6,14 @@ use Rattle.actions.proofs.PromiseLaws.{alone-too-long, alone-not-ascii,
 use Rattle.actions.proofs.lists.parse_setvar.Statement.{statement}
 use Rattle.actions.proofs.lists.parse_setvar.Tie as tie
 
-add-admit : tie.Need-add-admit
-add-admit c = search needs
-
-admit-requires : tie.Need-admit-requires
-admit-requires c κs = search needs
-
-enum-told : tie.Need-enum-told
-enum-told c = search needs
-
 returns : tie.Need-returns
 returns c = alone-too-long (now (c .before .before .before .before .before .before .args .input)) (now (c .before .before .before .before .before .before .args .text)) (now (c .before .before .before .before .before .before .args .records)) (c .before .before .admit .ensures) (c .enum-told .given .1)
-
-enum-known-place : tie.Need-enum-known-place
-enum-known-place c = search needs
 
 returns-2 : tie.Need-returns-2
 returns-2 c = alone-not-ascii (now (c .before .before .before .before .before .before .before .args .input)) (now (c .before .before .before .before .before .before .before .args .text)) (now (c .before .before .before .before .before .before .before .args .records)) (c .before .before .before .admit .ensures) _ (c .before .place .given .1)
 
-enum-told-2 : tie.Need-enum-told-2
-enum-told-2 c = search needs
-
 returns-3 : tie.Need-returns-3
 returns-3 c = alone-short (now (c .before .before .before .before .before .before .args .input)) (now (c .before .before .before .before .before .before .args .text)) (now (c .before .before .before .before .before .before .args .records)) (c .before .before .admit .ensures) (c .enum-told2 .given .1)
-
-enum-told-3 : tie.Need-enum-told-3
-enum-told-3 c = search needs
-
-read-setvar-requires : tie.Need-read-setvar-requires
-read-setvar-requires c κs = search needs
 
 put-plan-requires : tie.Need-put-plan-requires
 put-plan-requires c κs =
@@ -47,12 +26,6 @@ finish-requires c κs =
     let r = alone-room (now (c .before .before .before .before .before .before .before .before .before .before .before .before .before .before .before .before .args .input)) (now (c .before .before .before .before .before .before .before .before .before .before .before .before .before .before .before .before .args .text)) (now (c .before .before .before .before .before .before .before .before .before .before .before .before .before .before .before .before .args .records)) (c .before .before .before .before .before .before .before .before .before .before .before .before .admit .ensures) (c .before .before .before .before .before .before .before .before .before .before .enum-told3 .given .1) _ (c .before .before .before .before .before .before .before .before .before .read-setvar .ensures) in
     (omega (arith, r, c .before .before .before .before .before .before .put-plan .ensures .end, c .before .before .before .before .before .before .put-plan .kept), omega arith)
 
-same-length : tie.Need-same-length
-same-length c = search needs
-
-same-length-2 : tie.Need-same-length-2
-same-length-2 c = search needs
-
 returns-4 : tie.Need-returns-4
 returns-4 c =
     let o = c .before .before .before .before .before .before .before .before .before .before .before .before .before .before .before .enum-told3 .given .1 in
@@ -62,18 +35,18 @@ pub parse-setvar-spec : {M : Type 1} → statement M
 parse-setvar-spec =
     tie.close
     (tie.spec
-    add-admit
-    admit-requires
-    enum-told
+    (λ c. search needs)
+    (λ c κs. search needs)
+    (λ c. search needs)
     returns
-    enum-known-place
+    (λ c. search needs)
     returns-2
-    enum-told-2
+    (λ c. search needs)
     returns-3
-    enum-told-3
-    read-setvar-requires
+    (λ c. search needs)
+    (λ c κs. search needs)
     put-plan-requires
     finish-requires
-    same-length
-    same-length-2
+    (λ c. search needs)
+    (λ c. search needs)
     returns-4)

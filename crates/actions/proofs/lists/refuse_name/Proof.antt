@@ -8,18 +8,9 @@ use Rattle.actions.proofs.FinishLaws.{refused-text}
 use Rattle.actions.proofs.lists.refuse_name.Statement.{statement}
 use Rattle.actions.proofs.lists.refuse_name.Tie as tie
 
-clear-bytes-requires : tie.Need-clear-bytes-requires
-clear-bytes-requires c κs = search needs
-
-store-lowered-requires : tie.Need-store-lowered-requires
-store-lowered-requires c κs = search needs
-
-same-length : tie.Need-same-length
-same-length c = search needs
-
 returns : tie.Need-returns
 returns c = refused-text (now (c .before .before .before .before .before .before .before .before .before .before .args .text)) (lowered (now (c .before .before .before .before .before .before .before .before .before .before .args .name))) (c .before .before .before .before .before .before .clear-bytes .ensures) (c .before .before .store-lowered .ensures) (omega (arith, length-map (now (c .before .before .before .before .before .before .before .before .before .before .args .name)) lower, c .before .before .before .before .before .before .before .before .before .before .pre))
 
 pub refuse-name-spec : {M : Type 1} → statement M
 refuse-name-spec =
-    tie.close (tie.spec clear-bytes-requires store-lowered-requires same-length returns)
+    tie.close (tie.spec (λ c κs. search needs) (λ c κs. search needs) (λ c. search needs) returns)

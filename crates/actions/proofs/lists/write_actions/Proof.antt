@@ -33,15 +33,6 @@ part-trim-start c = end-inside (now (c .before .before .before .before .before .
 part-trim-end : tie.Need-part-trim-end Inv-loop μ-loop
 part-trim-end c = end-inside (now (c .before .before .before .before .before .args .s)) (c .before .loop .from) (c .part-end .result) (c .before .loop .inv .inside) (c .part-end .ensures) .1
 
-trim-requires : tie.Need-trim-requires Inv-loop μ-loop
-trim-requires c κs = search needs
-
-read-single-requires : tie.Need-read-single-requires Inv-loop μ-loop
-read-single-requires c κs = search needs
-
-enum-known-plan : tie.Need-enum-known-plan Inv-loop μ-loop
-enum-known-plan c = search needs
-
 put-plan-requires : tie.Need-put-plan-requires Inv-loop μ-loop
 put-plan-requires c κs =
     let j = rw (c .before .before .before .plan .given .1) at (c .before .before .before .before .before .read-single .ensures) in
@@ -53,9 +44,6 @@ add-at c = let x = c .before .before .before .before .before .before .before .be
 
 add-count : tie.Need-add-count Inv-loop μ-loop
 add-count c = let x = c .before .before .before .before .before .before .before .before .before .before .before .before .before .before .before .loop .inv in omega (arith, x .count-low, x .inside, c .before .before .before .before .before .before .before .before .before .before .before .before .before .before .before .before .before .before .before .pre .0)
-
-enum-known-row : tie.Need-enum-known-row Inv-loop μ-loop
-enum-known-row c = search needs
 
 refuse-row-requires : tie.Need-refuse-row-requires Inv-loop μ-loop
 refuse-row-requires c κs =
@@ -72,9 +60,6 @@ returns : tie.Need-returns Inv-loop μ-loop
 returns c =
     let j = rw (c .before .before .before .before .before .row .given .1) at (c .before .before .before .before .before .before .before .read-single .ensures) in
     stopped-bad (c .before .before .before .before .before .before .before .before .before .before .before .before .loop .inv) (c .before .before .before .before .before .before .before .before .before .before .before .before .before .before .before .before .pre .1) (c .before .before .before .before .before .before .before .before .before .before .before .part-end .result) (c .before .before .before .before .before .before .before .before .before .before .before .part-end .ensures) (now (c .before .before .before .before .before .before .before .before .before .trim .result)) (c .before .before .before .before .before .before .before .before .before .trim .ensures) (c .before .before .before .before .before .before .before .before .if1 .taken) (c .before .before .before .before .before .row .given .0 .0) j (c .before .before .refuse-row .ensures .0) (c .before .before .refuse-row .ensures .1)
-
-enum-known-name : tie.Need-enum-known-name Inv-loop μ-loop
-enum-known-name c = search needs
 
 slice-aggregate-refuse-name : tie.Need-slice-aggregate-refuse-name Inv-loop μ-loop
 slice-aggregate-refuse-name c =
@@ -134,18 +119,18 @@ write-actions-spec =
     sub-trim
     part-trim-start
     part-trim-end
-    trim-requires
-    read-single-requires
-    enum-known-plan
+    (λ c κs. search needs)
+    (λ c κs. search needs)
+    (λ c. search needs)
     put-plan-requires
     add-at
     add-count
-    enum-known-row
+    (λ c. search needs)
     refuse-row-requires
     same-length
     same-length-2
     returns
-    enum-known-name
+    (λ c. search needs)
     slice-aggregate-refuse-name
     refuse-name-requires
     same-length-3

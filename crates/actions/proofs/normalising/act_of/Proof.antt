@@ -6,33 +6,9 @@ use Rattle.actions.specs.Normal.{textGiven, modeAfter}
 use Rattle.actions.proofs.normalising.act_of.Statement.{statement}
 use Rattle.actions.proofs.normalising.act_of.Tie as tie
 
-enum-told : tie.Need-enum-told
-enum-told c = search needs
-
-plain-act-requires : tie.Need-plain-act-requires
-plain-act-requires c κs = search needs
-
-enum-told-2 : tie.Need-enum-told-2
-enum-told-2 c = search needs
-
-held-act-requires : tie.Need-held-act-requires
-held-act-requires c κs = search needs
-
-enum-told-3 : tie.Need-enum-told-3
-enum-told-3 c = search needs
-
 returns : tie.Need-returns
 unfolding textGiven modeAfter
 returns c = rw (c .before .enum-told3 .given .1) (rw (c .if1 .taken) (refl, refl))
-
-margin-act-requires : tie.Need-margin-act-requires
-margin-act-requires c κs = search needs
-
-enum-told-4 : tie.Need-enum-told-4
-enum-told-4 c = search needs
-
-margin-act-requires-2 : tie.Need-margin-act-requires-2
-margin-act-requires-2 c κs = search needs
 
 returns-2 : tie.Need-returns-2
 unfolding textGiven modeAfter
@@ -57,15 +33,15 @@ pub act-of-spec : {M : Type 1} → statement M
 act-of-spec =
     tie.close
     (tie.spec
-    enum-told
-    plain-act-requires
-    enum-told-2
-    held-act-requires
-    enum-told-3
+    (λ c. search needs)
+    (λ c κs. search needs)
+    (λ c. search needs)
+    (λ c κs. search needs)
+    (λ c. search needs)
     returns
-    margin-act-requires
-    enum-told-4
-    margin-act-requires-2
+    (λ c κs. search needs)
+    (λ c. search needs)
+    (λ c κs. search needs)
     returns-2
     returns-3
     returns-4

@@ -10,9 +10,6 @@ use Rattle.actions.proofs.PlainLaws.{skipped-range, skipped-not}
 use Rattle.actions.proofs.normalising.margin_act.Statement.{statement}
 use Rattle.actions.proofs.normalising.margin_act.Tie as tie
 
-plain-act-requires : tie.Need-plain-act-requires
-plain-act-requires c κs = search needs
-
 returns : tie.Need-returns
 unfolding textGiven modeAfter white
 returns c = rw (c .match .keys1) (refl, refl)
@@ -35,4 +32,4 @@ returns-4 c =
     rw (skipped-not b (r .0 .1) o (r .1)) (c .plain-act .ensures)
 
 pub margin-act-spec : {M : Type 1} → statement M
-margin-act-spec = tie.close (tie.spec plain-act-requires returns returns-2 returns-3 returns-4)
+margin-act-spec = tie.close (tie.spec (λ c κs. search needs) returns returns-2 returns-3 returns-4)

@@ -60,15 +60,6 @@ add-n c = omega (arith, spanned (c .before .before) .1 .paid, spanned (c .before
 shared-slice-read-act-of : tie.Need-shared-slice-read-act-of Inv-loop μ-loop
 shared-slice-read-act-of c = omega arith
 
-act-of-requires : tie.Need-act-of-requires Inv-loop μ-loop
-act-of-requires c κs = search needs
-
-enum-known-m : tie.Need-enum-known-m Inv-loop μ-loop
-enum-known-m c = search needs
-
-enum-known-x : tie.Need-enum-known-x Inv-loop μ-loop
-enum-known-x c = search needs
-
 slice-write-out : tie.Need-slice-write-out Inv-loop μ-loop
 slice-write-out c =
     let d = c .before .before .before in
@@ -80,9 +71,6 @@ add-n-2 c =
     let d = c .before .before .before .before in
     let j = d .before .before .before in
     omega (arith, room-one (j .before .before .before .before .pre) (passed j .1) (d .before .before .if1 .left) (d .act-of .ensures) (c .before .before .x .given .1), passed j .1 .paid, passed j .1 .inside)
-
-enum-known-x-2 : tie.Need-enum-known-x-2 Inv-loop μ-loop
-enum-known-x-2 c = search needs
 
 slice-write-out-2 : tie.Need-slice-write-out-2 Inv-loop μ-loop
 slice-write-out-2 c =
@@ -129,9 +117,6 @@ loop-again c =
     (λ w. rw (w .4, w .5, w .6) (acted-two r x k e (w .1 .given .1))))
     (c .before .match2 .came)
 
-enum-told-2 : tie.Need-enum-told-2 Inv-loop μ-loop
-enum-told-2 c = search needs
-
 slice-write-out-4 : tie.Need-slice-write-out-4 Inv-loop μ-loop
 slice-write-out-4 c =
     let j = c .before .before .before in
@@ -172,12 +157,12 @@ normalise-spec =
     sub-n
     add-n
     shared-slice-read-act-of
-    act-of-requires
-    enum-known-m
-    enum-known-x
+    (λ c κs. search needs)
+    (λ c. search needs)
+    (λ c. search needs)
     slice-write-out
     add-n-2
-    enum-known-x-2
+    (λ c. search needs)
     slice-write-out-2
     add-out
     slice-write-out-3
@@ -185,7 +170,7 @@ normalise-spec =
     add-i
     loop-less
     loop-again
-    enum-told-2
+    (λ c. search needs)
     slice-write-out-4
     add-n-4
     same-length

@@ -11,18 +11,6 @@ use Rattle.ascii.proofs.SplitLaws.{first-fits}
 use Rattle.actions.proofs.normalising.pass_plain.Statement.{statement}
 use Rattle.actions.proofs.normalising.pass_plain.Tie as tie
 
-sub-first-of : tie.Need-sub-first-of
-sub-first-of c = search needs
-
-part-first-of-start : tie.Need-part-first-of-start
-part-first-of-start c = search needs
-
-part-first-of-end : tie.Need-part-first-of-end
-part-first-of-end c = search needs
-
-first-of-requires : tie.Need-first-of-requires
-first-of-requires c κs = search needs
-
 -- the bytes up to the next backslash
 span-is : (c : tie.After-first-of) → let a = c .before .before .before .before .args in c .first-of .result ≡ firstOf 92 (drop (a .i) (now (a .s)))
 span-is c = let a = c .before .before .before .before .args in c .first-of .ensures ∙ ap (firstOf 92) (rest-is (now (a .s)) (a .i))
@@ -35,20 +23,8 @@ fits c =
 add-past : tie.Need-add-past
 add-past c = omega (arith, fits c)
 
-sub-store-bytes : tie.Need-sub-store-bytes
-sub-store-bytes c = search needs
-
-part-store-bytes-start : tie.Need-part-store-bytes-start
-part-store-bytes-start c = search needs
-
 part-store-bytes-end : tie.Need-part-store-bytes-end
 part-store-bytes-end c = omega (arith, fits (c .before))
-
-store-bytes-requires : tie.Need-store-bytes-requires
-store-bytes-requires c κs = search needs
-
-same-length : tie.Need-same-length
-same-length c = search needs
 
 returns : tie.Need-returns
 returns c =
@@ -59,14 +35,14 @@ pub pass-plain-spec : {M : Type 1} → statement M
 pass-plain-spec =
     tie.close
     (tie.spec
-    sub-first-of
-    part-first-of-start
-    part-first-of-end
-    first-of-requires
+    (λ c. search needs)
+    (λ c. search needs)
+    (λ c. search needs)
+    (λ c κs. search needs)
     add-past
-    sub-store-bytes
-    part-store-bytes-start
+    (λ c. search needs)
+    (λ c. search needs)
     part-store-bytes-end
-    store-bytes-requires
-    same-length
+    (λ c κs. search needs)
+    (λ c. search needs)
     returns)

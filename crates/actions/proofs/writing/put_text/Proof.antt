@@ -8,12 +8,6 @@ use Rattle.actions.proofs.WritingLaws.{copied-lies, copied-long, copied
 use Rattle.actions.proofs.writing.put_text.Statement.{statement}
 use Rattle.actions.proofs.writing.put_text.Tie as tie
 
-enum-told : tie.Need-enum-told
-enum-told c = search needs
-
-enum-known-origin : tie.Need-enum-known-origin
-enum-known-origin c = search needs
-
 sub-store-bytes : tie.Need-sub-store-bytes
 sub-store-bytes c = copied-lies (now (c .before .before .before .before .before .before .args .s)) _ _ _ (c .before .before .before .before .before .before .pre .0) (c .before .before .origin .given .1) .0
 
@@ -23,17 +17,11 @@ part-store-bytes-start c = copied-lies (now (c .before .before .before .before .
 part-store-bytes-end : tie.Need-part-store-bytes-end
 part-store-bytes-end c = copied-lies (now (c .before .before .before .before .before .before .args .s)) _ _ _ (c .before .before .before .before .before .before .pre .0) (c .before .before .origin .given .1) .1
 
-store-bytes-requires : tie.Need-store-bytes-requires
-store-bytes-requires c κs = search needs
-
 sub-result : tie.Need-sub-result
 sub-result c = copied-lies (now (c .before .before .before .before .before .before .before .before .before .before .args .s)) _ _ _ (c .before .before .before .before .before .before .before .before .before .before .pre .0) (c .before .before .before .before .before .before .origin .given .1) .0
 
 add-result : tie.Need-add-result
 add-result c = omega (arith, copied-long (now (c .before .before .before .before .before .before .before .before .before .before .args .s)) _ _ _ (c .before .before .before .before .before .before .before .before .before .before .pre .0) (c .before .before .before .before .before .before .origin .given .1), c .before .before .before .before .before .before .before .before .before .before .pre .1)
-
-enum-known-origin-2 : tie.Need-enum-known-origin-2
-enum-known-origin-2 c = search needs
 
 sub-store-lowered : tie.Need-sub-store-lowered
 sub-store-lowered c = lowered-lies (now (c .before .before .before .before .before .before .args .s)) _ _ _ (c .before .before .before .before .before .before .pre .0) (c .before .before .origin2 .given .1) .0
@@ -44,63 +32,24 @@ part-store-lowered-start c = lowered-lies (now (c .before .before .before .befor
 part-store-lowered-end : tie.Need-part-store-lowered-end
 part-store-lowered-end c = lowered-lies (now (c .before .before .before .before .before .before .args .s)) _ _ _ (c .before .before .before .before .before .before .pre .0) (c .before .before .origin2 .given .1) .1
 
-store-lowered-requires : tie.Need-store-lowered-requires
-store-lowered-requires c κs = search needs
-
 sub-result-2 : tie.Need-sub-result-2
 sub-result-2 c = lowered-lies (now (c .before .before .before .before .before .before .before .before .before .before .args .s)) _ _ _ (c .before .before .before .before .before .before .before .before .before .before .pre .0) (c .before .before .before .before .before .before .origin2 .given .1) .0
 
 add-result-2 : tie.Need-add-result-2
 add-result-2 c = omega (arith, lowered-long (now (c .before .before .before .before .before .before .before .before .before .before .args .s)) _ _ _ (c .before .before .before .before .before .before .before .before .before .before .pre .0) (c .before .before .before .before .before .before .origin2 .given .1), c .before .before .before .before .before .before .before .before .before .before .pre .1)
 
-enum-told-2 : tie.Need-enum-told-2
-enum-told-2 c = search needs
-
-slice-aggregate-store-bytes : tie.Need-slice-aggregate-store-bytes
-slice-aggregate-store-bytes c = search needs
-
-store-bytes-requires-2 : tie.Need-store-bytes-requires-2
-store-bytes-requires-2 c κs = search needs
-
-add-result-3 : tie.Need-add-result-3
-add-result-3 c = search needs
-
-enum-told-3 : tie.Need-enum-told-3
-enum-told-3 c = search needs
-
-slice-aggregate-store-bytes-2 : tie.Need-slice-aggregate-store-bytes-2
-slice-aggregate-store-bytes-2 c = search needs
-
-store-bytes-requires-3 : tie.Need-store-bytes-requires-3
-store-bytes-requires-3 c κs = search needs
-
-add-result-4 : tie.Need-add-result-4
-add-result-4 c = search needs
-
 returns : tie.Need-returns
 returns c = rw (c .enum-told .given .1) (stored-none _ _, omega arith)
-
-same-length : tie.Need-same-length
-same-length c = search needs
 
 returns-2 : tie.Need-returns-2
 returns-2 c = copied-put (now (c .before .before .before .before .before .before .before .before .before .before .args .s)) _ _ _ (c .before .before .before .before .before .before .before .before .before .before .pre .0) (c .before .before .before .before .before .before .origin .given .1) _ _ (c .before .before .store-bytes .ensures)
 
-same-length-2 : tie.Need-same-length-2
-same-length-2 c = search needs
-
 returns-3 : tie.Need-returns-3
 returns-3 c = lowered-put (now (c .before .before .before .before .before .before .before .before .before .before .args .s)) _ _ _ (c .before .before .before .before .before .before .before .before .before .before .pre .0) (c .before .before .before .before .before .before .origin2 .given .1) _ _ (c .before .before .store-lowered .ensures)
-
-same-length-3 : tie.Need-same-length-3
-same-length-3 c = search needs
 
 returns-4 : tie.Need-returns-4
 unfolding bytes
 returns-4 c = rw (c .before .before .before .before .before .enum-told2 .given .1) (c .before .before .store-bytes2 .ensures, omega arith)
-
-same-length-4 : tie.Need-same-length-4
-same-length-4 c = search needs
 
 returns-5 : tie.Need-returns-5
 unfolding bytes
@@ -110,35 +59,35 @@ pub put-text-spec : {M : Type 1} → statement M
 put-text-spec =
     tie.close
     (tie.spec
-    enum-told
-    enum-known-origin
+    (λ c. search needs)
+    (λ c. search needs)
     sub-store-bytes
     part-store-bytes-start
     part-store-bytes-end
-    store-bytes-requires
+    (λ c κs. search needs)
     sub-result
     add-result
-    enum-known-origin-2
+    (λ c. search needs)
     sub-store-lowered
     part-store-lowered-start
     part-store-lowered-end
-    store-lowered-requires
+    (λ c κs. search needs)
     sub-result-2
     add-result-2
-    enum-told-2
-    slice-aggregate-store-bytes
-    store-bytes-requires-2
-    add-result-3
-    enum-told-3
-    slice-aggregate-store-bytes-2
-    store-bytes-requires-3
-    add-result-4
+    (λ c. search needs)
+    (λ c. search needs)
+    (λ c κs. search needs)
+    (λ c. search needs)
+    (λ c. search needs)
+    (λ c. search needs)
+    (λ c κs. search needs)
+    (λ c. search needs)
     returns
-    same-length
+    (λ c. search needs)
     returns-2
-    same-length-2
+    (λ c. search needs)
     returns-3
-    same-length-3
+    (λ c. search needs)
     returns-4
-    same-length-4
+    (λ c. search needs)
     returns-5)

@@ -20,32 +20,11 @@ abbrev μ-loop : tie.MeasureT-loop
 returns : tie.Need-returns Inv-loop μ-loop
 returns c = sym (stored-short _ _ _ (omega (arith, length-map (now (c .before .before .before .args .text)) lower)))
 
-sub-if2 : tie.Need-sub-if2 Inv-loop μ-loop
-sub-if2 c = search needs
-
 returns-2 : tie.Need-returns-2 Inv-loop μ-loop
 returns-2 c = sym (stored-short _ _ _ (omega (arith, length-map (now (c .before .before .before .before .args .text)) lower)))
 
 loop-holds : tie.Need-loop-holds Inv-loop μ-loop
 loop-holds c = storing-none _ _ _ (omega (arith, length-map (now (c .before .before .before .before .args .text)) lower))
-
-shared-slice-read-to-lower : tie.Need-shared-slice-read-to-lower Inv-loop μ-loop
-shared-slice-read-to-lower c = search needs
-
-to-lower-requires : tie.Need-to-lower-requires Inv-loop μ-loop
-to-lower-requires c κs = search needs
-
-add-out : tie.Need-add-out Inv-loop μ-loop
-add-out c = search needs
-
-slice-write-out : tie.Need-slice-write-out Inv-loop μ-loop
-slice-write-out c = search needs
-
-add-i : tie.Need-add-i Inv-loop μ-loop
-add-i c = search needs
-
-loop-less : tie.Need-loop-less Inv-loop μ-loop
-loop-less c = search needs
 
 loop-again : tie.Need-loop-again Inv-loop μ-loop
 unfolding lower
@@ -54,9 +33,6 @@ loop-again c =
     let i = c .before .before .before .loop .i in
     let e = c .to-lower .ensures ∙ sym (List·getD-map lower s i 0) in
     rw e (storing-one (c .before .before .before .loop .inv) (omega (arith, length-map s lower, c .before .before .loop-test .taken)))
-
-same-length : tie.Need-same-length Inv-loop μ-loop
-same-length c = search needs
 
 returns-3 : tie.Need-returns-3 Inv-loop μ-loop
 returns-3 c = stores (c .before .loop .inv) (omega (arith, length-map (now (c .before .before .before .before .before .before .args .text)) lower, c .loop-test .left))
@@ -68,15 +44,15 @@ store-lowered-spec =
     Inv-loop
     μ-loop
     returns
-    sub-if2
+    (λ c. search needs)
     returns-2
     loop-holds
-    shared-slice-read-to-lower
-    to-lower-requires
-    add-out
-    slice-write-out
-    add-i
-    loop-less
+    (λ c. search needs)
+    (λ c κs. search needs)
+    (λ c. search needs)
+    (λ c. search needs)
+    (λ c. search needs)
+    (λ c. search needs)
     loop-again
-    same-length
+    (λ c. search needs)
     returns-3)

@@ -25,12 +25,6 @@ abbrev μ-loop : tie.MeasureT-loop
 loop-holds : tie.Need-loop-holds Inv-loop μ-loop
 loop-holds c = record { going = refl; within = c .before .pre }
 
-shared-slice-read-class-of : tie.Need-shared-slice-read-class-of Inv-loop μ-loop
-shared-slice-read-class-of c = search needs
-
-class-of-requires : tie.Need-class-of-requires Inv-loop μ-loop
-class-of-requires c κs = search needs
-
 add-place : tie.Need-add-place Inv-loop μ-loop
 add-place c = omega (arith, c .before .before .before .before .loop .inv .within)
 
@@ -48,9 +42,6 @@ loop-again c =
     arm (λ k. class (getD s (l .place) 0) ≡ k → Skipping s (c .before .before .before .before .before .before .args .c) 0 (cursor (l .place + 1) (l .line) (l .column + 1) (l .mark))) (Gap ∷ Return ∷ []) _ (c .match .keys1)
     (λ e. skip-gap s _ d (l .inv) (c .before .before .before .loop-test .left) e, (λ e. skip-return s _ d (l .inv) (c .before .before .before .loop-test .left) e, tt))
     (sym (c .before .class-of .ensures))
-
-enum-told : tie.Need-enum-told Inv-loop μ-loop
-enum-told c = search needs
 
 add-line-end : tie.Need-add-line-end Inv-loop μ-loop
 add-line-end c = omega (arith, c .before .before .before .before .before .loop .inv .within)
@@ -124,13 +115,13 @@ skip-blanks-spec =
     Inv-loop
     μ-loop
     loop-holds
-    shared-slice-read-class-of
-    class-of-requires
+    (λ c. search needs)
+    (λ c κs. search needs)
     add-place
     add-column
     loop-less
     loop-again
-    enum-told
+    (λ c. search needs)
     add-line-end
     line-end-requires
     add-place-2

@@ -25,9 +25,6 @@ loop-holds c = (omega arith, omega arith, λ i h k. absurd (omega arith))
 shared-slice-read-is-white : tie.Need-shared-slice-read-is-white Inv-loop μ-loop
 shared-slice-read-is-white c = omega arith
 
-is-white-requires : tie.Need-is-white-requires Inv-loop μ-loop
-is-white-requires c κs = search needs
-
 returns : tie.Need-returns Inv-loop μ-loop
 returns c =
     let w = sym (c .before .is-white .ensures) ∙ not-true _ (c .if1 .taken) in
@@ -60,7 +57,7 @@ blank-between-spec =
     μ-loop
     loop-holds
     shared-slice-read-is-white
-    is-white-requires
+    (λ c κs. search needs)
     returns
     add-at
     loop-less

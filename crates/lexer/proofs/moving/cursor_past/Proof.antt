@@ -11,12 +11,6 @@ use Rattle.lexer.proofs.LoopLaws.{feeds-few}
 use Rattle.lexer.proofs.WithinLaws.{part-length}
 use Rattle.lexer.proofs.PastLaws.{past-flat, past-fed}
 
-sub-t9 : tie.Need-sub-t9
-sub-t9 c = search needs
-
-add-t10 : tie.Need-add-t10
-add-t10 c = search needs
-
 returns : tie.Need-returns
 returns c =
     let p = c .before .before .before .before .before .pre .1 in
@@ -31,9 +25,6 @@ add-t12 c =
 sub-t14 : tie.Need-sub-t14
 sub-t14 c = omega (arith, c .before .before .before .before .pre .1 .last-is (omega (arith, c .before .if1)))
 
-add-t15 : tie.Need-add-t15
-add-t15 c = search needs
-
 blank-between-requires : tie.Need-blank-between-requires
 blank-between-requires c κs = (omega (arith, c .before .before .before .before .pre .1 .last-is (omega (arith, c .before .if1))), c .before .before .before .before .pre .1 .inside)
 
@@ -47,4 +38,4 @@ returns-2 c =
 pub cursor-past-spec : {M : Type 1} → statement M
 cursor-past-spec =
     tie.close
-    (tie.spec sub-t9 add-t10 returns add-t12 sub-t14 add-t15 blank-between-requires returns-2)
+    (tie.spec (λ c. search needs) (λ c. search needs) returns add-t12 sub-t14 (λ c. search needs) blank-between-requires returns-2)

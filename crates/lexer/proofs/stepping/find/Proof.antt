@@ -15,9 +15,6 @@ use Rattle.lexer.proofs.ClassLaws.{arm, hash-dark, quote-dark}
 use Rattle.lexer.proofs.LoopLaws.{wrote-fits, wrote-front}
 use Rattle.lexer.proofs.FindLaws.{next-none, found-none, found-newline, found-comment, found-quoted, found-word, found-stop, passes, word-passes}
 
-skip-blanks-requires : tie.Need-skip-blanks-requires
-skip-blanks-requires c κs = search needs
-
 returns : tie.Need-returns
 returns c =
     let s = now (c .before .before .before .before .args .s) in
@@ -25,33 +22,6 @@ returns c =
     let k = c .before .skip-blanks .ensures in
     let x = c .before .before .before .before .pre .0 in
     found-none s (c .before .before .before .before .args .c) d x k _ _ (next-none s (c .before .before .before .before .args .c) d x k (c .if1 .taken)) refl
-
-shared-slice-read-b : tie.Need-shared-slice-read-b
-shared-slice-read-b c = search needs
-
-class-of-requires : tie.Need-class-of-requires
-class-of-requires c κs = search needs
-
-enum-told : tie.Need-enum-told
-enum-told c = search needs
-
-add-t23 : tie.Need-add-t23
-add-t23 c = search needs
-
-add-t24 : tie.Need-add-t24
-add-t24 c = search needs
-
-made-requires : tie.Need-made-requires
-made-requires c κs = search needs
-
-enum-told-2 : tie.Need-enum-told-2
-enum-told-2 c = search needs
-
-add-skip-comment : tie.Need-add-skip-comment
-add-skip-comment c = search needs
-
-skip-comment-requires : tie.Need-skip-comment-requires
-skip-comment-requires c κs = search needs
 
 cursor-past-requires : tie.Need-cursor-past-requires
 cursor-past-requires c κs =
@@ -63,18 +33,6 @@ cursor-past-requires c κs =
     let e = c .before .before .before .class-of .ensures in
     (k .within, passes comment 0 s d _ h (hash-dark _ (sym e ∙ c .before .enum-told2 .given .1)) (c .skip-comment .ensures))
 
-made-requires-2 : tie.Need-made-requires-2
-made-requires-2 c κs = search needs
-
-enum-told-3 : tie.Need-enum-told-3
-enum-told-3 c = search needs
-
-add-read-quoted : tie.Need-add-read-quoted
-add-read-quoted c = search needs
-
-read-quoted-requires : tie.Need-read-quoted-requires
-read-quoted-requires c κs = search needs
-
 cursor-past-requires-2 : tie.Need-cursor-past-requires-2
 cursor-past-requires-2 c κs =
     let s = now (c .before .before .before .before .before .before .before .before .before .before .before .before .args .s) in
@@ -85,23 +43,8 @@ cursor-past-requires-2 c κs =
     let e = c .before .before .before .before .before .before .class-of .ensures in
     (k .within, passes (quoted _) plain s d _ h (quote-dark _ (sym e ∙ c .before .before .before .before .enum-told3 .given .1)) (c .before .before .read-quoted .ensures .0))
 
-made-requires-3 : tie.Need-made-requires-3
-made-requires-3 c κs = search needs
-
-enum-told-4 : tie.Need-enum-told-4
-enum-told-4 c = search needs
-
-read-word-requires : tie.Need-read-word-requires
-read-word-requires c κs = search needs
-
-slice-reshare-prefix-word-kind : tie.Need-slice-reshare-prefix-word-kind
-slice-reshare-prefix-word-kind c = search needs
-
 slice-aggregate-word-kind : tie.Need-slice-aggregate-word-kind
 slice-aggregate-word-kind c = sym (length-take-le _ _ (wrote-fits word 0 _ _ (c .before .before .before .read-word .ensures .1)))
-
-word-kind-requires : tie.Need-word-kind-requires
-word-kind-requires c κs = search needs
 
 cursor-past-requires-3 : tie.Need-cursor-past-requires-3
 cursor-past-requires-3 c κs =
@@ -112,9 +55,6 @@ cursor-past-requires-3 c κs =
     let x = c .before .before .before .before .before .before .before .before .before .before .before .before .before .before .pre .0 in
     let e = c .before .before .before .before .before .before .before .before .class-of .ensures in
     (k .within, word-passes s d _ h (sym e ∙ c .before .before .before .before .before .before .enum-told4 .given .1) (c .before .before .before .before .read-word .ensures .0))
-
-made-requires-4 : tie.Need-made-requires-4
-made-requires-4 c κs = search needs
 
 returns-2 : tie.Need-returns-2
 returns-2 c =
@@ -136,9 +76,6 @@ returns-3 c =
     let e = c .before .before .before .before .before .class-of .ensures in
     rw (c .made2 .ensures) (found-comment s (c .before .before .before .before .before .before .before .before .before .before .before .args .c) d x k h _ e _ _ (c .before .cursor-past .ensures) _ _ (c .before .before .before .enum-told2 .given .1) (c .before .before .skip-comment .ensures) refl)
 
-same-length : tie.Need-same-length
-same-length c = search needs
-
 returns-4 : tie.Need-returns-4
 returns-4 c =
     let s = now (c .before .before .before .before .before .before .before .before .before .before .before .before .before .before .args .s) in
@@ -149,9 +86,6 @@ returns-4 c =
     let e = c .before .before .before .before .before .before .before .before .class-of .ensures in
     let q = c .before .before .before .before .read-quoted .ensures in
     rw (c .made3 .ensures) (found-quoted s (c .before .before .before .before .before .before .before .before .before .before .before .before .before .before .args .c) d x k h _ e _ _ (c .before .cursor-past2 .ensures) _ _ (c .before .before .before .before .before .before .enum-told3 .given .1) (q .0) (q .1))
-
-same-length-2 : tie.Need-same-length-2
-same-length-2 c = search needs
 
 returns-5 : tie.Need-returns-5
 returns-5 c =
@@ -182,35 +116,35 @@ pub find-spec : {M : Type 1} → statement M
 find-spec =
     tie.close
     (tie.spec
-    skip-blanks-requires
+    (λ c κs. search needs)
     returns
-    shared-slice-read-b
-    class-of-requires
-    enum-told
-    add-t23
-    add-t24
-    made-requires
-    enum-told-2
-    add-skip-comment
-    skip-comment-requires
+    (λ c. search needs)
+    (λ c κs. search needs)
+    (λ c. search needs)
+    (λ c. search needs)
+    (λ c. search needs)
+    (λ c κs. search needs)
+    (λ c. search needs)
+    (λ c. search needs)
+    (λ c κs. search needs)
     cursor-past-requires
-    made-requires-2
-    enum-told-3
-    add-read-quoted
-    read-quoted-requires
+    (λ c κs. search needs)
+    (λ c. search needs)
+    (λ c. search needs)
+    (λ c κs. search needs)
     cursor-past-requires-2
-    made-requires-3
-    enum-told-4
-    read-word-requires
-    slice-reshare-prefix-word-kind
+    (λ c κs. search needs)
+    (λ c. search needs)
+    (λ c κs. search needs)
+    (λ c. search needs)
     slice-aggregate-word-kind
-    word-kind-requires
+    (λ c κs. search needs)
     cursor-past-requires-3
-    made-requires-4
+    (λ c κs. search needs)
     returns-2
     returns-3
-    same-length
+    (λ c. search needs)
     returns-4
-    same-length-2
+    (λ c. search needs)
     returns-5
     returns-6)

@@ -18,17 +18,11 @@ not-pick false = refl
 returns : tie.Need-returns
 returns c = let a = c .before .before .before .args in simp (lt-ltb (length (now (a .s))) (a .c .place) (c .if1 .taken))
 
-is-counted-requires : tie.Need-is-counted-requires
-is-counted-requires c κs = search needs
-
 returns-2 : tie.Need-returns-2
 returns-2 c =
     let a = c .before .before .before .before .before .args in
     let e : counted (a .c .line .0) ≡ false = sym (c .before .is-counted .ensures) ∙ not-true _ (c .if2 .taken) in
     simp (le-ltb (length (now (a .s))) (a .c .place) (c .before .before .if1 .left), e)
-
-is-counted-requires-2 : tie.Need-is-counted-requires-2
-is-counted-requires-2 c κs = search needs
 
 returns-3 : tie.Need-returns-3
 returns-3 c =
@@ -38,4 +32,4 @@ returns-3 c =
 
 pub refuses-cursor-spec : {M : Type 1} → statement M
 refuses-cursor-spec =
-    tie.close (tie.spec returns is-counted-requires returns-2 is-counted-requires-2 returns-3)
+    tie.close (tie.spec returns (λ c κs. search needs) returns-2 (λ c κs. search needs) returns-3)

@@ -3,12 +3,6 @@ use borrow.Author.Needs.{needs}
 use Rattle.names.proofs.folding.cased.Statement.{statement}
 use Rattle.names.proofs.folding.cased.Tie as tie
 
-to-upper-requires : tie.Need-to-upper-requires
-to-upper-requires c κs = search needs
-
-to-lower-requires : tie.Need-to-lower-requires
-to-lower-requires c κs = search needs
-
 returns : tie.Need-returns
 returns c = rw (c .before .if1 .taken) (c .to-upper .ensures)
 
@@ -16,4 +10,4 @@ returns-2 : tie.Need-returns-2
 returns-2 c = rw (c .before .if1 .left) (c .to-lower .ensures)
 
 pub cased-spec : {M : Type 1} → statement M
-cased-spec = tie.close (tie.spec to-upper-requires to-lower-requires returns returns-2)
+cased-spec = tie.close (tie.spec (λ c κs. search needs) (λ c κs. search needs) returns returns-2)

@@ -22,9 +22,6 @@ loop-holds c = (refl, omega arith, refl)
 shared-slice-read-cased : tie.Need-shared-slice-read-cased Inv-loop μ-loop
 shared-slice-read-cased c = omega arith
 
-cased-requires : tie.Need-cased-requires Inv-loop μ-loop
-cased-requires c κs = search needs
-
 slice-write-out : tie.Need-slice-write-out Inv-loop μ-loop
 slice-write-out c = omega arith
 
@@ -58,7 +55,7 @@ fold-spec =
     μ-loop
     loop-holds
     shared-slice-read-cased
-    cased-requires
+    (λ c κs. search needs)
     slice-write-out
     add-i
     loop-less

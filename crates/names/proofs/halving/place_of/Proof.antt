@@ -72,12 +72,6 @@ part-compare-end c =
     let m = l .lo + (l .hi - l .lo) / 2 in
     c .before .before .before .before .before .before .before .pre .within m (omega arith)
 
-compare-requires : tie.Need-compare-requires Inv-loop μ-loop
-compare-requires c κs = search needs
-
-enum-told : tie.Need-enum-told Inv-loop μ-loop
-enum-told c = search needs
-
 loop-less : tie.Need-loop-less Inv-loop μ-loop
 loop-less c = omega arith
 
@@ -90,9 +84,6 @@ loop-again c =
     lower (now (s .names)) (now (s .starts)) (c .before .before .before .before .before .before .before .before .before .before .before .pre) (l .inv) m (omega arith) (omega arith)
     (sym (c .before .before .compare .ensures) ∙ c .enum-told .given .1)
 
-enum-told-2 : tie.Need-enum-told-2 Inv-loop μ-loop
-enum-told-2 c = search needs
-
 returns : tie.Need-returns Inv-loop μ-loop
 unfolding partAt
 returns c =
@@ -100,9 +91,6 @@ returns c =
     let l = c .before .before .before .before .before .before .before .loop in
     let m = l .lo + (l .hi - l .lo) / 2 in
     hit (now (s .names)) (now (s .starts)) (now (s .name)) m (omega arith) (sym (c .before .before .compare .ensures) ∙ c .enum-told2 .given .1)
-
-enum-told-3 : tie.Need-enum-told-3 Inv-loop μ-loop
-enum-told-3 c = search needs
 
 add-lo : tie.Need-add-lo Inv-loop μ-loop
 add-lo c = omega arith
@@ -143,13 +131,13 @@ place-of-spec =
     sub-compare
     part-compare-start
     part-compare-end
-    compare-requires
-    enum-told
+    (λ c κs. search needs)
+    (λ c. search needs)
     loop-less
     loop-again
-    enum-told-2
+    (λ c. search needs)
     returns
-    enum-told-3
+    (λ c. search needs)
     add-lo
     loop-less-2
     loop-again-2

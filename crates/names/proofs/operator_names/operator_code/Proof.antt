@@ -18,15 +18,6 @@ returns c =
     let s = c .before .before .args in
     sym (operator-long (lowered (now (s .name))) (folded-longer lower 20 (now (s .name)) (c .if1 .taken)))
 
-slice-aggregate-lowered-shelf-of : tie.Need-slice-aggregate-lowered-shelf-of
-slice-aggregate-lowered-shelf-of c = search needs
-
-slice-aggregate-lowered-shelf-of-2 : tie.Need-slice-aggregate-lowered-shelf-of-2
-slice-aggregate-lowered-shelf-of-2 c = search needs
-
-lowered-shelf-of-requires : tie.Need-lowered-shelf-of-requires
-lowered-shelf-of-requires c κs = search needs
-
 returns-2 : tie.Need-returns-2
 unfolding operatorCode operators bytes shelved
 returns-2 c =
@@ -46,8 +37,8 @@ operator-code-spec =
     tie.close
     (tie.spec
     returns
-    slice-aggregate-lowered-shelf-of
-    slice-aggregate-lowered-shelf-of-2
-    lowered-shelf-of-requires
+    (λ c. search needs)
+    (λ c. search needs)
+    (λ c κs. search needs)
     returns-2
     returns-3)

@@ -7,9 +7,6 @@ use Rattle.names.proofs.FlagLaws.{flag-at, flag-past}
 use Rattle.names.proofs.operator_names.requires_argument.Statement.{statement}
 use Rattle.names.proofs.operator_names.requires_argument.Tie as tie
 
-array-read-result : tie.Need-array-read-result
-array-read-result c = search needs
-
 returns : tie.Need-returns
 unfolding argumentNeeded requiresArgument
 returns c = flag-at (λ (b : Bool). b) false refl argumentNeeded (c .before .args .code)
@@ -19,4 +16,4 @@ unfolding argumentNeeded requiresArgument
 returns-2 c = flag-past (λ (b : Bool). b) false refl argumentNeeded (c .before .args .code) (c .if1 .left)
 
 pub requires-argument-spec : {M : Type 1} → statement M
-requires-argument-spec = tie.close (tie.spec array-read-result returns returns-2)
+requires-argument-spec = tie.close (tie.spec (λ c. search needs) returns returns-2)

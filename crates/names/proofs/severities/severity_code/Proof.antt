@@ -19,21 +19,6 @@ returns c =
     let s = c .before .before .args in
     sym (severity-long (lowered (now (s .word))) (folded-longer lower 20 (now (s .word)) (c .if1 .taken)))
 
-slice-aggregate-lowered-shelf-of : tie.Need-slice-aggregate-lowered-shelf-of
-slice-aggregate-lowered-shelf-of c = search needs
-
-slice-aggregate-lowered-shelf-of-2 : tie.Need-slice-aggregate-lowered-shelf-of-2
-slice-aggregate-lowered-shelf-of-2 c = search needs
-
-lowered-shelf-of-requires : tie.Need-lowered-shelf-of-requires
-lowered-shelf-of-requires c κs = search needs
-
-array-read-wide : tie.Need-array-read-wide
-array-read-wide c = search needs
-
-wide-requires : tie.Need-wide-requires
-wide-requires c κs = search needs
-
 returns-2 : tie.Need-returns-2
 unfolding severityCode severities bytes shelved
 returns-2 c =
@@ -53,10 +38,10 @@ severity-code-spec =
     tie.close
     (tie.spec
     returns
-    slice-aggregate-lowered-shelf-of
-    slice-aggregate-lowered-shelf-of-2
-    lowered-shelf-of-requires
-    array-read-wide
-    wide-requires
+    (λ c. search needs)
+    (λ c. search needs)
+    (λ c κs. search needs)
+    (λ c. search needs)
+    (λ c κs. search needs)
     returns-2
     returns-3)

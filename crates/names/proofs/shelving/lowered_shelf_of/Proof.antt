@@ -12,15 +12,6 @@ use Rattle.names.proofs.FoldingLaws.{fold-length}
 use Rattle.names.proofs.shelving.lowered_shelf_of.Statement.{statement}
 use Rattle.names.proofs.shelving.lowered_shelf_of.Tie as tie
 
-slice-aggregate-fold : tie.Need-slice-aggregate-fold
-slice-aggregate-fold c = search needs
-
-fold-requires : tie.Need-fold-requires
-fold-requires c κs = search needs
-
-array-share-prefix-folded : tie.Need-array-share-prefix-folded
-array-share-prefix-folded c = search needs
-
 -- the name, and the buffer that it was folded into
 abbrev name : tie.After-folded3 → List ℕ
 name c = now (c .before .before .before .before .before .before .args .name)
@@ -48,9 +39,9 @@ pub lowered-shelf-of-spec : {M : Type 1} → statement M
 lowered-shelf-of-spec =
     tie.close
     (tie.spec
-    slice-aggregate-fold
-    fold-requires
-    array-share-prefix-folded
+    (λ c. search needs)
+    (λ c κs. search needs)
+    (λ c. search needs)
     slice-aggregate-shelf-of
     shelf-of-requires
     returns)

@@ -20,12 +20,6 @@ abbrev μ-loop : tie.MeasureT-loop
 loop-holds : tie.Need-loop-holds Inv-loop μ-loop
 loop-holds c = (omega arith, λ k l. absurd (omega arith))
 
-mul-row-is : tie.Need-mul-row-is Inv-loop μ-loop
-mul-row-is c = search needs
-
-shared-slice-element-row-is : tie.Need-shared-slice-element-row-is Inv-loop μ-loop
-shared-slice-element-row-is c = search needs
-
 shared-slice-read-row-is : tie.Need-shared-slice-read-row-is Inv-loop μ-loop
 shared-slice-read-row-is c = omega (arith, c .before .before .before .before .before .before .before .pre)
 
@@ -60,8 +54,8 @@ shelf-of-spec =
     Inv-loop
     μ-loop
     loop-holds
-    mul-row-is
-    shared-slice-element-row-is
+    (λ c. search needs)
+    (λ c. search needs)
     shared-slice-read-row-is
     row-is-requires
     returns

@@ -6,9 +6,6 @@ use Rattle.names.proofs.FlagLaws.{flag-at, flag-past}
 use Rattle.names.proofs.variable_names.is_collection.Statement.{statement}
 use Rattle.names.proofs.variable_names.is_collection.Tie as tie
 
-array-read-result : tie.Need-array-read-result
-array-read-result c = search needs
-
 returns : tie.Need-returns
 unfolding places isCollection
 returns c = flag-at (λ (p : Place). p .collection) nowhere refl places (c .before .args .code)
@@ -18,4 +15,4 @@ unfolding places isCollection
 returns-2 c = flag-past (λ (p : Place). p .collection) nowhere refl places (c .before .args .code) (c .if1 .left)
 
 pub is-collection-spec : {M : Type 1} → statement M
-is-collection-spec = tie.close (tie.spec array-read-result returns returns-2)
+is-collection-spec = tie.close (tie.spec (λ c. search needs) returns returns-2)

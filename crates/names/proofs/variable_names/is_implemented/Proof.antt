@@ -6,9 +6,6 @@ use Rattle.names.proofs.FlagLaws.{flag-at, flag-past}
 use Rattle.names.proofs.variable_names.is_implemented.Statement.{statement}
 use Rattle.names.proofs.variable_names.is_implemented.Tie as tie
 
-array-read-result : tie.Need-array-read-result
-array-read-result c = search needs
-
 returns : tie.Need-returns
 unfolding places isImplemented
 returns c = flag-at (λ (p : Place). p .implemented) nowhere refl places (c .before .args .code)
@@ -18,4 +15,4 @@ unfolding places isImplemented
 returns-2 c = flag-past (λ (p : Place). p .implemented) nowhere refl places (c .before .args .code) (c .if1 .left)
 
 pub is-implemented-spec : {M : Type 1} → statement M
-is-implemented-spec = tie.close (tie.spec array-read-result returns returns-2)
+is-implemented-spec = tie.close (tie.spec (λ c. search needs) returns returns-2)

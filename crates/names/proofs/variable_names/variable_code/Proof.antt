@@ -21,21 +21,6 @@ returns c =
     let s = c .before .before .args in
     sym (variable-long (uppered (now (s .name))) (folded-longer upper 27 (now (s .name)) (c .if1 .taken)))
 
-slice-aggregate-fold : tie.Need-slice-aggregate-fold
-slice-aggregate-fold c = search needs
-
-fold-requires : tie.Need-fold-requires
-fold-requires c κs = search needs
-
-slice-aggregate-place-of : tie.Need-slice-aggregate-place-of
-slice-aggregate-place-of c = search needs
-
-slice-aggregate-place-of-2 : tie.Need-slice-aggregate-place-of-2
-slice-aggregate-place-of-2 c = search needs
-
-array-share-prefix-folded : tie.Need-array-share-prefix-folded
-array-share-prefix-folded c = search needs
-
 slice-aggregate-place-of-3 : tie.Need-slice-aggregate-place-of-3
 slice-aggregate-place-of-3 c =
     let f = c .before .before .before .before .fold in
@@ -44,12 +29,6 @@ slice-aggregate-place-of-3 c =
 place-of-requires : tie.Need-place-of-requires
 unfolding run starts bytes
 place-of-requires c κs = packed
-
-array-read-wide : tie.Need-array-read-wide
-array-read-wide c = search needs
-
-wide-requires : tie.Need-wide-requires
-wide-requires c κs = search needs
 
 -- what the search was given is the folded name
 abbrev sought : tie.After-place-of → List ℕ
@@ -77,14 +56,14 @@ variable-code-spec =
     tie.close
     (tie.spec
     returns
-    slice-aggregate-fold
-    fold-requires
-    slice-aggregate-place-of
-    slice-aggregate-place-of-2
-    array-share-prefix-folded
+    (λ c. search needs)
+    (λ c κs. search needs)
+    (λ c. search needs)
+    (λ c. search needs)
+    (λ c. search needs)
     slice-aggregate-place-of-3
     place-of-requires
-    array-read-wide
-    wide-requires
+    (λ c. search needs)
+    (λ c κs. search needs)
     returns-2
     returns-3)

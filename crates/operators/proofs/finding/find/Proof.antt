@@ -16,9 +16,6 @@ use Rattle.operators.proofs.NameLaws.{name-ended}
 use Rattle.operators.proofs.finding.find.Statement.{statement}
 use Rattle.operators.proofs.finding.find.Tie as tie
 
-trimmed-requires : tie.Need-trimmed-requires
-trimmed-requires c κs = search needs
-
 -- the trimmed text's two places
 first-is : (c : tie.After-trimmed) → c .trimmed .result .first ≡ leadingWhite (now (c .before .before .args .s))
 first-is c = ap (λ (p : Part). p .first) (c .trimmed .ensures)
@@ -34,12 +31,6 @@ part-text-start c = omega (arith, first-is c, past-is c)
 
 part-text-end : tie.Need-part-text-end
 part-text-end c = omega (arith, past-is c, ends-fit white (now (c .before .before .args .s)))
-
-starts-with-requires : tie.Need-starts-with-requires
-starts-with-requires c κs = search needs
-
-sign-width-requires : tie.Need-sign-width-requires
-sign-width-requires c κs = search needs
 
 -- what is known once the sign is passed
 negated-is : (c : tie.After-starts-with) → c .starts-with .result ≡ starts 33 (trimEnds (now (c .before .before .before .before .args .s)))
@@ -64,9 +55,6 @@ part-starts-with-start c = omega (arith, body-in (begun c))
 
 part-starts-with-end : tie.Need-part-starts-with-end
 part-starts-with-end c = omega (arith, end-in (begun c))
-
-starts-with-requires-2 : tie.Need-starts-with-requires-2
-starts-with-requires-2 c κs = search needs
 
 -- whether a name is written
 named-is : (c : tie.After-starts-with2) → c .starts-with2 .result ≡ isNamed (now (c .before .before .before .before .before .before .before .args .s))
@@ -93,9 +81,6 @@ part-name-length-start c = omega (arith, name-in (begun (c .before .before .befo
 
 part-name-length-end : tie.Need-part-name-length-end
 part-name-length-end c = omega (arith, end-in (begun (c .before .before .before)))
-
-name-length-requires : tie.Need-name-length-requires
-name-length-requires c κs = search needs
 
 -- the name's length
 length-is : (c : tie.After-name-length) → c .name-length .result ≡ nameLength (afterAt (now (c .before .before .before .before .before .before .before .before .before .before .args .s)))
@@ -133,23 +118,23 @@ pub find-spec : {M : Type 1} → statement M
 find-spec =
     tie.close
     (tie.spec
-    trimmed-requires
+    (λ c κs. search needs)
     sub-text
     part-text-start
     part-text-end
-    starts-with-requires
-    sign-width-requires
+    (λ c κs. search needs)
+    (λ c κs. search needs)
     add-body
     sub-starts-with
     part-starts-with-start
     part-starts-with-end
-    starts-with-requires-2
+    (λ c κs. search needs)
     returns
     add-first
     sub-name-length
     part-name-length-start
     part-name-length-end
-    name-length-requires
+    (λ c κs. search needs)
     add-past
     sub-gap-width
     part-gap-width-start

@@ -15,18 +15,6 @@ use Rattle.operators.proofs.finding.gap_width.Tie as tie
 returns : tie.Need-returns
 returns c = omega (arith, leading-fits white (now (c .before .before .args .s)), c .if1 .taken)
 
-sub-after : tie.Need-sub-after
-sub-after c = search needs
-
-part-after-start : tie.Need-part-after-start
-part-after-start c = search needs
-
-part-after-end : tie.Need-part-after-end
-part-after-end c = search needs
-
-leading-white-requires : tie.Need-leading-white-requires
-leading-white-requires c κs = search needs
-
 -- the white bytes after it
 white-is : (c : tie.After-leading-white) → c .leading-white .result ≡ leadingWhite (drop 1 (now (c .before .before .before .before .args .s)))
 white-is c = c .leading-white .ensures ∙ ap leadingWhite (rest-is (now (c .before .before .before .before .args .s)) 1)
@@ -46,9 +34,9 @@ gap-width-spec =
     tie.close
     (tie.spec
     returns
-    sub-after
-    part-after-start
-    part-after-end
-    leading-white-requires
+    (λ c. search needs)
+    (λ c. search needs)
+    (λ c. search needs)
+    (λ c κs. search needs)
     add-result
     returns-2)

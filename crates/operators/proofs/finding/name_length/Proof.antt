@@ -24,19 +24,10 @@ shared-slice-read-stops-name :
     tie.Need-shared-slice-read-stops-name Inv-loop μ-loop
 shared-slice-read-stops-name c = search needs
 
-stops-name-requires : tie.Need-stops-name-requires Inv-loop μ-loop
-stops-name-requires c κs = search needs
-
 returns : tie.Need-returns Inv-loop μ-loop
 returns c =
     let w = sym (c .before .stops-name .ensures) ∙ c .if1 .taken in
     omega (arith, name-stop (now (c .before .before .before .before .before .before .args .s)) (c .before .before .before .before .loop .i) (c .before .before .before .loop-test .taken) w)
-
-add-i : tie.Need-add-i Inv-loop μ-loop
-add-i c = search needs
-
-loop-less : tie.Need-loop-less Inv-loop μ-loop
-loop-less c = search needs
 
 loop-again : tie.Need-loop-again Inv-loop μ-loop
 loop-again c =
@@ -54,9 +45,9 @@ name-length-spec =
     μ-loop
     loop-holds
     shared-slice-read-stops-name
-    stops-name-requires
+    (λ c κs. search needs)
     returns
-    add-i
-    loop-less
+    (λ c. search needs)
+    (λ c. search needs)
     loop-again
     returns-2)

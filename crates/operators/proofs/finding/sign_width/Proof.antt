@@ -15,9 +15,6 @@ use Rattle.operators.proofs.NameLaws.{starts-some}
 use Rattle.operators.proofs.finding.sign_width.Statement.{statement}
 use Rattle.operators.proofs.finding.sign_width.Tie as tie
 
-starts-with-requires : tie.Need-starts-with-requires
-starts-with-requires c κs = search needs
-
 returns : tie.Need-returns
 returns c = rw (sym (c .before .starts-with .ensures) ∙ not-true _ (c .if1 .taken))
 
@@ -33,9 +30,6 @@ part-leading-white-start c = omega (arith, starts-some 33 (now (c .before .befor
 
 part-leading-white-end : tie.Need-part-leading-white-end
 part-leading-white-end c = omega (arith, starts-some 33 (now (c .before .before .before .args .s)) (signed c))
-
-leading-white-requires : tie.Need-leading-white-requires
-leading-white-requires c κs = search needs
 
 -- the white bytes after it
 white-is : (c : tie.After-leading-white) → c .leading-white .result ≡ leadingWhite (drop 1 (now (c .before .before .before .before .before .args .s)))
@@ -53,11 +47,11 @@ pub sign-width-spec : {M : Type 1} → statement M
 sign-width-spec =
     tie.close
     (tie.spec
-    starts-with-requires
+    (λ c κs. search needs)
     returns
     sub-leading-white
     part-leading-white-start
     part-leading-white-end
-    leading-white-requires
+    (λ c κs. search needs)
     add-result
     returns-2)

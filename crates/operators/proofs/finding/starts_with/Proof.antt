@@ -9,11 +9,8 @@ use Rattle.operators.proofs.finding.starts_with.Tie as tie
 returns : tie.Need-returns
 returns c = sym (starts-none _ (now (c .before .args .s)) (c .if1 .taken))
 
-shared-slice-read-result : tie.Need-shared-slice-read-result
-shared-slice-read-result c = search needs
-
 returns-2 : tie.Need-returns-2
 returns-2 c = sym (starts-first _ (now (c .before .before .args .s)) (c .before .if1 .left))
 
 pub starts-with-spec : {M : Type 1} → statement M
-starts-with-spec = tie.close (tie.spec returns shared-slice-read-result returns-2)
+starts-with-spec = tie.close (tie.spec returns (λ c. search needs) returns-2)

@@ -8,11 +8,5 @@ use Rattle.operators.proofs.finding.stops_name.Tie as tie
 returns : tie.Need-returns
 returns c = sym (past-blank (c .before .args .b) (c .if1 .taken))
 
-ends-name-requires : tie.Need-ends-name-requires
-ends-name-requires c κs = search needs
-
-returns-2 : tie.Need-returns-2
-returns-2 c = search needs
-
 pub stops-name-spec : {M : Type 1} → statement M
-stops-name-spec = tie.close (tie.spec returns ends-name-requires returns-2)
+stops-name-spec = tie.close (tie.spec returns (λ c κs. search needs) (λ c. search needs))

@@ -7,26 +7,11 @@ use Rattle.operators.proofs.AnswerLaws.{argument-in, argument-read, arg
 use Rattle.operators.proofs.reading.operator_argument.Statement.{statement}
 use Rattle.operators.proofs.reading.operator_argument.Tie as tie
 
-parse-operator-requires : tie.Need-parse-operator-requires
-parse-operator-requires c κs = search needs
-
-enum-known-place : tie.Need-enum-known-place
-enum-known-place c = search needs
-
 add-end : tie.Need-add-end
 add-end c = omega (arith, argument-in (now (c .before .before .before .before .before .args .input)) _ (c .before .before .before .parse-operator .ensures) (c .before .place .given .1))
 
-sub-result : tie.Need-sub-result
-sub-result c = search needs
-
-part-result-start : tie.Need-part-result-start
-part-result-start c = search needs
-
 part-result-end : tie.Need-part-result-end
 part-result-end c = omega (arith, argument-in (now (c .before .before .before .before .before .args .input)) _ (c .before .before .before .parse-operator .ensures) (c .before .place .given .1))
-
-slice-aggregate-result : tie.Need-slice-aggregate-result
-slice-aggregate-result c = search needs
 
 returns : tie.Need-returns
 returns c = argument-read (now (c .before .before .before .before .before .before .args .input)) _ (c .before .before .before .before .parse-operator .ensures) (c .before .before .place .given .1) _ refl
@@ -38,12 +23,12 @@ pub operator-argument-spec : {M : Type 1} → statement M
 operator-argument-spec =
     tie.close
     (tie.spec
-    parse-operator-requires
-    enum-known-place
+    (λ c κs. search needs)
+    (λ c. search needs)
     add-end
-    sub-result
-    part-result-start
+    (λ c. search needs)
+    (λ c. search needs)
     part-result-end
-    slice-aggregate-result
+    (λ c. search needs)
     returns
     returns-2)

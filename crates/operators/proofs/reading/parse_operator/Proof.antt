@@ -5,18 +5,6 @@ use Rattle.operators.proofs.AnswerLaws.{answer-too-long, answer-not-asc
 use Rattle.operators.proofs.reading.parse_operator.Statement.{statement}
 use Rattle.operators.proofs.reading.parse_operator.Tie as tie
 
-admit-requires : tie.Need-admit-requires
-admit-requires c κs = search needs
-
-enum-told : tie.Need-enum-told
-enum-told c = search needs
-
-enum-known-place : tie.Need-enum-known-place
-enum-known-place c = search needs
-
-parsed-requires : tie.Need-parsed-requires
-parsed-requires c κs = search needs
-
 returns : tie.Need-returns
 returns c = answer-too-long (now (c .before .before .before .before .args .input)) _ (c .before .before .admit .ensures) (c .enum-told .given .1)
 
@@ -30,10 +18,10 @@ pub parse-operator-spec : {M : Type 1} → statement M
 parse-operator-spec =
     tie.close
     (tie.spec
-    admit-requires
-    enum-told
-    enum-known-place
-    parsed-requires
+    (λ c κs. search needs)
+    (λ c. search needs)
+    (λ c. search needs)
+    (λ c κs. search needs)
     returns
     returns-2
     returns-3)

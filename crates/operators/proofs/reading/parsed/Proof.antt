@@ -9,9 +9,6 @@ use Rattle.operators.proofs.FoundLaws.{argument-ordered, name-ordered, 
 use Rattle.operators.proofs.reading.parsed.Statement.{statement}
 use Rattle.operators.proofs.reading.parsed.Tie as tie
 
-find-requires : tie.Need-find-requires
-find-requires c κs = search needs
-
 sub-len : tie.Need-sub-len
 sub-len c = argument-ordered (now (c .before .before .before .args .s)) _ (c .before .find .ensures)
 
@@ -31,15 +28,6 @@ part-operator-code-start c = omega (arith, name-ordered (now (c .before .before 
 part-operator-code-end : tie.Need-part-operator-code-end
 part-operator-code-end c = omega (arith, name-within (now (c .before .before .before .before .before .args .s)) _ (c .before .before .before .find .ensures) (written c))
 
-operator-code-requires : tie.Need-operator-code-requires
-operator-code-requires c κs = search needs
-
-enum-known-name : tie.Need-enum-known-name
-enum-known-name c = search needs
-
-enum-told : tie.Need-enum-told
-enum-told c = search needs
-
 sub-t15 : tie.Need-sub-t15
 sub-t15 c = name-ordered (now (c .before .before .before .before .before .before .before .before .before .args .s)) _ (c .before .before .before .before .before .before .before .find .ensures) (written (c .before .before .before .before))
 
@@ -53,15 +41,15 @@ pub parsed-spec : {M : Type 1} → statement M
 parsed-spec =
     tie.close
     (tie.spec
-    find-requires
+    (λ c κs. search needs)
     sub-len
     returns
     sub-operator-code
     part-operator-code-start
     part-operator-code-end
-    operator-code-requires
-    enum-known-name
-    enum-told
+    (λ c κs. search needs)
+    (λ c. search needs)
+    (λ c. search needs)
     sub-t15
     returns-2
     returns-3)

@@ -19,38 +19,11 @@ abbrev μ-loop : tie.MeasureT-loop
 loop-holds : tie.Need-loop-holds Inv-loop μ-loop
 loop-holds c = begun _
 
-sub-loop : tie.Need-sub-loop Inv-loop μ-loop
-sub-loop c = search needs
-
-mul-code : tie.Need-mul-code Inv-loop μ-loop
-mul-code c = search needs
-
-shared-slice-read-code : tie.Need-shared-slice-read-code Inv-loop μ-loop
-shared-slice-read-code c = search needs
-
-add-is-fine : tie.Need-add-is-fine Inv-loop μ-loop
-add-is-fine c = search needs
-
-mul-is-fine : tie.Need-mul-is-fine Inv-loop μ-loop
-mul-is-fine c = search needs
-
-shared-slice-read-is-fine : tie.Need-shared-slice-read-is-fine Inv-loop μ-loop
-shared-slice-read-is-fine c = search needs
-
-is-fine-requires : tie.Need-is-fine-requires Inv-loop μ-loop
-is-fine-requires c κs = search needs
-
 returns : tie.Need-returns Inv-loop μ-loop
 returns c = unfit (c .before .before .before .before .before .loop .inv) (c .before .before .before .before .loop-test .taken) (sym (c .before .is-fine .ensures) ∙ not-true _ (c .if1 .taken))
 
 returns-2 : tie.Need-returns-2 Inv-loop μ-loop
 returns-2 c = second (c .before .before .before .before .before .before .before .loop .inv) (c .before .before .before .before .before .before .loop-test .taken) (sym (c .before .before .before .is-fine .ensures) ∙ not-false _ (c .before .before .if1 .left)) (c .before .if2 .taken) (c .if3 .taken)
-
-add-at : tie.Need-add-at Inv-loop μ-loop
-add-at c = search needs
-
-loop-less : tie.Need-loop-less Inv-loop μ-loop
-loop-less c = search needs
 
 loop-again : tie.Need-loop-again Inv-loop μ-loop
 loop-again c =
@@ -70,16 +43,16 @@ grade-spec =
     Inv-loop
     μ-loop
     loop-holds
-    sub-loop
-    mul-code
-    shared-slice-read-code
-    add-is-fine
-    mul-is-fine
-    shared-slice-read-is-fine
-    is-fine-requires
+    (λ c. search needs)
+    (λ c. search needs)
+    (λ c. search needs)
+    (λ c. search needs)
+    (λ c. search needs)
+    (λ c. search needs)
+    (λ c κs. search needs)
     returns
     returns-2
-    add-at
-    loop-less
+    (λ c. search needs)
+    (λ c. search needs)
     loop-again
     returns-3)

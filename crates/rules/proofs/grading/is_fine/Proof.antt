@@ -10,9 +10,6 @@ returns : tie.Need-returns
 unfolding fine
 returns c = let n = c .before .args .code in simp (eq-eqb n idCode (c .if1 .taken))
 
-is-between-requires : tie.Need-is-between-requires
-is-between-requires c κs = search needs
-
 returns-2 : tie.Need-returns-2
 unfolding fine
 returns-2 c = let n = c .before .before .before .args .code in simp (ne-eqb n idCode (c .before .before .if1 .left), eq-eqb n phaseCode (c .before .if2 .taken)) (c .is-between .ensures)
@@ -21,15 +18,9 @@ returns-3 : tie.Need-returns-3
 unfolding fine
 returns-3 c = let n = c .before .before .before .args .code in simp (ne-eqb n idCode (c .before .before .if1 .left), ne-eqb n phaseCode (c .before .if2 .left), eq-eqb n severityCode (c .if3 .taken))
 
-is-between-requires-2 : tie.Need-is-between-requires-2
-is-between-requires-2 c κs = search needs
-
 returns-4 : tie.Need-returns-4
 unfolding fine
 returns-4 c = let n = c .before .before .before .before .before .args .code in simp (ne-eqb n idCode (c .before .before .before .before .if1 .left), ne-eqb n phaseCode (c .before .before .before .if2 .left), ne-eqb n severityCode (c .before .before .if3 .left), eq-eqb n maturityCode (c .before .if4 .taken)) (c .is-between2 .ensures)
-
-is-between-requires-3 : tie.Need-is-between-requires-3
-is-between-requires-3 c κs = search needs
 
 returns-5 : tie.Need-returns-5
 unfolding fine
@@ -44,11 +35,11 @@ is-fine-spec =
     tie.close
     (tie.spec
     returns
-    is-between-requires
+    (λ c κs. search needs)
     returns-2
     returns-3
-    is-between-requires-2
+    (λ c κs. search needs)
     returns-4
-    is-between-requires-3
+    (λ c κs. search needs)
     returns-5
     returns-6)

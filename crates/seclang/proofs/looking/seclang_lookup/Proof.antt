@@ -6,24 +6,6 @@ use Rattle.seclang.specs.Codes.{codeOf, lookupIn}
 use Rattle.seclang.proofs.looking.seclang_lookup.Statement.{statement}
 use Rattle.seclang.proofs.looking.seclang_lookup.Tie as tie
 
-variable-code-requires : tie.Need-variable-code-requires
-variable-code-requires c κs = search needs
-
-code-or-none-requires : tie.Need-code-or-none-requires
-code-or-none-requires c κs = search needs
-
-operator-code-requires : tie.Need-operator-code-requires
-operator-code-requires c κs = search needs
-
-code-or-none-requires-2 : tie.Need-code-or-none-requires-2
-code-or-none-requires-2 c κs = search needs
-
-severity-code-requires : tie.Need-severity-code-requires
-severity-code-requires c κs = search needs
-
-code-or-none-requires-3 : tie.Need-code-or-none-requires-3
-code-or-none-requires-3 c κs = search needs
-
 returns : tie.Need-returns
 unfolding lookupIn
 returns c = rw (c .before .before .match .keys1) (c .code-or-none .ensures ∙ ap codeOf (c .before .variable-code .ensures))
@@ -46,12 +28,12 @@ pub seclang-lookup-spec : {M : Type 1} → statement M
 seclang-lookup-spec =
     tie.close
     (tie.spec
-    variable-code-requires
-    code-or-none-requires
-    operator-code-requires
-    code-or-none-requires-2
-    severity-code-requires
-    code-or-none-requires-3
+    (λ c κs. search needs)
+    (λ c κs. search needs)
+    (λ c κs. search needs)
+    (λ c κs. search needs)
+    (λ c κs. search needs)
+    (λ c κs. search needs)
     returns
     returns-2
     returns-3

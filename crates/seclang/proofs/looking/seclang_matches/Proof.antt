@@ -6,14 +6,8 @@ use Rattle.rules.specs.declared.selecting.RuleIdSelector.{RuleIdSelector}
 use Rattle.seclang.proofs.looking.seclang_matches.Statement.{statement}
 use Rattle.seclang.proofs.looking.seclang_matches.Tie as tie
 
-selector-requires : tie.Need-selector-requires
-selector-requires c κs = search needs
-
-matches-requires : tie.Need-matches-requires
-matches-requires c κs = search needs
-
 returns : tie.Need-returns
 returns c = c .matches .ensures ∙ ap (λ (s : RuleIdSelector). matched s (c .before .before .args .id)) (c .before .selector .ensures)
 
 pub seclang-matches-spec : {M : Type 1} → statement M
-seclang-matches-spec = tie.close (tie.spec selector-requires matches-requires returns)
+seclang-matches-spec = tie.close (tie.spec (λ c κs. search needs) (λ c κs. search needs) returns)

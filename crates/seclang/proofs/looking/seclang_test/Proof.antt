@@ -5,15 +5,6 @@ use Rattle.seclang.specs.Codes.{testOf}
 use Rattle.seclang.proofs.looking.seclang_test.Statement.{statement}
 use Rattle.seclang.proofs.looking.seclang_test.Tie as tie
 
-is-collection-requires : tie.Need-is-collection-requires
-is-collection-requires c κs = search needs
-
-is-implemented-requires : tie.Need-is-implemented-requires
-is-implemented-requires c κs = search needs
-
-requires-argument-requires : tie.Need-requires-argument-requires
-requires-argument-requires c κs = search needs
-
 returns : tie.Need-returns
 unfolding testOf
 returns c = rw (c .before .match .keys1) (c .is-collection .ensures)
@@ -36,9 +27,9 @@ pub seclang-test-spec : {M : Type 1} → statement M
 seclang-test-spec =
     tie.close
     (tie.spec
-    is-collection-requires
-    is-implemented-requires
-    requires-argument-requires
+    (λ c κs. search needs)
+    (λ c κs. search needs)
+    (λ c κs. search needs)
     returns
     returns-2
     returns-3

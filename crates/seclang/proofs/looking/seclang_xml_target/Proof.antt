@@ -5,21 +5,6 @@ use Rattle.seclang.specs.Codes.{targetOf}
 use Rattle.seclang.proofs.looking.seclang_xml_target.Statement.{statement}
 use Rattle.seclang.proofs.looking.seclang_xml_target.Tie as tie
 
-xml-target-requires : tie.Need-xml-target-requires
-xml-target-requires c κs = search needs
-
-enum-told : tie.Need-enum-told
-enum-told c = search needs
-
-enum-told-2 : tie.Need-enum-told-2
-enum-told-2 c = search needs
-
-enum-told-3 : tie.Need-enum-told-3
-enum-told-3 c = search needs
-
-enum-told-4 : tie.Need-enum-told-4
-enum-told-4 c = search needs
-
 returns : tie.Need-returns
 returns c = ap targetOf (sym (c .enum-told .given .1) ∙ c .before .before .xml-target .ensures)
 
@@ -36,11 +21,11 @@ pub seclang-xml-target-spec : {M : Type 1} → statement M
 seclang-xml-target-spec =
     tie.close
     (tie.spec
-    xml-target-requires
-    enum-told
-    enum-told-2
-    enum-told-3
-    enum-told-4
+    (λ c κs. search needs)
+    (λ c. search needs)
+    (λ c. search needs)
+    (λ c. search needs)
+    (λ c. search needs)
     returns
     returns-2
     returns-3

@@ -4,18 +4,6 @@ use Rattle.seclang.proofs.ToldLaws.{lists-of}
 use Rattle.seclang.proofs.printing.seclang_write_refusal.Statement.{statement}
 use Rattle.seclang.proofs.printing.seclang_write_refusal.Tie as tie
 
-write-refusal-requires : tie.Need-write-refusal-requires
-write-refusal-requires c κs = search needs
-
-tell-listed-requires : tie.Need-tell-listed-requires
-tell-listed-requires c κs = search needs
-
-same-length : tie.Need-same-length
-same-length c = search needs
-
-same-length-2 : tie.Need-same-length-2
-same-length-2 c = search needs
-
 returns : tie.Need-returns
 returns c =
     let x = c .before .before .before .before .before .before .write-refusal .ensures in
@@ -24,4 +12,4 @@ returns c =
 pub seclang-write-refusal-spec : {M : Type 1} → statement M
 seclang-write-refusal-spec =
     tie.close
-    (tie.spec write-refusal-requires tell-listed-requires same-length same-length-2 returns)
+    (tie.spec (λ c κs. search needs) (λ c κs. search needs) (λ c. search needs) (λ c. search needs) returns)

@@ -6,8 +6,5 @@ use Rattle.seclang.proofs.printing.stop_of.Tie as tie
 returns : tie.Need-returns
 returns c = rw (c .if1 .taken)
 
-returns-2 : tie.Need-returns-2
-returns-2 c = search needs
-
 pub stop-of-spec : {M : Type 1} → statement M
-stop-of-spec = tie.close (tie.spec returns returns-2)
+stop-of-spec = tie.close (tie.spec returns (λ c. search needs))

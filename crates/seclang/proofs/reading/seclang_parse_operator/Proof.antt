@@ -4,18 +4,9 @@ use Rattle.seclang.proofs.ToldLaws.{told-as}
 use Rattle.seclang.proofs.reading.seclang_parse_operator.Statement.{statement}
 use Rattle.seclang.proofs.reading.seclang_parse_operator.Tie as tie
 
-parse-operator-requires : tie.Need-parse-operator-requires
-parse-operator-requires c κs = search needs
-
-tell-operated-requires : tie.Need-tell-operated-requires
-tell-operated-requires c κs = search needs
-
-same-length : tie.Need-same-length
-same-length c = search needs
-
 returns : tie.Need-returns
 returns c = told-as (c .before .before .before .before .parse-operator .ensures .answer) (c .before .before .tell-operated .ensures)
 
 pub seclang-parse-operator-spec : {M : Type 1} → statement M
 seclang-parse-operator-spec =
-    tie.close (tie.spec parse-operator-requires tell-operated-requires same-length returns)
+    tie.close (tie.spec (λ c κs. search needs) (λ c κs. search needs) (λ c. search needs) returns)

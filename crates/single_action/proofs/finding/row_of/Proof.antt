@@ -13,43 +13,25 @@ use Rattle.single_action.proofs.RowLaws.{member, covers, between, is-be
 use Rattle.single_action.proofs.finding.row_of.Statement.{statement}
 use Rattle.single_action.proofs.finding.row_of.Tie as tie
 
-up-to-three-requires : tie.Need-up-to-three-requires
-up-to-three-requires c κs = search needs
-
 returns : tie.Need-returns
 unfolding every covers member rows bytes
 returns c = placed-by (between 0 3) _ (now (c .before .before .before .args .name)) refl (is-between 0 3 (length (now (c .before .before .before .args .name))) (omega arith) (omega arith)) _ (c .up-to-three .ensures)
-
-of-four-requires : tie.Need-of-four-requires
-of-four-requires c κs = search needs
 
 returns-2 : tie.Need-returns-2
 unfolding every covers member rows bytes
 returns-2 c = placed-by (between 4 4) _ (now (c .before .before .before .before .args .name)) refl (is-between 4 4 (length (now (c .before .before .before .before .args .name))) (omega arith) (omega arith)) _ (c .of-four .ensures)
 
-of-five-requires : tie.Need-of-five-requires
-of-five-requires c κs = search needs
-
 returns-3 : tie.Need-returns-3
 unfolding every covers member rows bytes
 returns-3 c = placed-by (between 5 5) _ (now (c .before .before .before .before .before .args .name)) refl (is-between 5 5 (length (now (c .before .before .before .before .before .args .name))) (omega arith) (omega arith)) _ (c .of-five .ensures)
-
-six-or-seven-requires : tie.Need-six-or-seven-requires
-six-or-seven-requires c κs = search needs
 
 returns-4 : tie.Need-returns-4
 unfolding every covers member rows bytes
 returns-4 c = placed-by (between 6 7) _ (now (c .before .before .before .before .before .before .args .name)) refl (is-between 6 7 (length (now (c .before .before .before .before .before .before .args .name))) (omega arith) (omega arith)) _ (c .six-or-seven .ensures)
 
-of-eight-requires : tie.Need-of-eight-requires
-of-eight-requires c κs = search needs
-
 returns-5 : tie.Need-returns-5
 unfolding every covers member rows bytes
 returns-5 c = placed-by (between 8 8) _ (now (c .before .before .before .before .before .before .before .args .name)) refl (is-between 8 8 (length (now (c .before .before .before .before .before .before .before .args .name))) (omega arith) (omega arith)) _ (c .of-eight .ensures)
-
-over-eight-requires : tie.Need-over-eight-requires
-over-eight-requires c κs = search needs
 
 returns-6 : tie.Need-returns-6
 unfolding every covers member rows bytes
@@ -59,15 +41,15 @@ pub row-of-spec : {M : Type 1} → statement M
 row-of-spec =
     tie.close
     (tie.spec
-    up-to-three-requires
+    (λ c κs. search needs)
     returns
-    of-four-requires
+    (λ c κs. search needs)
     returns-2
-    of-five-requires
+    (λ c κs. search needs)
     returns-3
-    six-or-seven-requires
+    (λ c κs. search needs)
     returns-4
-    of-eight-requires
+    (λ c κs. search needs)
     returns-5
-    over-eight-requires
+    (λ c κs. search needs)
     returns-6)

@@ -12,23 +12,11 @@ returns : tie.Need-returns
 unfolding paired
 returns c = simp (lt-leb 2 (length (now (c .before .before .args .s))) (c .if1 .taken))
 
-sub-last : tie.Need-sub-last
-sub-last c = search needs
-
-shared-slice-read-first : tie.Need-shared-slice-read-first
-shared-slice-read-first c = search needs
-
-is-quotation-requires : tie.Need-is-quotation-requires
-is-quotation-requires c κs = search needs
-
 returns-2 : tie.Need-returns-2
 unfolding paired
 returns-2 c =
     let w = sym (c .before .is-quotation .ensures) ∙ not-true _ (c .if2 .taken) in
     simp (le-leb 2 (length (now (c .before .before .before .before .before .args .s))) (c .before .before .before .if1 .left), w)
-
-shared-slice-read-result : tie.Need-shared-slice-read-result
-shared-slice-read-result c = search needs
 
 returns-3 : tie.Need-returns-3
 unfolding paired
@@ -41,9 +29,9 @@ is-paired-spec =
     tie.close
     (tie.spec
     returns
-    sub-last
-    shared-slice-read-first
-    is-quotation-requires
+    (λ c. search needs)
+    (λ c. search needs)
+    (λ c κs. search needs)
     returns-2
-    shared-slice-read-result
+    (λ c. search needs)
     returns-3)

@@ -21,23 +21,11 @@ abbrev μ-loop : tie.MeasureT-loop
 loop-holds : tie.Need-loop-holds Inv-loop μ-loop
 loop-holds c = (omega arith, omega arith)
 
-shared-slice-read-is-quotation : tie.Need-shared-slice-read-is-quotation Inv-loop μ-loop
-shared-slice-read-is-quotation c = search needs
-
-is-quotation-requires : tie.Need-is-quotation-requires Inv-loop μ-loop
-is-quotation-requires c κs = search needs
-
 returns : tie.Need-returns Inv-loop μ-loop
 returns c =
     let s = now (c .before .before .before .before .before .before .args .s) in
     let w = sym (c .before .is-quotation .ensures) ∙ not-true _ (c .if1 .taken) in
     omega (arith, leading-stop quotation s (c .before .before .before .before .loop .i) (c .before .before .before .loop-test .taken) w)
-
-add-i : tie.Need-add-i Inv-loop μ-loop
-add-i c = search needs
-
-loop-less : tie.Need-loop-less Inv-loop μ-loop
-loop-less c = search needs
 
 loop-again : tie.Need-loop-again Inv-loop μ-loop
 loop-again c =
@@ -51,4 +39,4 @@ returns-2 c = omega (arith, leading-end quotation (now (c .before .before .befor
 pub leading-marks-spec : {M : Type 1} → statement M
 leading-marks-spec =
     tie.close
-    (tie.spec Inv-loop μ-loop loop-holds shared-slice-read-is-quotation is-quotation-requires returns add-i loop-less loop-again returns-2)
+    (tie.spec Inv-loop μ-loop loop-holds (λ c. search needs) (λ c κs. search needs) returns (λ c. search needs) (λ c. search needs) loop-again returns-2)

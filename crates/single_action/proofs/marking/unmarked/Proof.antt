@@ -13,18 +13,6 @@ use Rattle.single_action.proofs.MarkPlaceLaws.{first-fits, end-is, past
 use Rattle.single_action.proofs.marking.unmarked.Statement.{statement}
 use Rattle.single_action.proofs.marking.unmarked.Tie as tie
 
-sub-leading-marks : tie.Need-sub-leading-marks
-sub-leading-marks c = search needs
-
-part-leading-marks-start : tie.Need-part-leading-marks-start
-part-leading-marks-start c = search needs
-
-part-leading-marks-end : tie.Need-part-leading-marks-end
-part-leading-marks-end c = search needs
-
-leading-marks-requires : tie.Need-leading-marks-requires
-leading-marks-requires c κs = search needs
-
 -- the first byte that is no mark
 first-is : (c : tie.After-leading-marks) → let a = c .before .before .before .args in a .from + c .leading-marks .result ≡ a .from + leading quotation (drop (a .from) (now (a .s)))
 first-is c =
@@ -42,12 +30,6 @@ sub-unmarked-len c = omega (arith, fits c)
 
 part-unmarked-len-start : tie.Need-part-unmarked-len-start
 part-unmarked-len-start c = omega (arith, fits c)
-
-part-unmarked-len-end : tie.Need-part-unmarked-len-end
-part-unmarked-len-end c = search needs
-
-unmarked-len-requires : tie.Need-unmarked-len-requires
-unmarked-len-requires c κs = search needs
 
 -- the length of what is left
 len-is : (c : tie.After-unmarked-len) → let a = c .before .before .before .before .before .args in c .unmarked-len .result ≡ length (stripped (drop (a .from) (now (a .s))))
@@ -73,14 +55,14 @@ pub unmarked-spec : {M : Type 1} → statement M
 unmarked-spec =
     tie.close
     (tie.spec
-    sub-leading-marks
-    part-leading-marks-start
-    part-leading-marks-end
-    leading-marks-requires
+    (λ c. search needs)
+    (λ c. search needs)
+    (λ c. search needs)
+    (λ c κs. search needs)
     add-first
     sub-unmarked-len
     part-unmarked-len-start
-    part-unmarked-len-end
-    unmarked-len-requires
+    (λ c. search needs)
+    (λ c κs. search needs)
     add-t7
     returns)

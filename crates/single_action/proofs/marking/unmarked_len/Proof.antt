@@ -22,24 +22,12 @@ abbrev μ-loop : tie.MeasureT-loop
 loop-holds : tie.Need-loop-holds Inv-loop μ-loop
 loop-holds c = (omega arith, rw take-length)
 
-sub-last : tie.Need-sub-last Inv-loop μ-loop
-sub-last c = search needs
-
-shared-slice-read-is-quotation : tie.Need-shared-slice-read-is-quotation Inv-loop μ-loop
-shared-slice-read-is-quotation c = search needs
-
-is-quotation-requires : tie.Need-is-quotation-requires Inv-loop μ-loop
-is-quotation-requires c κs = search needs
-
 returns : tie.Need-returns Inv-loop μ-loop
 returns c =
     let s = now (c .before .before .before .before .before .before .args .s) in
     let l = c .before .before .before .before .loop in
     let w = sym (c .before .is-quotation .ensures) ∙ not-true _ (c .if1 .taken) in
     end-found quotation s (l .n) (l .inv .0) (end-other quotation s (l .n) (c .before .before .before .loop-test .taken) (l .inv .0) w) (l .inv .1)
-
-loop-less : tie.Need-loop-less Inv-loop μ-loop
-loop-less c = search needs
 
 loop-again : tie.Need-loop-again Inv-loop μ-loop
 loop-again c =
@@ -57,4 +45,4 @@ returns-2 c =
 pub unmarked-len-spec : {M : Type 1} → statement M
 unmarked-len-spec =
     tie.close
-    (tie.spec Inv-loop μ-loop loop-holds sub-last shared-slice-read-is-quotation is-quotation-requires returns loop-less loop-again returns-2)
+    (tie.spec Inv-loop μ-loop loop-holds (λ c. search needs) (λ c. search needs) (λ c κs. search needs) returns (λ c. search needs) loop-again returns-2)

@@ -5,9 +5,6 @@ use Rattle.single_action.proofs.NamingLaws.{code-at, code-fits}
 use Rattle.single_action.proofs.naming.code_of.Statement.{statement}
 use Rattle.single_action.proofs.naming.code_of.Tie as tie
 
-array-read-result : tie.Need-array-read-result
-array-read-result c = search needs
-
 cast-result : tie.Need-cast-result
 unfolding rows
 cast-result c = code-fits (c .args .row) (c .pre)
@@ -17,4 +14,4 @@ unfolding rows
 returns c = code-at (c .args .row) (c .pre)
 
 pub code-of-spec : {M : Type 1} → statement M
-code-of-spec = tie.close (tie.spec array-read-result cast-result returns)
+code-of-spec = tie.close (tie.spec (λ c. search needs) cast-result returns)

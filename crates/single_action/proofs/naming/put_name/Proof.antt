@@ -14,35 +14,17 @@ use Rattle.single_action.proofs.naming.put_name.Tie as tie
 returns : tie.Need-returns
 returns c = past-stored (c .before .before .args .row) (c .if1 .taken) (now (c .before .before .args .out))
 
-array-read-n : tie.Need-array-read-n
-array-read-n c = search needs
-
 cast-n : tie.Need-cast-n
 unfolding rows bytes
 cast-n c = length-fits (c .before .before .args .row) (c .if1 .left)
-
-mul-at : tie.Need-mul-at
-mul-at c = search needs
 
 add-store-bytes : tie.Need-add-store-bytes
 unfolding rows bytes
 add-store-bytes c = end-fits (c .before .before .before .args .row) (c .before .if1 .left)
 
-sub-store-bytes : tie.Need-sub-store-bytes
-sub-store-bytes c = search needs
-
-part-store-bytes-start : tie.Need-part-store-bytes-start
-part-store-bytes-start c = search needs
-
 part-store-bytes-end : tie.Need-part-store-bytes-end
 unfolding shelves rows bytes
 part-store-bytes-end c = end-inside (c .before .before .before .before .args .row) (c .before .before .if1 .left)
-
-store-bytes-requires : tie.Need-store-bytes-requires
-store-bytes-requires c κs = search needs
-
-same-length : tie.Need-same-length
-same-length c = search needs
 
 returns-2 : tie.Need-returns-2
 unfolding shelves rows bytes
@@ -56,13 +38,13 @@ put-name-spec =
     tie.close
     (tie.spec
     returns
-    array-read-n
+    (λ c. search needs)
     cast-n
-    mul-at
+    (λ c. search needs)
     add-store-bytes
-    sub-store-bytes
-    part-store-bytes-start
+    (λ c. search needs)
+    (λ c. search needs)
     part-store-bytes-end
-    store-bytes-requires
-    same-length
+    (λ c κs. search needs)
+    (λ c. search needs)
     returns-2)

@@ -5,15 +5,9 @@ use Rattle.single_action.proofs.NamingLaws.{ruleNumbers, rule-at}
 use Rattle.single_action.proofs.naming.rule_of.Statement.{statement}
 use Rattle.single_action.proofs.naming.rule_of.Tie as tie
 
-array-read-numbered-rule : tie.Need-array-read-numbered-rule
-array-read-numbered-rule c = search needs
-
-numbered-rule-requires : tie.Need-numbered-rule-requires
-numbered-rule-requires c κs = search needs
-
 returns : tie.Need-returns
 unfolding ruleNumbers
 returns c = c .numbered-rule .ensures ∙ rule-at (c .before .args .row) (c .before .pre)
 
 pub rule-of-spec : {M : Type 1} → statement M
-rule-of-spec = tie.close (tie.spec array-read-numbered-rule numbered-rule-requires returns)
+rule-of-spec = tie.close (tie.spec (λ c. search needs) (λ c κs. search needs) returns)

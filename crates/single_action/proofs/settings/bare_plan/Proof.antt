@@ -14,47 +14,17 @@ use borrow.Author.Needs.{needs}
 use Rattle.single_action.proofs.settings.bare_plan.Statement.{statement}
 use Rattle.single_action.proofs.settings.bare_plan.Tie as tie
 
-shared-slice-read-if2 : tie.Need-shared-slice-read-if2
-shared-slice-read-if2 c = search needs
-
-add-name-plan : tie.Need-add-name-plan
-add-name-plan c = search needs
-
-name-plan-requires : tie.Need-name-plan-requires
-name-plan-requires c κs = search needs
-
-setvar-of-requires : tie.Need-setvar-of-requires
-setvar-of-requires c κs = search needs
-
 returns : tie.Need-returns
 returns c =
     let s = c .before .before .before .before .before .before in
     rw (c .setvar-of .ensures, bare-delete (now (s .args .s)) (s .args .first) (s .args .past) (s .pre .0) (s .pre .1) (c .before .before .before .before .if1 .taken) (c .before .before .if2 .taken))
     (setvar-planned (now (s .args .s)) (s .args .code) (c .before .name-plan .ensures) (deleted (now (s .args .s))))
 
-sub-first-of : tie.Need-sub-first-of
-sub-first-of c = search needs
-
-part-first-of-start : tie.Need-part-first-of-start
-part-first-of-start c = search needs
-
-part-first-of-end : tie.Need-part-first-of-end
-part-first-of-end c = search needs
-
-first-of-requires : tie.Need-first-of-requires
-first-of-requires c κs = search needs
-
 add-equals : tie.Need-add-equals
 add-equals c =
     let s = c .before .before .before .before in
     let h = found-within (now (s .args .s)) (s .args .first) (s .args .past) (s .pre .1) 61 (c .first-of .result) (c .first-of .ensures) (s .pre .0) in
     omega (arith, h)
-
-name-plan-requires-2 : tie.Need-name-plan-requires-2
-name-plan-requires-2 c κs = search needs
-
-setvar-of-requires-2 : tie.Need-setvar-of-requires-2
-setvar-of-requires-2 c κs = search needs
 
 -- no `!` stands first
 no-bang : (c : tie.Joined1) → let s = c .before .before .args in leads 33 (cut (now (s .s)) (s .first) (s .past)) ≡ false
@@ -75,18 +45,6 @@ returns-2 c =
     rw (c .setvar-of2 .ensures, bare-one (now (s .args .s)) (s .args .first) (s .args .past) (s .pre .0) (s .pre .1) (f .result) (f .ensures) (no-bang (c .before .before .before .before .before)) (c .before .before .if3 .taken))
     (setvar-planned (now (s .args .s)) (s .args .code) (c .before .name-plan2 .ensures) (one (now (s .args .s))))
 
-name-plan-requires-3 : tie.Need-name-plan-requires-3
-name-plan-requires-3 c κs = search needs
-
-add-value-plan : tie.Need-add-value-plan
-add-value-plan c = search needs
-
-value-plan-requires : tie.Need-value-plan-requires
-value-plan-requires c κs = search needs
-
-setvar-of-requires-3 : tie.Need-setvar-of-requires-3
-setvar-of-requires-3 c κs = search needs
-
 returns-3 : tie.Need-returns-3
 returns-3 c =
     let s = c .before .before .before .before .before .before .before .before in
@@ -98,21 +56,21 @@ pub bare-plan-spec : {M : Type 1} → statement M
 bare-plan-spec =
     tie.close
     (tie.spec
-    shared-slice-read-if2
-    add-name-plan
-    name-plan-requires
-    setvar-of-requires
+    (λ c. search needs)
+    (λ c. search needs)
+    (λ c κs. search needs)
+    (λ c κs. search needs)
     returns
-    sub-first-of
-    part-first-of-start
-    part-first-of-end
-    first-of-requires
+    (λ c. search needs)
+    (λ c. search needs)
+    (λ c. search needs)
+    (λ c κs. search needs)
     add-equals
-    name-plan-requires-2
-    setvar-of-requires-2
+    (λ c κs. search needs)
+    (λ c κs. search needs)
     returns-2
-    name-plan-requires-3
-    add-value-plan
-    value-plan-requires
-    setvar-of-requires-3
+    (λ c κs. search needs)
+    (λ c. search needs)
+    (λ c κs. search needs)
+    (λ c κs. search needs)
     returns-3)

@@ -7,18 +7,6 @@ use borrow.Author.Needs.{needs}
 use Rattle.single_action.proofs.settings.name_plan.Statement.{statement}
 use Rattle.single_action.proofs.settings.name_plan.Tie as tie
 
-sub-first-of : tie.Need-sub-first-of
-sub-first-of c = search needs
-
-part-first-of-start : tie.Need-part-first-of-start
-part-first-of-start c = search needs
-
-part-first-of-end : tie.Need-part-first-of-end
-part-first-of-end c = search needs
-
-first-of-requires : tie.Need-first-of-requires
-first-of-requires c κs = search needs
-
 add-dot : tie.Need-add-dot
 add-dot c =
     let s = c .before .before .before in
@@ -30,9 +18,6 @@ returns c =
     let s = c .before .before .before .before in
     name-whole (now (s .args .s)) (s .args .first) (s .args .past) (s .pre .0) (s .pre .1) (c .before .first-of .result) (c .before .first-of .ensures) (c .if1 .taken)
 
-add-t5 : tie.Need-add-t5
-add-t5 c = search needs
-
 returns-2 : tie.Need-returns-2
 returns-2 c =
     let s = c .before .before .before .before in
@@ -42,11 +27,11 @@ pub name-plan-spec : {M : Type 1} → statement M
 name-plan-spec =
     tie.close
     (tie.spec
-    sub-first-of
-    part-first-of-start
-    part-first-of-end
-    first-of-requires
+    (λ c. search needs)
+    (λ c. search needs)
+    (λ c. search needs)
+    (λ c κs. search needs)
     add-dot
     returns
-    add-t5
+    (λ c. search needs)
     returns-2)

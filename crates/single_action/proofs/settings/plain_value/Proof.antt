@@ -13,71 +13,17 @@ use borrow.Author.Needs.{needs}
 use Rattle.single_action.proofs.settings.plain_value.Statement.{statement}
 use Rattle.single_action.proofs.settings.plain_value.Tie as tie
 
-shared-slice-read-match : tie.Need-shared-slice-read-match
-shared-slice-read-match c = search needs
-
-add-signed : tie.Need-add-signed
-add-signed c = search needs
-
-sub-signed : tie.Need-sub-signed
-sub-signed c = search needs
-
-part-signed-start : tie.Need-part-signed-start
-part-signed-start c = search needs
-
-part-signed-end : tie.Need-part-signed-end
-part-signed-end c = search needs
-
-signed-requires : tie.Need-signed-requires
-signed-requires c κs = search needs
-
-step-requires : tie.Need-step-requires
-step-requires c κs = search needs
-
 returns : tie.Need-returns
 returns c =
     let s = c .before .before .before .before .before .before .before in
     rw (c .step .ensures, c .before .signed .ensures)
     (value-plus (now (s .args .s)) (s .args .first) (s .args .past) (s .pre .0) (s .pre .1) (c .before .before .before .before .before .if1 .taken) (c .before .before .before .match .keys1))
 
-add-signed-2 : tie.Need-add-signed-2
-add-signed-2 c = search needs
-
-sub-signed-2 : tie.Need-sub-signed-2
-sub-signed-2 c = search needs
-
-part-signed-start-2 : tie.Need-part-signed-start-2
-part-signed-start-2 c = search needs
-
-part-signed-end-2 : tie.Need-part-signed-end-2
-part-signed-end-2 c = search needs
-
-signed-requires-2 : tie.Need-signed-requires-2
-signed-requires-2 c κs = search needs
-
-step-requires-2 : tie.Need-step-requires-2
-step-requires-2 c κs = search needs
-
 returns-2 : tie.Need-returns-2
 returns-2 c =
     let s = c .before .before .before .before .before .before .before in
     rw (c .step2 .ensures, c .before .signed2 .ensures)
     (value-minus (now (s .args .s)) (s .args .first) (s .args .past) (s .pre .0) (s .pre .1) (c .before .before .before .before .before .if1 .taken) (c .before .before .before .match .keys2))
-
-sub-signed-3 : tie.Need-sub-signed-3
-sub-signed-3 c = search needs
-
-part-signed-start-3 : tie.Need-part-signed-start-3
-part-signed-start-3 c = search needs
-
-part-signed-end-3 : tie.Need-part-signed-end-3
-part-signed-end-3 c = search needs
-
-signed-requires-3 : tie.Need-signed-requires-3
-signed-requires-3 c κs = search needs
-
-enum-known-number : tie.Need-enum-known-number
-enum-known-number c = search needs
 
 -- neither sign stands first
 no-sign : (c : tie.Joined1) → let s = c .before .before .args in plainValue (cut (now (s .s)) (s .first) (s .past)) ≡ numberOr (cut (now (s .s)) (s .first) (s .past)) (signedWord (cut (now (s .s)) (s .first) (s .past)))
@@ -108,25 +54,25 @@ pub plain-value-spec : {M : Type 1} → statement M
 plain-value-spec =
     tie.close
     (tie.spec
-    shared-slice-read-match
-    add-signed
-    sub-signed
-    part-signed-start
-    part-signed-end
-    signed-requires
-    step-requires
+    (λ c. search needs)
+    (λ c. search needs)
+    (λ c. search needs)
+    (λ c. search needs)
+    (λ c. search needs)
+    (λ c κs. search needs)
+    (λ c κs. search needs)
     returns
-    add-signed-2
-    sub-signed-2
-    part-signed-start-2
-    part-signed-end-2
-    signed-requires-2
-    step-requires-2
+    (λ c. search needs)
+    (λ c. search needs)
+    (λ c. search needs)
+    (λ c. search needs)
+    (λ c κs. search needs)
+    (λ c κs. search needs)
     returns-2
-    sub-signed-3
-    part-signed-start-3
-    part-signed-end-3
-    signed-requires-3
-    enum-known-number
+    (λ c. search needs)
+    (λ c. search needs)
+    (λ c. search needs)
+    (λ c κs. search needs)
+    (λ c. search needs)
     returns-3
     returns-4)

@@ -7,18 +7,6 @@ use borrow.Author.Needs.{needs}
 use Rattle.single_action.proofs.settings.setvar_plan.Statement.{statement}
 use Rattle.single_action.proofs.settings.setvar_plan.Tie as tie
 
-sub-trimmed : tie.Need-sub-trimmed
-sub-trimmed c = search needs
-
-part-trimmed-start : tie.Need-part-trimmed-start
-part-trimmed-start c = search needs
-
-part-trimmed-end : tie.Need-part-trimmed-end
-part-trimmed-end c = search needs
-
-trimmed-requires : tie.Need-trimmed-requires
-trimmed-requires c κs = search needs
-
 part-held : (c : tie.After-trimmed) → Held (now (c .before .before .before .args .s)) (c .before .before .before .args .from) (c .trimmed .result)
 part-held c = let s = c .before .before .before in held (now (s .args .s)) (s .args .from) (c .trimmed .result) (s .pre) (c .trimmed .ensures)
 
@@ -36,9 +24,6 @@ part-is-paired-start c = part-held (c .before .before) .ordered
 
 part-is-paired-end : tie.Need-part-is-paired-end
 part-is-paired-end c = part-held (c .before .before) .inside
-
-is-paired-requires : tie.Need-is-paired-requires
-is-paired-requires c κs = search needs
 
 -- there is room between the marks
 marked : (c : tie.Then1) → Room (c .before .before .before .before .before .before .before .before .args .from) (c .before .before .before .before .before .trimmed .result)
@@ -74,16 +59,16 @@ pub setvar-plan-spec : {M : Type 1} → statement M
 setvar-plan-spec =
     tie.close
     (tie.spec
-    sub-trimmed
-    part-trimmed-start
-    part-trimmed-end
-    trimmed-requires
+    (λ c. search needs)
+    (λ c. search needs)
+    (λ c. search needs)
+    (λ c κs. search needs)
     add-first
     add-past
     sub-is-paired
     part-is-paired-start
     part-is-paired-end
-    is-paired-requires
+    (λ c κs. search needs)
     add-bare-plan
     sub-bare-plan
     bare-plan-requires

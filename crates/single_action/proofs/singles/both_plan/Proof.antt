@@ -6,23 +6,8 @@ use borrow.Author.Needs.{needs}
 use Rattle.single_action.proofs.singles.both_plan.Statement.{statement}
 use Rattle.single_action.proofs.singles.both_plan.Tie as tie
 
-sub-first-of : tie.Need-sub-first-of
-sub-first-of c = search needs
-
-part-first-of-start : tie.Need-part-first-of-start
-part-first-of-start c = search needs
-
-part-first-of-end : tie.Need-part-first-of-end
-part-first-of-end c = search needs
-
-first-of-requires : tie.Need-first-of-requires
-first-of-requires c κs = search needs
-
 add-equals : tie.Need-add-equals
 add-equals c = let s = c .before .before .before in omega (arith, equals-within (now (s .args .s)) (s .args .from) (s .args .code) (s .pre) (c .first-of .result) (c .first-of .ensures))
-
-add-behind : tie.Need-add-behind
-add-behind c = search needs
 
 returns : tie.Need-returns
 returns c = let s = c .before .before .before .before in both-halves (now (s .args .s)) (s .args .from) (s .args .code) (s .pre) (c .before .first-of .result) (c .before .first-of .ensures) (c .if1 .taken)
@@ -34,11 +19,11 @@ pub both-plan-spec : {M : Type 1} → statement M
 both-plan-spec =
     tie.close
     (tie.spec
-    sub-first-of
-    part-first-of-start
-    part-first-of-end
-    first-of-requires
+    (λ c. search needs)
+    (λ c. search needs)
+    (λ c. search needs)
+    (λ c κs. search needs)
     add-equals
-    add-behind
+    (λ c. search needs)
     returns
     returns-2)

@@ -8,61 +8,13 @@ use borrow.Author.Needs.{needs}
 use Rattle.single_action.proofs.singles.expiry_plan.Statement.{statement}
 use Rattle.single_action.proofs.singles.expiry_plan.Tie as tie
 
-sub-first-of : tie.Need-sub-first-of
-sub-first-of c = search needs
-
-part-first-of-start : tie.Need-part-first-of-start
-part-first-of-start c = search needs
-
-part-first-of-end : tie.Need-part-first-of-end
-part-first-of-end c = search needs
-
-first-of-requires : tie.Need-first-of-requires
-first-of-requires c κs = search needs
-
 add-equals : tie.Need-add-equals
 add-equals c = let s = c .before .before .before in omega (arith, equals-within (now (s .args .s)) (s .args .from) (s .args .code) (s .pre) (c .first-of .result) (c .first-of .ensures))
-
-text-plan-requires : tie.Need-text-plan-requires
-text-plan-requires c κs = search needs
 
 returns : tie.Need-returns
 returns c =
     let s = c .before .before .before .before .before in
     rw (c .text-plan .ensures) (expiry-whole (now (s .args .s)) (s .args .from) (s .args .code) (s .pre) (c .before .before .first-of .result) (c .before .before .first-of .ensures) (c .before .if1 .taken))
-
-add-unsigned : tie.Need-add-unsigned
-add-unsigned c = search needs
-
-sub-unsigned : tie.Need-sub-unsigned
-sub-unsigned c = search needs
-
-part-unsigned-start : tie.Need-part-unsigned-start
-part-unsigned-start c = search needs
-
-part-unsigned-end : tie.Need-part-unsigned-end
-part-unsigned-end c = search needs
-
-unsigned-requires : tie.Need-unsigned-requires
-unsigned-requires c κs = search needs
-
-enum-known-seconds : tie.Need-enum-known-seconds
-enum-known-seconds c = search needs
-
-text-plan-requires-2 : tie.Need-text-plan-requires-2
-text-plan-requires-2 c κs = search needs
-
-enum-told : tie.Need-enum-told
-enum-told c = search needs
-
-text-plan-requires-3 : tie.Need-text-plan-requires-3
-text-plan-requires-3 c κs = search needs
-
-enum-told-2 : tie.Need-enum-told-2
-enum-told-2 c = search needs
-
-text-plan-requires-4 : tie.Need-text-plan-requires-4
-text-plan-requires-4 c κs = search needs
 
 returns-2 : tie.Need-returns-2
 returns-2 c =
@@ -87,24 +39,24 @@ pub expiry-plan-spec : {M : Type 1} → statement M
 expiry-plan-spec =
     tie.close
     (tie.spec
-    sub-first-of
-    part-first-of-start
-    part-first-of-end
-    first-of-requires
+    (λ c. search needs)
+    (λ c. search needs)
+    (λ c. search needs)
+    (λ c κs. search needs)
     add-equals
-    text-plan-requires
+    (λ c κs. search needs)
     returns
-    add-unsigned
-    sub-unsigned
-    part-unsigned-start
-    part-unsigned-end
-    unsigned-requires
-    enum-known-seconds
-    text-plan-requires-2
-    enum-told
-    text-plan-requires-3
-    enum-told-2
-    text-plan-requires-4
+    (λ c. search needs)
+    (λ c. search needs)
+    (λ c. search needs)
+    (λ c. search needs)
+    (λ c κs. search needs)
+    (λ c. search needs)
+    (λ c κs. search needs)
+    (λ c. search needs)
+    (λ c κs. search needs)
+    (λ c. search needs)
+    (λ c κs. search needs)
     returns-2
     returns-3
     returns-4)

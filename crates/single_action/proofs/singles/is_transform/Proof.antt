@@ -14,15 +14,9 @@ returns c = sym (transform-short (now (c .before .before .args .s)) (c .if1 .tak
 slice-aggregate-is-same : tie.Need-slice-aggregate-is-same
 slice-aggregate-is-same c = sym (length-take-le 2 (now (c .before .before .before .args .s)) (c .before .if1 .left))
 
-slice-aggregate-is-same-2 : tie.Need-slice-aggregate-is-same-2
-slice-aggregate-is-same-2 c = search needs
-
-is-same-requires : tie.Need-is-same-requires
-is-same-requires c κs = search needs
-
 returns-2 : tie.Need-returns-2
 unfolding bytes
 returns-2 c = c .is-same .ensures
 
 pub is-transform-spec : {M : Type 1} → statement M
-is-transform-spec = tie.close (tie.spec returns slice-aggregate-is-same slice-aggregate-is-same-2 is-same-requires returns-2)
+is-transform-spec = tie.close (tie.spec returns slice-aggregate-is-same (λ c. search needs) (λ c κs. search needs) returns-2)

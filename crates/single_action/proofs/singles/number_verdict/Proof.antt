@@ -5,21 +5,6 @@ use borrow.Author.Needs.{needs}
 use Rattle.single_action.proofs.singles.number_verdict.Statement.{statement}
 use Rattle.single_action.proofs.singles.number_verdict.Tie as tie
 
-enum-known-n : tie.Need-enum-known-n
-enum-known-n c = search needs
-
-code-of-requires : tie.Need-code-of-requires
-code-of-requires c κs = search needs
-
-text-plan-requires : tie.Need-text-plan-requires
-text-plan-requires c κs = search needs
-
-enum-told : tie.Need-enum-told
-enum-told c = search needs
-
-enum-told-2 : tie.Need-enum-told-2
-enum-told-2 c = search needs
-
 returns : tie.Need-returns
 returns c =
     λ s.
@@ -36,11 +21,11 @@ pub number-verdict-spec : {M : Type 1} → statement M
 number-verdict-spec =
     tie.close
     (tie.spec
-    enum-known-n
-    code-of-requires
-    text-plan-requires
-    enum-told
-    enum-told-2
+    (λ c. search needs)
+    (λ c κs. search needs)
+    (λ c κs. search needs)
+    (λ c. search needs)
+    (λ c. search needs)
     returns
     returns-2
     returns-3)

@@ -7,17 +7,8 @@ use borrow.Author.Needs.{needs}
 use Rattle.single_action.proofs.singles.read_single.Statement.{statement}
 use Rattle.single_action.proofs.singles.read_single.Tie as tie
 
-is-transform-requires : tie.Need-is-transform-requires
-is-transform-requires c κs = search needs
-
-text-plan-requires : tie.Need-text-plan-requires
-text-plan-requires c κs = search needs
-
 returns : tie.Need-returns
 returns c = rw (c .text-plan .ensures) (transform-done (now (c .before .before .before .before .args .s)) (sym (c .before .before .is-transform .ensures) ∙ c .before .if1 .taken))
-
-first-of-requires : tie.Need-first-of-requires
-first-of-requires c κs = search needs
 
 parted : (c : tie.After-first-of) → Parted (now (c .before .before .before .before .args .s)) (c .first-of .result)
 parted c = record { at = c .first-of .ensures; other = sym (c .before .before .is-transform .ensures) ∙ c .before .if1 .left }
@@ -28,22 +19,10 @@ slice-aggregate-row-of c =
     let n = c .before .first-of .result in
     sym (length-take-le n s (colon-within s n (parted (c .before))))
 
-row-of-requires : tie.Need-row-of-requires
-row-of-requires c κs = search needs
-
 returns-2 : tie.Need-returns-2
 returns-2 c =
     let r = c .before .row-of in
     single-unknown (now (c .before .before .before .before .before .before .before .args .s)) (c .before .before .before .first-of .result) (parted (c .before .before .before)) (r .result) (r .ensures) (c .if2 .taken)
-
-add-with-text : tie.Need-add-with-text
-add-with-text c = search needs
-
-with-text-requires : tie.Need-with-text-requires
-with-text-requires c κs = search needs
-
-with-none-requires : tie.Need-with-none-requires
-with-none-requires c κs = search needs
 
 returns-3 : tie.Need-returns-3
 returns-3 c =
@@ -63,15 +42,15 @@ pub read-single-spec : {M : Type 1} → statement M
 read-single-spec =
     tie.close
     (tie.spec
-    is-transform-requires
-    text-plan-requires
+    (λ c κs. search needs)
+    (λ c κs. search needs)
     returns
-    first-of-requires
+    (λ c κs. search needs)
     slice-aggregate-row-of
-    row-of-requires
+    (λ c κs. search needs)
     returns-2
-    add-with-text
-    with-text-requires
-    with-none-requires
+    (λ c. search needs)
+    (λ c κs. search needs)
+    (λ c κs. search needs)
     returns-3
     returns-4)

@@ -10,38 +10,11 @@ use borrow.Author.Needs.{needs}
 use Rattle.single_action.proofs.singles.severity_verdict.Statement.{statement}
 use Rattle.single_action.proofs.singles.severity_verdict.Tie as tie
 
-unsigned-requires : tie.Need-unsigned-requires
-unsigned-requires c κs = search needs
-
-enum-known-v : tie.Need-enum-known-v
-enum-known-v c = search needs
-
-code-of-requires : tie.Need-code-of-requires
-code-of-requires c κs = search needs
-
-text-plan-requires : tie.Need-text-plan-requires
-text-plan-requires c κs = search needs
-
 returns : tie.Need-returns
 returns c =
     λ s.
     rw (c .text-plan .ensures, c .before .code-of .ensures, sym (c .before .before .before .before .before .unsigned .ensures) ∙ c .before .before .before .v .given .1)
     (done-plan s (number-plan s (rowAt (c .before .before .before .before .before .before .before .args .row) .code) (c .before .before .before .v .given .0 .0)))
-
-severity-code-requires : tie.Need-severity-code-requires
-severity-code-requires c κs = search needs
-
-enum-known-v-2 : tie.Need-enum-known-v-2
-enum-known-v-2 c = search needs
-
-code-of-requires-2 : tie.Need-code-of-requires-2
-code-of-requires-2 c κs = search needs
-
-text-plan-requires-2 : tie.Need-text-plan-requires-2
-text-plan-requires-2 c κs = search needs
-
-enum-told : tie.Need-enum-told
-enum-told c = search needs
 
 -- no number was read
 word : (c : tie.At-match-keys2) → let s = c .before .before .before .args in severityBy (rowAt (s .row)) (now (s .word)) (unsignedBy 255 (now (s .word))) ≡ lookupBy (rowAt (s .row)) (severityCode (now (s .word)))
@@ -65,15 +38,15 @@ pub severity-verdict-spec : {M : Type 1} → statement M
 severity-verdict-spec =
     tie.close
     (tie.spec
-    unsigned-requires
-    enum-known-v
-    code-of-requires
-    text-plan-requires
+    (λ c κs. search needs)
+    (λ c. search needs)
+    (λ c κs. search needs)
+    (λ c κs. search needs)
     returns
-    severity-code-requires
-    enum-known-v-2
-    code-of-requires-2
-    text-plan-requires-2
-    enum-told
+    (λ c κs. search needs)
+    (λ c. search needs)
+    (λ c κs. search needs)
+    (λ c κs. search needs)
+    (λ c. search needs)
     returns-2
     returns-3)

@@ -5,30 +5,6 @@ use borrow.Author.Needs.{needs}
 use Rattle.single_action.proofs.singles.with_none.Statement.{statement}
 use Rattle.single_action.proofs.singles.with_none.Tie as tie
 
-code-of-requires : tie.Need-code-of-requires
-code-of-requires c κs = search needs
-
-rule-of-requires : tie.Need-rule-of-requires
-rule-of-requires c κs = search needs
-
-enum-told : tie.Need-enum-told
-enum-told c = search needs
-
-text-plan-requires : tie.Need-text-plan-requires
-text-plan-requires c κs = search needs
-
-enum-told-2 : tie.Need-enum-told-2
-enum-told-2 c = search needs
-
-text-plan-requires-2 : tie.Need-text-plan-requires-2
-text-plan-requires-2 c κs = search needs
-
-enum-told-3 : tie.Need-enum-told-3
-enum-told-3 c = search needs
-
-text-plan-requires-3 : tie.Need-text-plan-requires-3
-text-plan-requires-3 c κs = search needs
-
 returns : tie.Need-returns
 returns c = λ s. rw (c .text-plan .ensures) (none-plain s (rowAt (c .before .before .before .before .before .args .row)) (c .before .before .before .before .code-of .ensures) (c .before .before .before .rule-of .ensures) (c .before .enum-told .given .1))
 
@@ -48,14 +24,14 @@ pub with-none-spec : {M : Type 1} → statement M
 with-none-spec =
     tie.close
     (tie.spec
-    code-of-requires
-    rule-of-requires
-    enum-told
-    text-plan-requires
-    enum-told-2
-    text-plan-requires-2
-    enum-told-3
-    text-plan-requires-3
+    (λ c κs. search needs)
+    (λ c κs. search needs)
+    (λ c. search needs)
+    (λ c κs. search needs)
+    (λ c. search needs)
+    (λ c κs. search needs)
+    (λ c. search needs)
+    (λ c κs. search needs)
     returns
     returns-2
     returns-3

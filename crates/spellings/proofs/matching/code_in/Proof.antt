@@ -45,15 +45,6 @@ part-is-same-start c = omega arith
 part-is-same-end : tie.Need-part-is-same-end Inv-loop μ-loop
 part-is-same-end c = omega arith
 
-is-same-requires : tie.Need-is-same-requires Inv-loop μ-loop
-is-same-requires c κs = search needs
-
-mul-t15 : tie.Need-mul-t15 Inv-loop μ-loop
-mul-t15 c = search needs
-
-shared-slice-read-t17 : tie.Need-shared-slice-read-t17 Inv-loop μ-loop
-shared-slice-read-t17 c = search needs
-
 returns-2 : tie.Need-returns-2 Inv-loop μ-loop
 returns-2 c =
     let s = c .before .before .before .before .before .before .before .before .before .before .args in
@@ -106,9 +97,9 @@ code-in-spec =
     sub-is-same
     part-is-same-start
     part-is-same-end
-    is-same-requires
-    mul-t15
-    shared-slice-read-t17
+    (λ c κs. search needs)
+    (λ c. search needs)
+    (λ c. search needs)
     returns-2
     add-k
     loop-less

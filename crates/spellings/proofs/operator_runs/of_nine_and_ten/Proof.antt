@@ -11,24 +11,6 @@ use Rattle.spellings.proofs.RunLaws.{hint}
 use Rattle.spellings.proofs.operator_runs.of_nine_and_ten.Statement.{statement}
 use Rattle.spellings.proofs.operator_runs.of_nine_and_ten.Tie as tie
 
-slice-aggregate-code-in : tie.Need-slice-aggregate-code-in
-slice-aggregate-code-in c = search needs
-
-slice-aggregate-code-in-2 : tie.Need-slice-aggregate-code-in-2
-slice-aggregate-code-in-2 c = search needs
-
-code-in-requires : tie.Need-code-in-requires
-code-in-requires c κs = search needs
-
-slice-aggregate-code-in-3 : tie.Need-slice-aggregate-code-in-3
-slice-aggregate-code-in-3 c = search needs
-
-slice-aggregate-code-in-4 : tie.Need-slice-aggregate-code-in-4
-slice-aggregate-code-in-4 c = search needs
-
-code-in-requires-2 : tie.Need-code-in-requires-2
-code-in-requires-2 c κs = search needs
-
 returns : tie.Need-returns
 unfolding answered cut operatorCode find operators same bytes lower
 returns c = hint operatorCode 9 (c .code-in .ensures) (omega arith) refl
@@ -37,19 +19,16 @@ returns-2 : tie.Need-returns-2
 unfolding answered cut operatorCode find operators same bytes lower
 returns-2 c = hint operatorCode 10 (c .code-in2 .ensures) (omega arith) refl
 
-returns-3 : tie.Need-returns-3
-returns-3 c = search needs
-
 pub of-nine-and-ten-spec : {M : Type 1} → statement M
 of-nine-and-ten-spec =
     tie.close
     (tie.spec
-    slice-aggregate-code-in
-    slice-aggregate-code-in-2
-    code-in-requires
-    slice-aggregate-code-in-3
-    slice-aggregate-code-in-4
-    code-in-requires-2
+    (λ c. search needs)
+    (λ c. search needs)
+    (λ c κs. search needs)
+    (λ c. search needs)
+    (λ c. search needs)
+    (λ c κs. search needs)
     returns
     returns-2
-    returns-3)
+    (λ c. search needs))

@@ -11,96 +11,6 @@ use Rattle.spellings.proofs.RunLaws.{hint}
 use Rattle.spellings.proofs.variable_runs.commonest.Statement.{statement}
 use Rattle.spellings.proofs.variable_runs.commonest.Tie as tie
 
-slice-aggregate-code-in : tie.Need-slice-aggregate-code-in
-slice-aggregate-code-in c = search needs
-
-slice-aggregate-code-in-2 : tie.Need-slice-aggregate-code-in-2
-slice-aggregate-code-in-2 c = search needs
-
-code-in-requires : tie.Need-code-in-requires
-code-in-requires c κs = search needs
-
-slice-aggregate-code-in-3 : tie.Need-slice-aggregate-code-in-3
-slice-aggregate-code-in-3 c = search needs
-
-slice-aggregate-code-in-4 : tie.Need-slice-aggregate-code-in-4
-slice-aggregate-code-in-4 c = search needs
-
-code-in-requires-2 : tie.Need-code-in-requires-2
-code-in-requires-2 c κs = search needs
-
-slice-aggregate-code-in-5 : tie.Need-slice-aggregate-code-in-5
-slice-aggregate-code-in-5 c = search needs
-
-slice-aggregate-code-in-6 : tie.Need-slice-aggregate-code-in-6
-slice-aggregate-code-in-6 c = search needs
-
-code-in-requires-3 : tie.Need-code-in-requires-3
-code-in-requires-3 c κs = search needs
-
-slice-aggregate-code-in-7 : tie.Need-slice-aggregate-code-in-7
-slice-aggregate-code-in-7 c = search needs
-
-slice-aggregate-code-in-8 : tie.Need-slice-aggregate-code-in-8
-slice-aggregate-code-in-8 c = search needs
-
-code-in-requires-4 : tie.Need-code-in-requires-4
-code-in-requires-4 c κs = search needs
-
-slice-aggregate-code-in-9 : tie.Need-slice-aggregate-code-in-9
-slice-aggregate-code-in-9 c = search needs
-
-slice-aggregate-code-in-10 : tie.Need-slice-aggregate-code-in-10
-slice-aggregate-code-in-10 c = search needs
-
-code-in-requires-5 : tie.Need-code-in-requires-5
-code-in-requires-5 c κs = search needs
-
-slice-aggregate-code-in-11 : tie.Need-slice-aggregate-code-in-11
-slice-aggregate-code-in-11 c = search needs
-
-slice-aggregate-code-in-12 : tie.Need-slice-aggregate-code-in-12
-slice-aggregate-code-in-12 c = search needs
-
-code-in-requires-6 : tie.Need-code-in-requires-6
-code-in-requires-6 c κs = search needs
-
-slice-aggregate-code-in-13 : tie.Need-slice-aggregate-code-in-13
-slice-aggregate-code-in-13 c = search needs
-
-slice-aggregate-code-in-14 : tie.Need-slice-aggregate-code-in-14
-slice-aggregate-code-in-14 c = search needs
-
-code-in-requires-7 : tie.Need-code-in-requires-7
-code-in-requires-7 c κs = search needs
-
-slice-aggregate-code-in-15 : tie.Need-slice-aggregate-code-in-15
-slice-aggregate-code-in-15 c = search needs
-
-slice-aggregate-code-in-16 : tie.Need-slice-aggregate-code-in-16
-slice-aggregate-code-in-16 c = search needs
-
-code-in-requires-8 : tie.Need-code-in-requires-8
-code-in-requires-8 c κs = search needs
-
-slice-aggregate-code-in-17 : tie.Need-slice-aggregate-code-in-17
-slice-aggregate-code-in-17 c = search needs
-
-slice-aggregate-code-in-18 : tie.Need-slice-aggregate-code-in-18
-slice-aggregate-code-in-18 c = search needs
-
-code-in-requires-9 : tie.Need-code-in-requires-9
-code-in-requires-9 c κs = search needs
-
-slice-aggregate-code-in-19 : tie.Need-slice-aggregate-code-in-19
-slice-aggregate-code-in-19 c = search needs
-
-slice-aggregate-code-in-20 : tie.Need-slice-aggregate-code-in-20
-slice-aggregate-code-in-20 c = search needs
-
-code-in-requires-10 : tie.Need-code-in-requires-10
-code-in-requires-10 c κs = search needs
-
 returns : tie.Need-returns
 unfolding answered cut variableCode find variables same bytes upper
 returns c = hint variableCode 2 (c .code-in .ensures) (omega arith) refl
@@ -141,43 +51,40 @@ returns-10 : tie.Need-returns-10
 unfolding answered cut variableCode find variables same bytes upper
 returns-10 c = hint variableCode 21 (c .code-in10 .ensures) (omega arith) refl
 
-returns-11 : tie.Need-returns-11
-returns-11 c = search needs
-
 pub commonest-spec : {M : Type 1} → statement M
 commonest-spec =
     tie.close
     (tie.spec
-    slice-aggregate-code-in
-    slice-aggregate-code-in-2
-    code-in-requires
-    slice-aggregate-code-in-3
-    slice-aggregate-code-in-4
-    code-in-requires-2
-    slice-aggregate-code-in-5
-    slice-aggregate-code-in-6
-    code-in-requires-3
-    slice-aggregate-code-in-7
-    slice-aggregate-code-in-8
-    code-in-requires-4
-    slice-aggregate-code-in-9
-    slice-aggregate-code-in-10
-    code-in-requires-5
-    slice-aggregate-code-in-11
-    slice-aggregate-code-in-12
-    code-in-requires-6
-    slice-aggregate-code-in-13
-    slice-aggregate-code-in-14
-    code-in-requires-7
-    slice-aggregate-code-in-15
-    slice-aggregate-code-in-16
-    code-in-requires-8
-    slice-aggregate-code-in-17
-    slice-aggregate-code-in-18
-    code-in-requires-9
-    slice-aggregate-code-in-19
-    slice-aggregate-code-in-20
-    code-in-requires-10
+    (λ c. search needs)
+    (λ c. search needs)
+    (λ c κs. search needs)
+    (λ c. search needs)
+    (λ c. search needs)
+    (λ c κs. search needs)
+    (λ c. search needs)
+    (λ c. search needs)
+    (λ c κs. search needs)
+    (λ c. search needs)
+    (λ c. search needs)
+    (λ c κs. search needs)
+    (λ c. search needs)
+    (λ c. search needs)
+    (λ c κs. search needs)
+    (λ c. search needs)
+    (λ c. search needs)
+    (λ c κs. search needs)
+    (λ c. search needs)
+    (λ c. search needs)
+    (λ c κs. search needs)
+    (λ c. search needs)
+    (λ c. search needs)
+    (λ c κs. search needs)
+    (λ c. search needs)
+    (λ c. search needs)
+    (λ c κs. search needs)
+    (λ c. search needs)
+    (λ c. search needs)
+    (λ c κs. search needs)
     returns
     returns-2
     returns-3
@@ -188,4 +95,4 @@ commonest-spec =
     returns-8
     returns-9
     returns-10
-    returns-11)
+    (λ c. search needs))

@@ -19,32 +19,11 @@ abbrev μ-loop : tie.MeasureT-loop
 loop-holds : tie.Need-loop-holds Inv-loop μ-loop
 loop-holds c = (omega arith, refl)
 
-sub-first-of : tie.Need-sub-first-of Inv-loop μ-loop
-sub-first-of c = search needs
-
-part-first-of-start : tie.Need-part-first-of-start Inv-loop μ-loop
-part-first-of-start c = search needs
-
-part-first-of-end : tie.Need-part-first-of-end Inv-loop μ-loop
-part-first-of-end c = search needs
-
-first-of-requires : tie.Need-first-of-requires Inv-loop μ-loop
-first-of-requires c κs = search needs
-
 add-bar : tie.Need-add-bar Inv-loop μ-loop
 add-bar c = omega (arith, bar-fits (now (c .before .before .before .before .before .args .s)) (c .before .before .before .loop .at) _ (c .before .before .loop-test .taken) (c .first-of .ensures))
 
-sub-trimmed : tie.Need-sub-trimmed Inv-loop μ-loop
-sub-trimmed c = search needs
-
-part-trimmed-start : tie.Need-part-trimmed-start Inv-loop μ-loop
-part-trimmed-start c = search needs
-
 part-trimmed-end : tie.Need-part-trimmed-end Inv-loop μ-loop
 part-trimmed-end c = omega (arith, bar-fits (now (c .before .before .before .before .before .args .s)) (c .before .before .before .loop .at) _ (c .before .before .loop-test .taken) (c .first-of .ensures))
-
-trimmed-requires : tie.Need-trimmed-requires Inv-loop μ-loop
-trimmed-requires c κs = search needs
 
 add-t15 : tie.Need-add-t15 Inv-loop μ-loop
 add-t15 c =
@@ -90,9 +69,6 @@ add-at c =
     let start = at-loop .before .before in
     omega (arith, bar-fits (now (start .args .s)) (at-loop .loop .at) _ (at-loop-test .loop-test .taken) (at-first-of .first-of .ensures))
 
-loop-less : tie.Need-loop-less Inv-loop μ-loop
-loop-less c = search needs
-
 loop-again : tie.Need-loop-again Inv-loop μ-loop
 loop-again c =
     let at-trimmed = c .before .before in
@@ -112,20 +88,20 @@ next-piece-spec =
     Inv-loop
     μ-loop
     loop-holds
-    sub-first-of
-    part-first-of-start
-    part-first-of-end
-    first-of-requires
+    (λ c. search needs)
+    (λ c. search needs)
+    (λ c. search needs)
+    (λ c κs. search needs)
     add-bar
-    sub-trimmed
-    part-trimmed-start
+    (λ c. search needs)
+    (λ c. search needs)
     part-trimmed-end
-    trimmed-requires
+    (λ c κs. search needs)
     add-t15
     add-t16
     add-t17
     returns
     add-at
-    loop-less
+    (λ c. search needs)
     loop-again
     returns-2)

@@ -7,21 +7,6 @@ use borrow.Author.Needs.{needs}
 use Rattle.variables.proofs.parsing.parse.Statement.{statement}
 use Rattle.variables.proofs.parsing.parse.Tie as tie
 
-admit-requires : tie.Need-admit-requires
-admit-requires c κs = search needs
-
-enum-told : tie.Need-enum-told
-enum-told c = search needs
-
-enum-known-place : tie.Need-enum-known-place
-enum-known-place c = search needs
-
-enum-told-2 : tie.Need-enum-told-2
-enum-told-2 c = search needs
-
-enum-told-3 : tie.Need-enum-told-3
-enum-told-3 c = search needs
-
 read-requires : tie.Need-read-requires
 read-requires c κs =
     let at-enum-told3 = c .before .before in
@@ -49,12 +34,6 @@ returns-3 c =
     let start = at-admit .before .before .before .before in
     gate-short (start .args .exclusions) (now (start .args .input)) (now (start .args .text)) (now (start .args .records)) _ (at-admit .admit .ensures) (c .enum-told2 .given .1)
 
-same-length : tie.Need-same-length
-same-length c = search needs
-
-same-length-2 : tie.Need-same-length-2
-same-length-2 c = search needs
-
 returns-4 : tie.Need-returns-4
 returns-4 c =
     let at-read = c .before .before .before .before in
@@ -67,15 +46,15 @@ pub parse-spec : {M : Type 1} → statement M
 parse-spec =
     tie.close
     (tie.spec
-    admit-requires
-    enum-told
-    enum-known-place
-    enum-told-2
-    enum-told-3
+    (λ c κs. search needs)
+    (λ c. search needs)
+    (λ c. search needs)
+    (λ c. search needs)
+    (λ c. search needs)
     read-requires
     returns
     returns-2
     returns-3
-    same-length
-    same-length-2
+    (λ c. search needs)
+    (λ c. search needs)
     returns-4)

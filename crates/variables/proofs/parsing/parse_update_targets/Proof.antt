@@ -6,15 +6,6 @@ use borrow.Author.Needs.{needs}
 use Rattle.variables.proofs.parsing.parse_update_targets.Statement.{statement}
 use Rattle.variables.proofs.parsing.parse_update_targets.Tie as tie
 
-parse-requires : tie.Need-parse-requires
-parse-requires c κs = search needs
-
-same-length : tie.Need-same-length
-same-length c = search needs
-
-same-length-2 : tie.Need-same-length-2
-same-length-2 c = search needs
-
 returns : tie.Need-returns
 returns c =
     let at-parse = c .before .before .before .before in
@@ -22,4 +13,4 @@ returns c =
     rw (as-update (now (start .args .input)) (length (now (start .args .text))) (length (now (start .args .records)))) (at-parse .parse .ensures)
 
 pub parse-update-targets-spec : {M : Type 1} → statement M
-parse-update-targets-spec = tie.close (tie.spec parse-requires same-length same-length-2 returns)
+parse-update-targets-spec = tie.close (tie.spec (λ c κs. search needs) (λ c. search needs) (λ c. search needs) returns)

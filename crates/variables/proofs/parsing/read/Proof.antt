@@ -8,15 +8,6 @@ use borrow.Author.Needs.{needs}
 use Rattle.variables.proofs.parsing.read.Statement.{statement}
 use Rattle.variables.proofs.parsing.read.Tie as tie
 
-scan-requires : tie.Need-scan-requires
-scan-requires c κs = search needs
-
-enum-known-piece : tie.Need-enum-known-piece
-enum-known-piece c = search needs
-
-clear-requires : tie.Need-clear-requires
-clear-requires c κs = search needs
-
 sub-store-bytes : tie.Need-sub-store-bytes
 sub-store-bytes c =
     let at-piece = c .before .before .before .before .before .before .before .before .before in
@@ -35,20 +26,11 @@ part-store-bytes-end c =
     let at-scan = at-piece .before .before .before .before .before .before in
     let x = (rw (at-piece .piece .given .1) at (at-scan .scan .ensures)) in x .inside
 
-store-bytes-requires : tie.Need-store-bytes-requires
-store-bytes-requires c κs = search needs
-
 sub-t29 : tie.Need-sub-t29
 sub-t29 c =
     let at-piece = c .before .before .before .before .before .before .before .before .before .before .before .before .before in
     let at-scan = at-piece .before .before .before .before .before .before in
     let x = (rw (at-piece .piece .given .1) at (at-scan .scan .ensures)) in x .ordered
-
-enum-known-variables : tie.Need-enum-known-variables
-enum-known-variables c = search needs
-
-kept-requires : tie.Need-kept-requires
-kept-requires c κs = search needs
 
 add-count : tie.Need-add-count
 add-count c =
@@ -56,18 +38,6 @@ add-count c =
     let at-scan = at-variables .before .before .before .before .before .before in
     let start = at-scan .before .before .before .before .before .before in
     let x = (rw (at-variables .variables .given .1) at (at-scan .scan .ensures)) in omega (arith, x .few, kept-low (start .args .exclusions) _ _ _ (c .kept .ensures))
-
-room-requires : tie.Need-room-requires
-room-requires c κs = search needs
-
-clear-requires-2 : tie.Need-clear-requires-2
-clear-requires-2 c κs = search needs
-
-same-length : tie.Need-same-length
-same-length c = search needs
-
-same-length-2 : tie.Need-same-length-2
-same-length-2 c = search needs
 
 returns : tie.Need-returns
 returns c =
@@ -108,12 +78,6 @@ part-clear-bytes-start c =
     let at-scan = at-variables .before .before .before .before .before .before in
     let start = at-scan .before .before .before .before .before .before in
     past-fits (start .args .exclusions) (now (start .args .s)) (now (start .args .text)) (now (start .args .records)) (rw (at-variables .variables .given .1) at (at-scan .scan .ensures)) _ (at-kept .kept .ensures) _ (at-room .room .ensures) (at-if1 .if1 .left) (start .pre .1) (at-add-exclusions .add-exclusions .ensures)
-
-part-clear-bytes-end : tie.Need-part-clear-bytes-end
-part-clear-bytes-end c = search needs
-
-clear-bytes-requires : tie.Need-clear-bytes-requires
-clear-bytes-requires c κs = search needs
 
 mul-words : tie.Need-mul-words
 mul-words c =
@@ -159,18 +123,6 @@ part-clear-words-start c =
     let start = at-scan .before .before .before .before .before .before in
     count-fits-still (start .args .exclusions) (now (start .args .s)) (now (start .args .text)) (now (start .args .records)) (rw (at-variables .variables .given .1) at (at-scan .scan .ensures)) _ (at-kept .kept .ensures) _ (at-room .room .ensures) (at-if1 .if1 .left) (start .pre .1) (at-add-exclusions .add-exclusions .ensures)
 
-part-clear-words-end : tie.Need-part-clear-words-end
-part-clear-words-end c = search needs
-
-clear-words-requires : tie.Need-clear-words-requires
-clear-words-requires c κs = search needs
-
-same-length-3 : tie.Need-same-length-3
-same-length-3 c = search needs
-
-same-length-4 : tie.Need-same-length-4
-same-length-4 c = search needs
-
 returns-2 : tie.Need-returns-2
 returns-2 c =
     let at-store-bytes = c .before .before in
@@ -179,12 +131,6 @@ returns-2 c =
     let at-scan = at-piece .before .before .before .before .before .before in
     let start = at-scan .before .before .before .before .before .before in
     read-unknown (start .args .exclusions) (now (start .args .s)) (now (start .args .text)) (now (start .args .records)) (rw (at-piece .piece .given .1) at (at-scan .scan .ensures)) (at-scan .scan .last .1 .1 .0) (at-scan .scan .last .1 .1 .1 .0) _ _ _ (at-scan .scan .kept .1 .1 .0) (at-scan .scan .kept .1 .1 .1 .0) (start .pre .1) (at-clear .clear .ensures .0) (at-clear .clear .ensures .1) (at-store-bytes .store-bytes .ensures)
-
-same-length-5 : tie.Need-same-length-5
-same-length-5 c = search needs
-
-same-length-6 : tie.Need-same-length-6
-same-length-6 c = search needs
 
 returns-3 : tie.Need-returns-3
 returns-3 c =
@@ -203,36 +149,36 @@ pub read-spec : {M : Type 1} → statement M
 read-spec =
     tie.close
     (tie.spec
-    scan-requires
-    enum-known-piece
-    clear-requires
+    (λ c κs. search needs)
+    (λ c. search needs)
+    (λ c κs. search needs)
     sub-store-bytes
     part-store-bytes-start
     part-store-bytes-end
-    store-bytes-requires
+    (λ c κs. search needs)
     sub-t29
-    enum-known-variables
-    kept-requires
+    (λ c. search needs)
+    (λ c κs. search needs)
     add-count
-    room-requires
-    clear-requires-2
-    same-length
-    same-length-2
+    (λ c κs. search needs)
+    (λ c κs. search needs)
+    (λ c. search needs)
+    (λ c. search needs)
     returns
     add-exclusions-requires
     sub-clear-bytes
     part-clear-bytes-start
-    part-clear-bytes-end
-    clear-bytes-requires
+    (λ c. search needs)
+    (λ c κs. search needs)
     mul-words
     mul-clear-words
     sub-clear-words
     part-clear-words-start
-    part-clear-words-end
-    clear-words-requires
-    same-length-3
-    same-length-4
+    (λ c. search needs)
+    (λ c κs. search needs)
+    (λ c. search needs)
+    (λ c. search needs)
     returns-2
-    same-length-5
-    same-length-6
+    (λ c. search needs)
+    (λ c. search needs)
     returns-3)

@@ -8,15 +8,6 @@ use Rattle.variables.proofs.singles.is_regex.Tie as tie
 returns : tie.Need-returns
 returns c = short-no-regex (now (c .before .args .t)) (c .if1 .taken)
 
-shared-slice-read-if2 : tie.Need-shared-slice-read-if2
-shared-slice-read-if2 c = search needs
-
-sub-result : tie.Need-sub-result
-sub-result c = search needs
-
-shared-slice-read-result : tie.Need-shared-slice-read-result
-shared-slice-read-result c = search needs
-
 returns-2 : tie.Need-returns-2
 returns-2 c = slash-first (now (c .before .before .before .before .args .t)) (c .before .before .before .if1 .left) (c .before .if2 .taken)
 
@@ -28,8 +19,8 @@ is-regex-spec =
     tie.close
     (tie.spec
     returns
-    shared-slice-read-if2
-    sub-result
-    shared-slice-read-result
+    (λ c. search needs)
+    (λ c. search needs)
+    (λ c. search needs)
     returns-2
     returns-3)

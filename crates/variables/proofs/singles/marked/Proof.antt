@@ -7,44 +7,11 @@ use borrow.Author.Needs.{needs}
 use Rattle.variables.proofs.singles.marked.Statement.{statement}
 use Rattle.variables.proofs.singles.marked.Tie as tie
 
-enum-told : tie.Need-enum-told
-enum-told c = search needs
-
-enum-told-2 : tie.Need-enum-told-2
-enum-told-2 c = search needs
-
-sub-first-of : tie.Need-sub-first-of
-sub-first-of c = search needs
-
-part-first-of-start : tie.Need-part-first-of-start
-part-first-of-start c = search needs
-
-part-first-of-end : tie.Need-part-first-of-end
-part-first-of-end c = search needs
-
-first-of-requires : tie.Need-first-of-requires
-first-of-requires c κs = search needs
-
 add-end : tie.Need-add-end
 add-end c = omega (arith, colon-fits (now (c .before .before .before .before .before .args .p)) 1 _ false (omega arith) (c .first-of .ensures))
 
-sub-variable-code : tie.Need-sub-variable-code
-sub-variable-code c = search needs
-
-part-variable-code-start : tie.Need-part-variable-code-start
-part-variable-code-start c = search needs
-
 part-variable-code-end : tie.Need-part-variable-code-end
 part-variable-code-end c = colon-fits (now (c .before .before .before .before .before .args .p)) 1 _ false (omega arith) (c .first-of .ensures)
-
-variable-code-requires : tie.Need-variable-code-requires
-variable-code-requires c κs = search needs
-
-enum-told-3 : tie.Need-enum-told-3
-enum-told-3 c = search needs
-
-enum-told-4 : tie.Need-enum-told-4
-enum-told-4 c = search needs
 
 returns : tie.Need-returns
 returns c = rw (c .enum-told .given .1) (marked-written (now (c .before .before .before .args .p)) (c .before .before .before .pre .0) (c .before .before .before .pre .1))
@@ -69,19 +36,19 @@ pub marked-spec : {M : Type 1} → statement M
 marked-spec =
     tie.close
     (tie.spec
-    enum-told
-    enum-told-2
-    sub-first-of
-    part-first-of-start
-    part-first-of-end
-    first-of-requires
+    (λ c. search needs)
+    (λ c. search needs)
+    (λ c. search needs)
+    (λ c. search needs)
+    (λ c. search needs)
+    (λ c κs. search needs)
     add-end
-    sub-variable-code
-    part-variable-code-start
+    (λ c. search needs)
+    (λ c. search needs)
     part-variable-code-end
-    variable-code-requires
-    enum-told-3
-    enum-told-4
+    (λ c κs. search needs)
+    (λ c. search needs)
+    (λ c. search needs)
     returns
     returns-2
     returns-3)

@@ -6,38 +6,11 @@ use borrow.Author.Needs.{needs}
 use Rattle.variables.proofs.singles.named.Statement.{statement}
 use Rattle.variables.proofs.singles.named.Tie as tie
 
-sub-first-of : tie.Need-sub-first-of
-sub-first-of c = search needs
-
-part-first-of-start : tie.Need-part-first-of-start
-part-first-of-start c = search needs
-
-part-first-of-end : tie.Need-part-first-of-end
-part-first-of-end c = search needs
-
-first-of-requires : tie.Need-first-of-requires
-first-of-requires c κs = search needs
-
 add-colon : tie.Need-add-colon
 add-colon c = omega (arith, colon-fits (now (c .before .before .before .args .p)) (c .before .before .before .args .first) _ (c .before .before .before .args .counts) (c .before .before .before .pre .1) (c .first-of .ensures))
 
-sub-variable-code : tie.Need-sub-variable-code
-sub-variable-code c = search needs
-
-part-variable-code-start : tie.Need-part-variable-code-start
-part-variable-code-start c = search needs
-
 part-variable-code-end : tie.Need-part-variable-code-end
 part-variable-code-end c = colon-fits (now (c .before .before .before .args .p)) (c .before .before .before .args .first) _ (c .before .before .before .args .counts) (c .before .before .before .pre .1) (c .first-of .ensures)
-
-variable-code-requires : tie.Need-variable-code-requires
-variable-code-requires c κs = search needs
-
-enum-told : tie.Need-enum-told
-enum-told c = search needs
-
-enum-known-code : tie.Need-enum-known-code
-enum-known-code c = search needs
 
 selection-at-requires : tie.Need-selection-at-requires
 selection-at-requires c κs =
@@ -64,17 +37,17 @@ pub named-spec : {M : Type 1} → statement M
 named-spec =
     tie.close
     (tie.spec
-    sub-first-of
-    part-first-of-start
-    part-first-of-end
-    first-of-requires
+    (λ c. search needs)
+    (λ c. search needs)
+    (λ c. search needs)
+    (λ c κs. search needs)
     add-colon
-    sub-variable-code
-    part-variable-code-start
+    (λ c. search needs)
+    (λ c. search needs)
     part-variable-code-end
-    variable-code-requires
-    enum-told
-    enum-known-code
+    (λ c κs. search needs)
+    (λ c. search needs)
+    (λ c. search needs)
     selection-at-requires
     returns
     returns-2)

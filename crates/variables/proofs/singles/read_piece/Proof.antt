@@ -6,17 +6,11 @@ use borrow.Author.Needs.{needs}
 use Rattle.variables.proofs.singles.read_piece.Statement.{statement}
 use Rattle.variables.proofs.singles.read_piece.Tie as tie
 
-shared-slice-read-b : tie.Need-shared-slice-read-b
-shared-slice-read-b c = search needs
-
 marked-requires : tie.Need-marked-requires
 marked-requires c κs = ((c .before .before .before .pre), c .if1 .taken)
 
 returns : tie.Need-returns
 returns c = c .marked .ensures
-
-named-requires : tie.Need-named-requires
-named-requires c κs = search needs
 
 returns-2 : tie.Need-returns-2
 returns-2 c =
@@ -24,9 +18,6 @@ returns-2 c =
     let at-if1 = at-if2 .before in
     let start = at-if1 .before .before .before in
     pieced-counts (excludingOf (start .args .exclusions)) (now (start .args .p)) (start .pre) (at-if1 .if1 .left) (at-if2 .if2 .taken) (c .named .result) (c .named .ensures)
-
-named-requires-2 : tie.Need-named-requires-2
-named-requires-2 c κs = search needs
 
 returns-3 : tie.Need-returns-3
 returns-3 c =
@@ -39,10 +30,10 @@ pub read-piece-spec : {M : Type 1} → statement M
 read-piece-spec =
     tie.close
     (tie.spec
-    shared-slice-read-b
+    (λ c. search needs)
     marked-requires
     returns
-    named-requires
+    (λ c κs. search needs)
     returns-2
-    named-requires-2
+    (λ c κs. search needs)
     returns-3)

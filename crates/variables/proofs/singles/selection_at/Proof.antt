@@ -13,27 +13,6 @@ use Rattle.variables.proofs.singles.selection_at.Tie as tie
 returns : tie.Need-returns
 returns c = chose-none (now (c .before .before .args .p)) (c .before .before .args .colon) (c .before .before .pre .0) (c .if1 .taken) (c .before .before .pre .1)
 
-add-first : tie.Need-add-first
-add-first c = search needs
-
-sub-is-regex : tie.Need-sub-is-regex
-sub-is-regex c = search needs
-
-part-is-regex-start : tie.Need-part-is-regex-start
-part-is-regex-start c = search needs
-
-part-is-regex-end : tie.Need-part-is-regex-end
-part-is-regex-end c = search needs
-
-is-regex-requires : tie.Need-is-regex-requires
-is-regex-requires c κs = search needs
-
-add-t11 : tie.Need-add-t11
-add-t11 c = search needs
-
-sub-t12 : tie.Need-sub-t12
-sub-t12 c = search needs
-
 returns-2 : tie.Need-returns-2
 returns-2 c =
     let p = now (c .before .before .before .before .before .args .p) in
@@ -51,12 +30,12 @@ selection-at-spec =
     tie.close
     (tie.spec
     returns
-    add-first
-    sub-is-regex
-    part-is-regex-start
-    part-is-regex-end
-    is-regex-requires
-    add-t11
-    sub-t12
+    (λ c. search needs)
+    (λ c. search needs)
+    (λ c. search needs)
+    (λ c. search needs)
+    (λ c κs. search needs)
+    (λ c. search needs)
+    (λ c. search needs)
     returns-2
     returns-3)

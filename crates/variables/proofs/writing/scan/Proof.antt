@@ -19,15 +19,6 @@ abbrev μ-loop : tie.MeasureT-loop
 loop-holds : tie.Need-loop-holds Inv-loop μ-loop
 loop-holds c = begun (c .before .before .before .args .exclusions) (now (c .before .before .before .args .s)) (now (c .before .before .before .args .text)) (now (c .before .before .before .args .records))
 
-next-piece-requires : tie.Need-next-piece-requires Inv-loop μ-loop
-next-piece-requires c κs = search needs
-
-enum-known-first : tie.Need-enum-known-first Inv-loop μ-loop
-enum-known-first c = search needs
-
-enum-told : tie.Need-enum-told Inv-loop μ-loop
-enum-told c = search needs
-
 same-length : tie.Need-same-length Inv-loop μ-loop
 same-length c = c .before .before .before .loop .inv .wrote .text-laid .long
 
@@ -48,9 +39,6 @@ part-p-end c = let p = (rw (c .before .first .given .1) at (c .before .before .b
 
 read-piece-requires : tie.Need-read-piece-requires Inv-loop μ-loop
 read-piece-requires c κs = this-some (c .before .before .before .before .before .loop .inv) (c .before .before .before .before .before .before .before .before .before .pre) _ _ _ (rw (c .before .before .first .given .1) at (c .before .before .before .before .next-piece .ensures))
-
-enum-known-begin : tie.Need-enum-known-begin Inv-loop μ-loop
-enum-known-begin c = search needs
 
 add-t21 : tie.Need-add-t21 Inv-loop μ-loop
 add-t21 c = omega (arith, some-low (c .before .before .before .before .before .before .before .before .before .loop .inv) (c .before .before .before .before .before .before .before .before .before .before .before .before .before .pre))
@@ -91,9 +79,6 @@ returns-2 c =
     let start = at-loop .before .before .before .before in
     stopped (at-loop .loop .inv) (start .pre) _ _ _ (rw (at-first .first .given .1) at (at-next-piece .next-piece .ensures)) _ _ (rw (at-begin .begin .given .1) at (at-read-piece .read-piece .ensures))
 
-enum-told-2 : tie.Need-enum-told-2 Inv-loop μ-loop
-enum-told-2 c = search needs
-
 add-excluded : tie.Need-add-excluded Inv-loop μ-loop
 add-excluded c = omega (arith, some-low (c .before .before .before .before .before .before .before .before .loop .inv) (c .before .before .before .before .before .before .before .before .before .before .before .before .pre))
 
@@ -108,9 +93,6 @@ loop-again c =
     let at-loop = at-next-piece .before in
     let start = at-loop .before .before .before .before in
     passed (at-loop .loop .inv) (start .pre) _ _ _ (rw (at-first .first .given .1) at (at-next-piece .next-piece .ensures)) (rw (c .enum-told2 .given .1) at (at-read-piece .read-piece .ensures))
-
-enum-known-e : tie.Need-enum-known-e Inv-loop μ-loop
-enum-known-e c = search needs
 
 put-requires : tie.Need-put-requires Inv-loop μ-loop
 put-requires c κs =
@@ -172,9 +154,9 @@ scan-spec =
     Inv-loop
     μ-loop
     loop-holds
-    next-piece-requires
-    enum-known-first
-    enum-told
+    (λ c κs. search needs)
+    (λ c. search needs)
+    (λ c. search needs)
     same-length
     same-length-2
     returns
@@ -182,18 +164,18 @@ scan-spec =
     part-p-start
     part-p-end
     read-piece-requires
-    enum-known-begin
+    (λ c. search needs)
     add-t21
     add-t22
     add-t23
     same-length-3
     same-length-4
     returns-2
-    enum-told-2
+    (λ c. search needs)
     add-excluded
     loop-less
     loop-again
-    enum-known-e
+    (λ c. search needs)
     put-requires
     sub-used
     add-used

@@ -4,12 +4,6 @@ use borrow.Author.Needs.{needs}
 use Rattle.rules.proofs.selecting.RuleIdSelector.matches.Statement.{statement}
 use Rattle.rules.proofs.selecting.RuleIdSelector.matches.Tie as tie
 
-enum-known-self : tie.Need-enum-known-self
-enum-known-self c = search needs
-
-enum-known-self-2 : tie.Need-enum-known-self-2
-enum-known-self-2 c = search needs
-
 returns : tie.Need-returns
 returns c = rw (c .before .before .self2 .given .1, lt-leb _ _ (c .if1 .taken))
 
@@ -20,4 +14,4 @@ returns-3 : tie.Need-returns-3
 returns-3 c = rw (c .before .before .self2 .given .1, le-leb _ _ (c .if1 .left))
 
 pub matches-spec : {M : Type 1} → statement M
-matches-spec = tie.close (tie.spec enum-known-self enum-known-self-2 returns returns-2 returns-3)
+matches-spec = tie.close (tie.spec (λ c. search needs) (λ c. search needs) returns returns-2 returns-3)
