@@ -7,7 +7,7 @@ use lib.ListN.{length}
 use Rattle.ascii.specs.Classes.{white}
 use Rattle.ascii.specs.Trim.{trimEnds}
 use Rattle.ascii.proofs.TrimLaws.{ends-fit}
-use Rattle.lent.specs.Table.{tooLong, notAscii, shortBuffer, noRoom, unknownAction, badArgument, unknownVariable, unknownOperator, badCursor, Outcome, refuses, reads}
+use Rattle.lent.specs.Table.{tooLong, notAscii, shortBuffer, noRoom, named, noAction, noArgument, noVariable, unknownOperator, badCursor, Outcome, refuses, reads}
 use Rattle.single_action.specs.Actions.{Action, Single, done, bad, unknown, single}
 use Rattle.actions.specs.Normal.{normalised}
 use Rattle.actions.specs.Pieces.{outside, partsFrom, keep, piecesOf, pieces}
@@ -34,25 +34,25 @@ pieces-count s = omega (arith, kept-count (partsFrom outside s), parts-total out
 -- what n pieces, counted from k, may come to
 abbrev pub Counted : ℕ → ℕ → Outcome (List Action) → Type 0
 Counted k n (reads xs) = length xs ≡ n
-Counted k n (refuses (unknownAction p name)) = (k ≤ p) × (p < k + n)
-Counted k n (refuses (badArgument p name)) = (k ≤ p) × (p < k + n)
+Counted k n (refuses (named noAction p name)) = (k ≤ p) × (p < k + n)
+Counted k n (refuses (named noArgument p name)) = (k ≤ p) × (p < k + n)
 Counted k n (refuses tooLong) = ⊥
 Counted k n (refuses (notAscii p)) = ⊥
 Counted k n (refuses shortBuffer) = ⊥
 Counted k n (refuses (noRoom p)) = ⊥
-Counted k n (refuses (unknownVariable p name)) = ⊥
+Counted k n (refuses (named noVariable p name)) = ⊥
 Counted k n (refuses (unknownOperator p l)) = ⊥
 Counted k n (refuses badCursor) = ⊥
 
 then-counted : (k n : ℕ) (x : Action) (o : Outcome (List Action)) → Counted (suc k) n o → Counted k (suc n) (actionThen x o)
 then-counted k n x (reads xs) h = omega arith
-then-counted k n x (refuses (unknownAction p name)) (h, l) = (omega arith, omega arith)
-then-counted k n x (refuses (badArgument p name)) (h, l) = (omega arith, omega arith)
+then-counted k n x (refuses (named noAction p name)) (h, l) = (omega arith, omega arith)
+then-counted k n x (refuses (named noArgument p name)) (h, l) = (omega arith, omega arith)
 then-counted k n x (refuses tooLong) h = h
 then-counted k n x (refuses (notAscii p)) h = h
 then-counted k n x (refuses shortBuffer) h = h
 then-counted k n x (refuses (noRoom p)) h = h
-then-counted k n x (refuses (unknownVariable p name)) h = h
+then-counted k n x (refuses (named noVariable p name)) h = h
 then-counted k n x (refuses (unknownOperator p l)) h = h
 then-counted k n x (refuses badCursor) h = h
 

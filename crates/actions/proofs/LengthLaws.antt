@@ -4,7 +4,7 @@ use mathlib.Core.List.{List, [], _∷_}
 use Prim.Native.Nat.{ℕ, suc, _+_, _≤_}
 use native.Mathlib.Omega.{arith}
 use lib.ListN.{length, length-append}
-use Rattle.lent.specs.Table.{tooLong, notAscii, shortBuffer, noRoom, unknownAction, badArgument, unknownVariable, unknownOperator, badCursor, Outcome, refuses, reads}
+use Rattle.lent.specs.Table.{tooLong, notAscii, shortBuffer, noRoom, named, noAction, noArgument, noVariable, unknownOperator, badCursor, Outcome, refuses, reads}
 use Rattle.lent.specs.Layout.{textsOf}
 use Rattle.single_action.specs.Setvar.{setvar}
 use Rattle.single_action.specs.Actions.{Action, actionText, Single, done, bad, unknown, setvarAction, single}
@@ -21,26 +21,26 @@ use Rattle.actions.proofs.PieceLaws.{total, pieces-total}
 -- what a list writes is at most n bytes long
 abbrev pub Fits : ℕ → Outcome (List Action) → Type 0
 Fits n (reads xs) = length (texts xs) ≤ n
-Fits n (refuses (unknownAction k name)) = length name ≤ n
-Fits n (refuses (badArgument k name)) = length name ≤ n
+Fits n (refuses (named noAction k name)) = length name ≤ n
+Fits n (refuses (named noArgument k name)) = length name ≤ n
 Fits n (refuses tooLong) = Unit {0}
 Fits n (refuses (notAscii k)) = Unit {0}
 Fits n (refuses shortBuffer) = Unit {0}
 Fits n (refuses (noRoom k)) = Unit {0}
-Fits n (refuses (unknownVariable k name)) = Unit {0}
+Fits n (refuses (named noVariable k name)) = Unit {0}
 Fits n (refuses (unknownOperator k l)) = Unit {0}
 Fits n (refuses badCursor) = Unit {0}
 
 action-fits : (x : Action) (o : Outcome (List Action)) (m n : ℕ) → length (actionText x) ≤ m → Fits n o → Fits (m + n) (actionThen x o)
 unfolding textsOf
 action-fits x (reads xs) m n h k = omega (arith, length-append (actionText x) (texts xs))
-action-fits x (refuses (unknownAction p name)) m n h k = omega arith
-action-fits x (refuses (badArgument p name)) m n h k = omega arith
+action-fits x (refuses (named noAction p name)) m n h k = omega arith
+action-fits x (refuses (named noArgument p name)) m n h k = omega arith
 action-fits x (refuses tooLong) m n h k = tt
 action-fits x (refuses (notAscii p)) m n h k = tt
 action-fits x (refuses shortBuffer) m n h k = tt
 action-fits x (refuses (noRoom p)) m n h k = tt
-action-fits x (refuses (unknownVariable p name)) m n h k = tt
+action-fits x (refuses (named noVariable p name)) m n h k = tt
 action-fits x (refuses (unknownOperator p l)) m n h k = tt
 action-fits x (refuses badCursor) m n h k = tt
 
@@ -56,13 +56,13 @@ from-fits k (p ∷ ps) = single-fits k (single p) (actionsFrom (suc k) ps) (leng
 
 fits-more : (o : Outcome (List Action)) (m n : ℕ) → m ≤ n → Fits m o → Fits n o
 fits-more (reads xs) m n h k = omega arith
-fits-more (refuses (unknownAction p name)) m n h k = omega arith
-fits-more (refuses (badArgument p name)) m n h k = omega arith
+fits-more (refuses (named noAction p name)) m n h k = omega arith
+fits-more (refuses (named noArgument p name)) m n h k = omega arith
 fits-more (refuses tooLong) m n h k = tt
 fits-more (refuses (notAscii p)) m n h k = tt
 fits-more (refuses shortBuffer) m n h k = tt
 fits-more (refuses (noRoom p)) m n h k = tt
-fits-more (refuses (unknownVariable p name)) m n h k = tt
+fits-more (refuses (named noVariable p name)) m n h k = tt
 fits-more (refuses (unknownOperator p l)) m n h k = tt
 fits-more (refuses badCursor) m n h k = tt
 

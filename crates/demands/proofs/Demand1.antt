@@ -3,7 +3,7 @@
 use Rattle.lexer.specs.Cursors.{fresh}
 use Rattle.single_action.proofs.SaidLaws.{verdict-said, plan-said}
 use Rattle.demands.specs.Demand1.{Demand1}
-use Rattle.demands.proofs.FixedLaws.{gives}
+use Rattle.demands.proofs.FixedLaws.{gives, finish-fixed}
 use Rattle.demands.proofs.TokenCalls.{next-token-fixed, tokens-fixed, tokens-row}
 use Rattle.demands.proofs.ActionCalls.{parse-actions-fixed, parse-setvar-fixed, parse-actions-row, parse-setvar-row}
 use Rattle.demands.proofs.VariableCalls.{parse-variables-fixed, parse-update-targets-fixed, parse-variables-row, parse-update-targets-row}
@@ -44,6 +44,9 @@ demand1 = record {
     clear-words = gives _;
     store-bytes = gives _;
     store-words = gives _;
+    starts = gives _;
+    finish = finish-fixed;
+    refuse-piece = gives _;
   };
   of-names = record {
     variable-code = gives _;

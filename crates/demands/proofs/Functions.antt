@@ -18,6 +18,9 @@ pub use Rattle.ascii.proofs.trim_end.Met.{met as trim-end}
 pub use Rattle.ascii.proofs.trim_start.Met.{met as trim-start}
 pub use Rattle.ascii.proofs.trimmed.Met.{met as trimmed}
 pub use Rattle.ascii.proofs.trimmed_len.Met.{met as trimmed-len}
+pub use Rattle.lent.proofs.finish.Met.{met as finish}
+pub use Rattle.lent.proofs.refuse_piece.Met.{met as refuse-piece}
+pub use Rattle.lent.proofs.starts.Met.{met as starts}
 pub use Rattle.lent.proofs.clear_bytes.Met.{met as clear-bytes}
 pub use Rattle.lent.proofs.clear_words.Met.{met as clear-words}
 pub use Rattle.lent.proofs.store_bytes.Met.{met as store-bytes}

@@ -3,8 +3,8 @@
 use mathlib.Core.Path.{_≡_, refl}
 use mathlib.Core.List.{List}
 use Prim.Native.Nat.{ℕ}
-use Rattle.lent.specs.Table.{Given, tooLong, notAscii, shortBuffer, noRoom, unknownAction, badArgument, unknownVariable, unknownOperator, badCursor, Outcome, refuses, reads, Filled, givenBy, textBy, recordsBy}
-use Rattle.demands.specs.Rows.{Untouched, Row, read, too-long, not-ascii, short, no-room, named, unknown-action, bad-argument, unknown-variable}
+use Rattle.lent.specs.Table.{Given, tooLong, notAscii, shortBuffer, noRoom, named as naming, unknownOperator, badCursor, Outcome, refuses, reads, Filled, givenBy, textBy, recordsBy}
+use Rattle.demands.specs.Rows.{Untouched, Row, read, too-long, not-ascii, short, no-room, named}
 
 -- the refusals of such a reader: all but those of an operator and of a cursor
 abbrev pub Filling : Outcome Filled → Type 0
@@ -12,9 +12,7 @@ Filling (refuses tooLong) = Unit {0}
 Filling (refuses (notAscii p)) = Unit {0}
 Filling (refuses shortBuffer) = Unit {0}
 Filling (refuses (noRoom n)) = Unit {0}
-Filling (refuses (unknownAction k name)) = Unit {0}
-Filling (refuses (badArgument k name)) = Unit {0}
-Filling (refuses (unknownVariable k name)) = Unit {0}
+Filling (refuses (naming why k name)) = Unit {0}
 Filling (refuses (unknownOperator p n)) = ⊥
 Filling (refuses badCursor) = ⊥
 Filling (reads x) = Unit {0}
@@ -28,9 +26,7 @@ module _ (text records : List ℕ) where
   row-by (refuses (notAscii p)) f = not-ascii p refl (kept _)
   row-by (refuses shortBuffer) f = short refl (kept _)
   row-by (refuses (noRoom n)) f = no-room n refl refl refl
-  row-by (refuses (unknownAction k name)) f = named 5 k name unknown-action refl refl refl
-  row-by (refuses (badArgument k name)) f = named 6 k name bad-argument refl refl refl
-  row-by (refuses (unknownVariable k name)) f = named 7 k name unknown-variable refl refl refl
+  row-by (refuses (naming why k name)) f = named why k name refl refl refl
   row-by (refuses (unknownOperator p n)) f = absurd f
   row-by (refuses badCursor) f = absurd f
   row-by (reads x) f = read (x .values) (x .texts) (x .words) refl refl refl

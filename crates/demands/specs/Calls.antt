@@ -1,6 +1,8 @@
 -- What the readers are lent, and what they leave.
 use Prim.Native.Nat.{ℕ}
+use mathlib.Core.Bool.{Bool}
 use mathlib.Core.List.{List}
+use Rattle.lent.specs.Endings.{Finished}
 use Rattle.lexer.specs.declared.Cursor.{Cursor}
 use Rattle.lexer.specs.Promises.{NextToken, Tokens}
 use Rattle.lexer.specs.declared.stepping.Step.{Step}
@@ -33,6 +35,19 @@ pub record Left (Answer : Type 0) : Type 0 where
 pub record Wrote (Answer : Type 0) : Type 0 where
   pub answer : Answer
   pub buffer : List ℕ
+
+-- ---- the last step of a reader
+
+-- Both buffers, how many bytes and records are written to them, and the width of these.
+pub record Filling : Type 0 where
+  pub text : List ℕ
+  pub used : ℕ
+  pub records : List ℕ
+  pub count : ℕ
+  pub width : ℕ
+
+abbrev pub finish-promise : Filling → Left Bool → Type 0
+finish-promise i o = Finished (i .used) (i .count) (i .width) (i .text) (o .text) (i .records) (o .records) (o .answer)
 
 -- ---- the readers
 

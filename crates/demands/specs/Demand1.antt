@@ -3,6 +3,7 @@
 -- Said here of every public function: its promise asks nothing of what goes in, something can always come out, and only one thing
 -- (`Fixed`; `Gives` where the promise is an equation with a definition). That the code keeps each promise, and so ends: proofs/Functions.antt.
 use mathlib.Core.Path.{_≡_}
+use mathlib.Core.Bool.{Bool}
 use mathlib.Core.List.{List}
 use Prim.Native.Nat.{ℕ}
 use lib.ListN.{length}
@@ -14,6 +15,7 @@ use Rattle.ascii.specs.Numbers.{digitsBy, unsignedBy, signedWord}
 use Rattle.lent.specs.Gates.{firstHigh, gateOf}
 use Rattle.lent.specs.Sizes.{spanWord, spanOffset, spanLength, roomFor}
 use Rattle.lent.specs.Buffers.{zeros, stored}
+use Rattle.lent.specs.Endings.{starts as startsAt}
 use Rattle.names.specs.Variables.{variableCode, isCollection, isImplemented}
 use Rattle.names.specs.Operators.{operatorCode, requiresArgument}
 use Rattle.names.specs.Severities.{severityCode}
@@ -41,7 +43,7 @@ use Rattle.rules.specs.Selectors.{matched}
 use Rattle.rules.specs.declared.selecting.RuleIdSelector.{RuleIdSelector}
 use Rattle.listing.specs.declared.Answer as Listing
 use Rattle.demands.specs.Fixed.{Fixed, Gives}
-use Rattle.demands.specs.Calls.{Lent, Left, Wrote, Place, Records, Refusal, next-token-promise, tokens-promise, parse-actions-promise, parse-setvar-promise, parse-variables-promise, parse-update-targets-promise, parse-operator-promise, operator-argument-promise, write-listing-promise, write-refusal-promise, list-text-promise}
+use Rattle.demands.specs.Calls.{Lent, Left, Wrote, Filling, finish-promise, Place, Records, Refusal, next-token-promise, tokens-promise, parse-actions-promise, parse-setvar-promise, parse-variables-promise, parse-update-targets-promise, parse-operator-promise, operator-argument-promise, write-listing-promise, write-refusal-promise, list-text-promise}
 use Rattle.demands.specs.Rows.{Row}
 use Rattle.demands.specs.Library.{OfLibrary}
 
@@ -85,6 +87,10 @@ pub record OfLent : Type 0 where
   pub clear-words : Gives (λ (out : List ℕ). zeros (length out))
   pub store-bytes : Gives (λ (i : Two (List ℕ) (Two ℕ (List ℕ))). stored (i .0) (i .1 .0) (i .1 .1))
   pub store-words : Gives (λ (i : Two (List ℕ) (Two ℕ (List ℕ))). stored (i .0) (i .1 .0) (i .1 .1))
+  -- where a reader may start, how it ends, and what a refusal by name leaves of both buffers
+  pub starts : Gives (λ (i : Two (Two ℕ ℕ) (Two ℕ ℕ)). startsAt (i .0 .0) (i .0 .1) (i .1 .0) (i .1 .1))
+  pub finish : Fixed Filling (Left Bool) finish-promise
+  pub refuse-piece : Gives {Out = Two (List ℕ) (List ℕ)} (λ (i : Two (Two (List ℕ) (List ℕ)) (List ℕ)). (stored (zeros (length (i .0 .0))) 0 (i .1), zeros (length (i .0 .1))))
 
 -- Lookups, and tests on a code, a selection, an id or records: they answer on anything, and never by the table.
 pub record OfNames : Type 0 where

@@ -4,13 +4,7 @@ use mathlib.Core.List.{List, [], _∷_}
 use Prim.Native.Nat.{ℕ}
 use lib.ListN.{length}
 use Rattle.lent.specs.Buffers.{zeros, padded}
-use Rattle.lent.specs.Table.{Given, given}
-
--- The rows 5, 6 and 7, which give a piece and a name.
-pub data Names : ℕ → Type 0 where
-  unknown-action : Names 5
-  bad-argument : Names 6
-  unknown-variable : Names 7
+use Rattle.lent.specs.Table.{Given, given, Naming, namingNumber}
 
 module _ (g : Given) (text text′ records records′ : List ℕ) where
   -- Both buffers are as they were.
@@ -31,5 +25,5 @@ module _ (g : Given) (text text′ records records′ : List ℕ) where
     -- 4: the records needed; text and records all zero
     no-room : (needed : ℕ) → g ≡ given 4 (needed ∷ []) → text′ ≡ zeros (length text) → records′ ≡ zeros (length records) → Row
     -- 5, 6 and 7: the piece and the name's length; the text starts with the name, then zeros, and the records are zero
-    named : (number piece : ℕ) (name : List ℕ) → Names number → g ≡ given number (piece ∷ length name ∷ []) → text′ ≡ padded (length text) name
+    named : (why : Naming) (piece : ℕ) (name : List ℕ) → g ≡ given (namingNumber why) (piece ∷ length name ∷ []) → text′ ≡ padded (length text) name
         → records′ ≡ zeros (length records) → Row

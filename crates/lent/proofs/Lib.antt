@@ -6,3 +6,6 @@ pub mod SpanLaws
 pub mod TableLaws
 pub mod OutcomeLaws
 pub mod LayoutLaws
+pub mod EndLaws
+pub mod RowLaws
+pub mod StartLaws

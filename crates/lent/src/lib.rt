@@ -1,8 +1,12 @@
 // What the caller lends: the gate that every reader's input passes, and the buffers it writes.
+mod ending;
 mod filling;
 mod gating;
 mod packing;
 
+pub use ending::finish;
+pub use ending::refuse_piece;
+pub use ending::starts;
 pub use filling::clear_bytes;
 pub use filling::clear_words;
 pub use filling::store_bytes;
