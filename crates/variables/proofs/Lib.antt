@@ -3,6 +3,8 @@ pub mod PlaceLaws
 pub mod LayoutLaws
 pub mod SingleLaws
 pub mod ScanLaws
+pub mod FitLaws
+pub mod CoreLaws
 pub mod AnswerLaws
 pub mod GivenLaws
 pub mod MeantLaws

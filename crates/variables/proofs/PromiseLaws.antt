@@ -28,7 +28,8 @@ use Rattle.variables.specs.declared.Answer.{Answer}
 use Rattle.variables.specs.declared.Answer.the-variants as Answer
 use Rattle.variables.specs.declared.singles.Exclusions.{Exclusions}
 use Rattle.variables.specs.declared.singles.Exclusions.the-variants.{AsWritten, LookedUp}
-use Rattle.variables.proofs.AnswerLaws.{hanging-kept, kept-long, refused-is, as-variables, as-update}
+use Rattle.variables.proofs.AnswerLaws.{refused-is, as-variables, as-update}
+use Rattle.variables.proofs.CoreLaws.{kept-long, targets-refused, targets-read}
 use Rattle.variables.proofs.GivenLaws.{answer-told}
 use Rattle.variables.proofs.MeantLaws.{all-or-missing, understood, refused-there}
 
@@ -46,14 +47,14 @@ module _ (n : Exclusions) (s : List ℕ) (m : ℕ) where
   unfolding readOutcome
   read-is a =
       let u = understood n a in
-      ap (λ (ts : Targets). updated m (hanging n ts)) (u .read) ∙ ap (updated m) (hanging-kept n (u .vs) (excludedOf (pieces s)))
+      ap (updated m) (targets-read n s (u .vs) (u .read))
       ∙ ap (λ (i : ℕ). roomed m (u .vs) (keptOf (keptCount n i (length (excludedOf (pieces s)))) (excludedOf (pieces s)))) (u .count)
 
   needed-is : (a : AllMeant n (pieces s)) → length (variablesOf a) + length exclusionsOf ≡ needed n s
   needed-is a = ap₂ _+_ (understood n a .count) (sym (kept-long n (length (unmarkedOf (pieces s))) (excludedOf (pieces s))))
 
   pub missing-is : (x : Missing n (pieces s)) → readOutcome n s m ≡ refuses (unknownVariable (length (x .passed)) (x .text))
-  missing-is x = refused-is n s m (length (x .passed)) (x .text) (refused-there n x)
+  missing-is x = refused-is n s m (length (x .passed)) (x .text) (targets-refused n s (length (x .passed)) (x .text) (refused-there n x))
 
   pub crowded-is : AllMeant n (pieces s) → roomFor variableWords m < needed n s → readOutcome n s m ≡ refuses (noRoom (needed n s))
   crowded-is a h =

@@ -46,27 +46,27 @@ module _ (vs : List Variable) (es : List (List ℕ)) (i : ℕ) where
 
 -- ---- the first loop
 
-pub record Sofar (n : Exclusions) (s text₀ records₀ text records : List ℕ) (at variables excluded used : ℕ) : Type 0 where
+pub record Sofar (n : Exclusions) (s : List ℕ) (offset place : ℕ) (text₀ records₀ text records : List ℕ) (at variables excluded used : ℕ) : Type 0 where
   pub vs : List Variable
   pub es : List (List ℕ)
   pub read : readAll (excludingOf n) (pieces s) ≡ ahead vs es (variables + excluded) (readAll (excludingOf n) (pieces (drop at s)))
   pub marked : excludedOf (pieces s) ≡ es ++ excludedOf (pieces (drop at s))
   pub excluded-are : excluded ≡ length es
-  pub wrote : WroteVariables text₀ text records₀ records vs used variables
-  pub low : used + length (textsOf itself es) + (variables + excluded) ≤ at
+  pub wrote : WroteVariables offset place text₀ text records₀ records vs used (place + variables)
+  pub low : used + length (textsOf itself es) + (variables + excluded) ≤ offset + at
   pub inside : at ≤ length s + 1
-  pub fits : used + length (textsOf itself es) ≤ length s
+  pub fits : used + length (textsOf itself es) ≤ offset + length s
   pub few : variables + excluded ≤ length s
 
-pub begun : (n : Exclusions) (s text records : List ℕ) → Sofar n s text records text records 0 0 0 0
+pub begun : (n : Exclusions) (s text records : List ℕ) (offset place : ℕ) → Sofar n s offset place text records text records 0 0 0 offset
 unfolding textsOf
-begun n s text records = record {
+begun n s text records offset place = record {
   vs = [];
   es = [];
   read = ahead-none (readAll (excludingOf n) (pieces s));
   marked = refl;
   excluded-are = refl;
-  wrote = wrote-none variableRecord chosenText 0 0 text records;
+  wrote = let z : place + 0 ≡ place = omega arith in rw z (wrote-none variableRecord chosenText offset place text records);
   low = omega arith;
   inside = omega arith;
   fits = omega arith;
@@ -79,13 +79,13 @@ wide-variable o v = refl
 pub wide-exclusion : (o : ℕ) (e : List ℕ) → length (exclusionRecord o e) ≡ variableWords
 wide-exclusion o e = refl
 
-module _ {n : Exclusions} {s text₀ records₀ text records : List ℕ} {at variables excluded used : ℕ} (x : Sofar n s text₀ records₀ text records at variables excluded used)
-    (short : length s ≤ limit) where
+module _ {n : Exclusions} {s : List ℕ} {offset place : ℕ} {text₀ records₀ text records : List ℕ} {at variables excluded used : ℕ}
+    (x : Sofar n s offset place text₀ records₀ text records at variables excluded used) (short : length s ≤ limit) (low : (offset ≤ limit) × (place ≤ limit)) where
   pub used-low : used ≤ limit + limit
-  used-low = omega (arith, x .low, x .inside)
+  used-low = omega (arith, x .fits, low .0)
 
-  pub some-low : variables + excluded ≤ limit + 1
-  some-low = omega (arith, x .low, x .inside)
+  pub some-low : variables + excluded ≤ limit
+  some-low = omega (arith, x .few)
 
   -- nothing is left
   left-is : pieces (drop at s) ≡ [] → readAll (excludingOf n) (pieces s) ≡ targets (x .vs) (x .es)
@@ -98,7 +98,7 @@ module _ {n : Exclusions} {s text₀ records₀ text records : List ℕ} {at var
   unfolding excludedOf
   unmarked-left e = x .marked ∙ ap (λ (l : List (List ℕ)). x .es ++ excludedOf l) e ∙ append-nil (x .es)
 
-  pub ended : pieces (drop at s) ≡ [] → AllRead n s text₀ text records₀ records variables excluded used
+  pub ended : pieces (drop at s) ≡ [] → AllRead n s offset place text₀ text records₀ records variables excluded used
   ended e =
       let m = unmarked-left e in
       record {
@@ -144,10 +144,10 @@ module _ {n : Exclusions} {s text₀ records₀ text records : List ℕ} {at var
         }
 
     -- an exclusion
-    pub passed : IsExclusion (excludingOf n) this → Sofar n s text₀ records₀ text records next variables (excluded + 1) used
+    pub passed : IsExclusion (excludingOf n) this → Sofar n s offset place text₀ records₀ text records next variables (excluded + 1) used
     passed u =
         let t = texts-more itself (x .es) (drop 1 this) in
-        let grown : used + length (textsOf itself (x .es ++ (drop 1 this ∷ []))) + (variables + (excluded + 1)) ≤ next =
+        let grown : used + length (textsOf itself (x .es ++ (drop 1 this ∷ []))) + (variables + (excluded + 1)) ≤ offset + next =
         omega (arith, x .low, ap length t, length-append (textsOf itself (x .es)) (drop 1 this), length-drop 1 this, this-long, this-some, p .begun, p .some, p .before) in
         record {
           vs = x .vs;
@@ -171,19 +171,19 @@ module _ {n : Exclusions} {s text₀ records₀ text records : List ℕ} {at var
       entry-narrow = let t = u .held .text in record {
         ordered = t .ordered;
         near = omega (arith, t .inside, this-long, p .before, p .inside);
-        offset-low = used-low;
+        offset-low = omega (arith, used-low);
       }
 
       pub entry-inside : e .past ≤ length this
       entry-inside = u .held .text .inside
 
       pub turned : (text′ records′ : List ℕ) → text′ ≡ stored text used (part this (e .first) (e .past))
-          → records′ ≡ stored records (variables * variableWords) (entryWords used e)
-          → Sofar n s text₀ records₀ text′ records′ next (variables + 1) excluded (used + (e .past - e .first))
+          → records′ ≡ stored records ((place + variables) * variableWords) (entryWords used e)
+          → Sofar n s offset place text₀ records₀ text′ records′ next (variables + 1) excluded (used + (e .past - e .first))
       turned text′ records′ a b =
           let t = u .held .text in
           let l = part-length this (e .first) (e .past) (t .inside) in
-          let grown : used + (e .past - e .first) + length (textsOf itself (x .es)) + (variables + 1 + excluded) ≤ next = omega (arith, x .low, t .short, t .ordered, this-long, p .begun, p .some, p .before) in
+          let grown : used + (e .past - e .first) + length (textsOf itself (x .es)) + (variables + 1 + excluded) ≤ offset + next = omega (arith, x .low, t .short, t .ordered, this-long, p .begun, p .some, p .before) in
           record {
             vs = x .vs ++ (u .v ∷ []);
             es = x .es;
@@ -192,8 +192,9 @@ module _ {n : Exclusions} {s text₀ records₀ text records : List ℕ} {at var
                 ∙ ap (λ (i : ℕ). ahead (x .vs ++ (u .v ∷ [])) (x .es) i later) (omega arith);
             marked = mark-is ∙ ap (λ (l : List (List ℕ)). x .es ++ l) (u .plain (excludedOf (pieces (drop next s))));
             excluded-are = x .excluded-are;
-            wrote = wrote-more (x .wrote) wide-variable (u .v) text′ records′ (part this (e .first) (e .past)) (entryWords used e) (used + (e .past - e .first))
-                (t .is) (u .held .words used) (omega (arith, l)) a b;
+            wrote = let z : place + (variables + 1) ≡ place + variables + 1 = omega arith in
+                rw z (wrote-more (x .wrote) wide-variable (u .v) text′ records′ (part this (e .first) (e .past)) (entryWords used e) (used + (e .past - e .first))
+                (t .is) (u .held .words used) (omega (arith, l)) a b);
             low = grown;
             inside = p .inside;
             fits = omega (arith, grown, p .inside);
@@ -290,7 +291,7 @@ module _ {s : List ℕ} {offset place : ℕ} {text₀ records₀ text records : 
       inside = p .inside;
     }
 
-    pub add-narrow : length s ≤ limit → offset ≤ limit → Narrow (exclusionEntry (past - first)) used
+    pub add-narrow : length s ≤ limit → offset ≤ limit + limit → Narrow (exclusionEntry (past - first)) used
     add-narrow h k = record {
       ordered = omega (arith, p .some);
       near = omega (arith, p .before, p .inside);

@@ -7,10 +7,10 @@ use lib.ListN.{length, take, drop}
 use lib.Dec.{eqb}
 use Rattle.ascii.specs.Choice.{pick, bit}
 use Rattle.lent.specs.Sizes.{limit, spanWord, variableWords}
-use Rattle.lent.specs.Buffers.{placed}
+use Rattle.lent.specs.Buffers.{storedEach}
 use Rattle.lent.specs.Gates.{gateOf}
 use Rattle.lent.specs.Table.{Outcome, pastGate, Filled}
-use Rattle.lent.specs.Layout.{textsOf, wordsOf}
+use Rattle.lent.specs.Layout.{textsOf, eachText, recordsOf}
 use Rattle.variables.specs.Parts.{pieces}
 use Rattle.variables.specs.Variables.{Selection, none, selection, Variable, Single, variable, unknown, Targets, targets, refused, withVariable, withExclusion, Excluding, asWritten, lookedUp, piece, readAll}
 use Rattle.variables.specs.Layout.{selectionCode, selectionText, selectionSpan, variableRecord, exclusionRecord, chosenText, itself, texts}
@@ -131,35 +131,30 @@ Pieced ex p (Reading.Unknown begin end) = IsUnknown ex p begin end
 pub record Narrow (e : Entry) (offset : ℕ) : Type 0 where
   pub ordered : e .first ≤ e .past
   pub near : e .past ≤ limit
-  pub offset-low : offset ≤ limit + limit
+  pub offset-low : offset ≤ 4 * limit
 
--- xs are written from i on, where they fit whole
-pub record Laid (old new : List ℕ) (i : ℕ) (xs : List ℕ) : Type 0 where
-  pub long : length new ≡ length old
-  pub there : i + length xs ≤ length old → new ≡ placed old i xs
-
--- a list's texts are written from `offset` on and its records from the place `place` on, up to `used` and to `count`
+-- a list's texts are written from `offset` on and its records from the place `place` on, up to `used` and to `count`, each where it fits
 pub record Wrote {A : Type 0} (words : ℕ → A → List ℕ) (text-of : A → List ℕ) (offset place : ℕ) (text text′ records records′ : List ℕ)
     (xs : List A) (used count : ℕ) : Type 0 where
   pub used-is : used ≡ offset + length (textsOf text-of xs)
   pub count-is : count ≡ place + length xs
-  pub text-laid : Laid text text′ offset (textsOf text-of xs)
-  pub words-laid : Laid records records′ (place * variableWords) (wordsOf words text-of offset xs)
+  pub text-laid : text′ ≡ storedEach text offset (eachText text-of xs)
+  pub words-laid : records′ ≡ storedEach records (place * variableWords) (recordsOf words text-of offset xs)
 
-abbrev pub WroteVariables : List ℕ → List ℕ → List ℕ → List ℕ → List Variable → ℕ → ℕ → Type 0
-WroteVariables = Wrote variableRecord chosenText 0 0
+abbrev pub WroteVariables : ℕ → ℕ → List ℕ → List ℕ → List ℕ → List ℕ → List Variable → ℕ → ℕ → Type 0
+WroteVariables = Wrote variableRecord chosenText
 
 abbrev pub WroteExclusions : ℕ → ℕ → List ℕ → List ℕ → List ℕ → List ℕ → List (List ℕ) → ℕ → ℕ → Type 0
 WroteExclusions = Wrote exclusionRecord itself
 
 -- every piece was read, and the variables are written
-pub record AllRead (n : Exclusions) (s text text′ records records′ : List ℕ) (variables excluded used : ℕ) : Type 0 where
+pub record AllRead (n : Exclusions) (s : List ℕ) (offset place : ℕ) (text text′ records records′ : List ℕ) (variables excluded used : ℕ) : Type 0 where
   pub vs : List Variable
   pub read : readAll (excludingOf n) (pieces s) ≡ targets vs (excludedOf (pieces s))
   pub excluded-are : excluded ≡ length (excludedOf (pieces s))
   pub fits : length (texts vs (excludedOf (pieces s))) ≤ length s
   pub few : variables + excluded ≤ limit
-  pub wrote : WroteVariables text text′ records records′ vs used variables
+  pub wrote : WroteVariables offset place text text′ records records′ vs used (place + variables)
 
 -- or a name was none
 pub record Stopped (n : Exclusions) (s : List ℕ) (piece first past : ℕ) : Type 0 where
@@ -167,9 +162,9 @@ pub record Stopped (n : Exclusions) (s : List ℕ) (piece first past : ℕ) : Ty
   pub ordered : first ≤ past
   pub inside : past ≤ length s
 
-abbrev pub Scanned : Exclusions → List ℕ → List ℕ → List ℕ → List ℕ → List ℕ → Tally → Type 0
-Scanned n s text text′ records records′ (Tally.Targets variables excluded used) = AllRead n s text text′ records records′ variables excluded used
-Scanned n s text text′ records records′ (Tally.Unknown piece first past) = Stopped n s piece first past
+abbrev pub Scanned : Exclusions → List ℕ → ℕ → ℕ → List ℕ → List ℕ → List ℕ → List ℕ → Tally → Type 0
+Scanned n s offset place text text′ records records′ (Tally.Targets variables excluded used) = AllRead n s offset place text text′ records records′ variables excluded used
+Scanned n s offset place text text′ records records′ (Tally.Unknown piece first past) = Stopped n s piece first past
 
 -- exclusions are written
 abbrev pub Added : List (List ℕ) → ℕ → ℕ → List ℕ → List ℕ → List ℕ → List ℕ → ℕ → Type 0
@@ -195,8 +190,12 @@ hanging AsWritten (targets (v ∷ vs) es) = targets (v ∷ vs) es
 hanging AsWritten (refused i name) = refused i name
 hanging LookedUp ts = ts
 
+-- what a list is read to, with the exclusions that are kept
+unfoldable pub targetsOf : Exclusions → List ℕ → Targets
+targetsOf n s = hanging n (readAll (excludingOf n) (pieces s))
+
 unfoldable pub readOutcome : Exclusions → List ℕ → ℕ → Outcome Filled
-readOutcome n s m = updated m (hanging n (readAll (excludingOf n) (pieces s)))
+readOutcome n s m = updated m (targetsOf n s)
 
 unfoldable pub outcomeOf : Exclusions → List ℕ → ℕ → ℕ → Outcome Filled
 outcomeOf n s k m = pastGate (gateOf s k (length s)) (readOutcome n s m)

@@ -6,6 +6,8 @@ mod writing;
 
 pub use parsing::parse_update_targets;
 pub use parsing::parse_variables;
+pub use parsing::read_targets;
+pub use singles::Exclusions;
 
 // What a list of variables or of update targets answers.
 pub enum Answer {
@@ -19,4 +21,14 @@ pub enum Answer {
     Unknown { piece: usize, name: usize },
     // 4: the records needed.
     NoRoom(usize),
+}
+
+// What a list comes to that is read into buffers from an offset and a place on.
+pub enum Reached {
+    // How many records, and the offset past the last text.
+    Read { count: usize, offset: usize },
+    // The piece, and the length of the name that is none.
+    Unknown { piece: usize, name: usize },
+    // It may not be read from there: `lent::starts` is false.
+    Unfit,
 }

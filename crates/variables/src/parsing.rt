@@ -1,12 +1,11 @@
 // The two parsers, over one function that is told what to do with the names of exclusions.
 ghost use mathlib.Core.Path.{_≡_};
-ghost use Prim.Native.Nat.{_≤_};
 ghost use lib.ListN.{length};
-ghost use Rattle.lent.specs.Sizes.{limit};
-ghost use Rattle.lent.specs.Buffers.{zeros};
 ghost use Rattle.variables.specs.Promises.{Meets, ParseVariables, ParseUpdateTargets};
-ghost use Rattle.variables.specs.Steps.{keptCount, readOutcome, outcomeOf};
+ghost use Rattle.variables.specs.Cores.{ReadTargets};
+ghost use Rattle.variables.specs.Steps.{keptCount, outcomeOf};
 use crate::Answer;
+use crate::Reached;
 use crate::singles::Exclusions;
 use crate::writing::Tally;
 use crate::writing::add_exclusions;
@@ -28,59 +27,66 @@ fn kept(exclusions: Exclusions, variables: usize, excluded: usize) -> usize
     }
 }
 
-// Both buffers, on a refusal.
-fn clear(text: &mut [u8], records: &mut [u64])
-    ensures { λ r. ⌜ now (text .exit) ≡ zeros (length (now (text .entry))) ⌝ }
-    ensures { λ r. ⌜ now (records .exit) ≡ zeros (length (now (records .entry))) ⌝ }
+// Reads a list of any bytes without the gate and without clearing, its texts from `offset` and its records from `place` on:
+// the variables, and behind them the exclusions that are kept. A name that is none leaves both buffers as row 7 states.
+pub fn read_targets(
+    s: &[u8],
+    exclusions: Exclusions,
+    text: &mut [u8],
+    offset: usize,
+    records: &mut [u64],
+    place: usize,
+) -> Reached
+    ensures { λ r. ⌜ ReadTargets exclusions (now (s .entry)) offset place (now (text .entry)) (now (text .exit)) (now (records .entry)) (now (records .exit)) r ⌝ }
 {
-    lent::clear_bytes(text);
-    lent::clear_words(records);
-}
-
-// A list past the checks 1, 2 and 3.
-fn read(s: &[u8], exclusions: Exclusions, text: &mut [u8], records: &mut [u64]) -> Answer
-    requires { ⌜ length (now s) ≤ limit ⌝ }
-    requires { ⌜ length (now s) ≤ length (now text) ⌝ }
-    ensures { λ r. ⌜ Meets (readOutcome exclusions (now (s .entry)) (length (now (records .entry)))) (now (text .entry)) (now (text .exit)) (now (records .entry)) (now (records .exit)) r ⌝ }
-{
-    match scan(s, exclusions, text, records) {
-        Tally::Unknown { piece, first, past } => {
-            clear(text, records);
-            lent::store_bytes(text, 0, &s[first..past]);
-            Answer::Unknown {
-                piece,
-                name: past - first,
+    if lent::starts(s.len(), text.len(), offset, place) {
+        match scan(s, exclusions, text, offset, records, place) {
+            Tally::Unknown { piece, first, past } => {
+                lent::refuse_piece(text, records, &s[first..past]);
+                return Reached::Unknown {
+                    piece,
+                    name: past - first,
+                };
             }
-        }
-        Tally::Targets {
-            variables,
-            excluded,
-            used,
-        } => {
-            let kept = kept(exclusions, variables, excluded);
-            let count = variables + kept;
-            if lent::room(records.len(), lent::VARIABLE_WORDS) < count {
-                clear(text, records);
-                return Answer::NoRoom(count);
+            Tally::Targets {
+                variables,
+                excluded,
+                used,
+            } => {
+                let kept = kept(exclusions, variables, excluded);
+                let past = add_exclusions(s, kept, text, used, records, place + variables);
+                return Reached::Read {
+                    count: variables + kept,
+                    offset: past,
+                };
             }
-            let past = add_exclusions(s, kept, text, used, records, variables);
-            lent::clear_bytes(&mut text[past..]);
-            let words = count * lent::VARIABLE_WORDS;
-            lent::clear_words(&mut records[words..]);
-            Answer::Read { count, text: past }
         }
     }
+    Reached::Unfit
 }
 
-// A list after the checks 1, 2 and 3.
+// A list after the checks 1, 2 and 3; past these it is read from 0 on, so `Unfit` does not come.
 fn parse(input: &[u8], exclusions: Exclusions, text: &mut [u8], records: &mut [u64]) -> Answer
     ensures { λ r. ⌜ Meets (outcomeOf exclusions (now (input .entry)) (length (now (text .entry))) (length (now (records .entry)))) (now (text .entry)) (now (text .exit)) (now (records .entry)) (now (records .exit)) r ⌝ }
 {
     match lent::admit(input, text.len(), input.len()) {
-        Gate::TooLong => Answer::TooLong,
-        Gate::NotAscii(place) => Answer::NotAscii(place),
-        Gate::Short => Answer::Short,
-        Gate::Open => read(input, exclusions, text, records),
+        Gate::TooLong => return Answer::TooLong,
+        Gate::NotAscii(place) => return Answer::NotAscii(place),
+        Gate::Short => return Answer::Short,
+        Gate::Open => {}
+    }
+    match read_targets(input, exclusions, text, 0, records, 0) {
+        Reached::Unfit => Answer::Short,
+        Reached::Unknown { piece, name } => Answer::Unknown { piece, name },
+        Reached::Read { count, offset } => {
+            if lent::finish(text, offset, records, count, lent::VARIABLE_WORDS) {
+                return Answer::NoRoom(count);
+            }
+            Answer::Read {
+                count,
+                text: offset,
+            }
+        }
     }
 }
 

@@ -34,7 +34,7 @@ fn span_of(e: Entry, offset: usize) -> u64
 // The text of an entry of the piece `p` at the offset `used`, and its record in the place `count`, each where it fits.
 fn put(p: &[u8], e: Entry, text: &mut [u8], used: usize, records: &mut [u64], count: usize)
     requires { ⌜ Narrow e used ⌝ }
-    requires { ⌜ (e .past ≤ length (now p)) × (count ≤ limit + limit) ⌝ }
+    requires { ⌜ (e .past ≤ length (now p)) × (count ≤ 4 * limit) ⌝ }
     ensures { λ r. ⌜ now (text .exit) ≡ stored (now (text .entry)) used (part (now (p .entry)) (e .first) (e .past)) ⌝ }
     ensures { λ r. ⌜ now (records .exit) ≡ stored (now (records .entry)) (count * variableWords) (entryWords used e) ⌝ }
 {
@@ -51,7 +51,7 @@ fn put(p: &[u8], e: Entry, text: &mut [u8], used: usize, records: &mut [u64], co
     lent::store_bytes(text, used, &p[first..past]);
 }
 
-// What a list was read to: how many variables and exclusions, and the length of the selections' texts;
+// What a list was read to: how many variables and exclusions, and the offset past the selections' texts;
 // or the first name that is none, with its piece and its places.
 pub enum Tally {
     Targets {
@@ -66,15 +66,23 @@ pub enum Tally {
     },
 }
 
-// Reads every piece, and writes the variables.
-pub fn scan(s: &[u8], exclusions: Exclusions, text: &mut [u8], records: &mut [u64]) -> Tally
+// Reads every piece, and writes the variables, texts from `offset` and records from `place` on.
+pub fn scan(
+    s: &[u8],
+    exclusions: Exclusions,
+    text: &mut [u8],
+    offset: usize,
+    records: &mut [u64],
+    place: usize,
+) -> Tally
     requires { ⌜ length (now s) ≤ limit ⌝ }
-    ensures { λ r. ⌜ Scanned exclusions (now (s .entry)) (now (text .entry)) (now (text .exit)) (now (records .entry)) (now (records .exit)) r ⌝ }
+    requires { ⌜ (offset ≤ limit) × (place ≤ limit) ⌝ }
+    ensures { λ r. ⌜ Scanned exclusions (now (s .entry)) offset place (now (text .entry)) (now (text .exit)) (now (records .entry)) (now (records .exit)) r ⌝ }
 {
     let mut at = 0;
     let mut variables = 0;
     let mut excluded = 0;
-    let mut used = 0;
+    let mut used = offset;
     loop {
         let Next::Piece { first, past, next } = next_piece(s, at) else {
             return Tally::Targets {
@@ -97,7 +105,7 @@ pub fn scan(s: &[u8], exclusions: Exclusions, text: &mut [u8], records: &mut [u6
                 at = next;
             }
             Reading::Variable(e) => {
-                put(p, e, text, used, records, variables);
+                put(p, e, text, used, records, place + variables);
                 used += e.past - e.first;
                 variables += 1;
                 at = next;
@@ -117,7 +125,7 @@ pub fn add_exclusions(
     place: usize,
 ) -> usize
     requires { ⌜ length (now s) ≤ limit ⌝ }
-    requires { ⌜ (offset ≤ limit) × (place ≤ limit) ⌝ }
+    requires { ⌜ (offset ≤ limit + limit) × (place ≤ limit + limit) ⌝ }
     requires { ⌜ AllOrNone kept (excludedOf (pieces (now s))) ⌝ }
     ensures { λ r. ⌜ Added (keptOf kept (excludedOf (pieces (now (s .entry))))) offset place (now (text .entry)) (now (text .exit)) (now (records .entry)) (now (records .exit)) r ⌝ }
 {

@@ -6,6 +6,7 @@ use native.Mathlib.Omega.{arith}
 use denote.Ref.{now}
 use lib.ListN.{length}
 use Rattle.variables.proofs.ScanLaws.{Adding, add-begun, add-ended-kept, add-done, add-passed, add-narrow, add-turned, piece-long}
+use Rattle.variables.proofs.LayoutLaws.{text-long, records-long}
 use Rattle.variables.proofs.writing.add_exclusions.Statement.{statement}
 use Rattle.variables.proofs.writing.add_exclusions.Tie as tie
 
@@ -24,10 +25,10 @@ sub-loop : tie.Need-sub-loop Inv-loop μ-loop
 sub-loop c = omega (arith, c .loop .inv .0 .wrote .count-is)
 
 same-length : tie.Need-same-length Inv-loop μ-loop
-same-length c = c .before .before .before .before .loop .inv .0 .wrote .text-laid .long
+same-length c = text-long (c .before .before .before .before .loop .inv .0 .wrote)
 
 same-length-2 : tie.Need-same-length-2 Inv-loop μ-loop
-same-length-2 c = c .before .before .before .before .loop .inv .0 .wrote .words-laid .long
+same-length-2 c = records-long (c .before .before .before .before .loop .inv .0 .wrote)
 
 returns : tie.Need-returns Inv-loop μ-loop
 returns c =
@@ -113,10 +114,10 @@ loop-again-2 c =
     (add-passed (l .inv .0) _ _ _ (rw (c .before .before .before .first .given .1) at (c .before .before .before .before .before .next-piece .ensures)) (c .if1 .left), l .inv .1)
 
 same-length-3 : tie.Need-same-length-3 Inv-loop μ-loop
-same-length-3 c = c .before .loop .inv .0 .wrote .text-laid .long
+same-length-3 c = text-long (c .before .loop .inv .0 .wrote)
 
 same-length-4 : tie.Need-same-length-4 Inv-loop μ-loop
-same-length-4 c = c .before .loop .inv .0 .wrote .words-laid .long
+same-length-4 c = records-long (c .before .loop .inv .0 .wrote)
 
 returns-2 : tie.Need-returns-2 Inv-loop μ-loop
 returns-2 c =
