@@ -1,8 +1,8 @@
 -- What the two parsers promise, in plain words: every number exactly when it is given, and what is given and left with it.
--- The idea: lent's OutcomeLaws has numbers 1 to 3; the names and the room tell 7, 4 and 0 apart.
+-- The idea: lent's RowLaws has numbers 1 to 3 and one law for all; the names and the room tell 7, 4 and 0 apart.
 use mathlib.Core.Path.{_≡_, _∙_, refl, sym, ap, ap₂}
 use mathlib.Core.Bool.{Bool, true, false}
-use mathlib.Core.List.{List}
+use mathlib.Core.List.{List, [], _∷_}
 use mathlib.Core.Logic.{_↔_, _⊎_, inl, inr}
 use Prim.Native.Nat.{ℕ, _+_, _≤_, _<_}
 use native.Mathlib.Omega.{arith}
@@ -17,7 +17,9 @@ use Rattle.lent.specs.declared.gating.Gate.{Gate}
 use Rattle.lent.specs.declared.gating.Gate.the-variants as Gate
 use Rattle.lent.proofs.HighLaws.{FirstAt}
 use Rattle.lent.proofs.GateLaws.{Opened, Shortened, Row}
-use Rattle.lent.proofs.OutcomeLaws.{numberOf, Later, past-row, number-1, number-2, number-3, number-later}
+use Rattle.lent.proofs.OutcomeLaws.{numberOf, given-number, past-row}
+use Rattle.lent.proofs.RowLaws as Rows
+use Rattle.lent.proofs.RowLaws.{row, OneOf, Numbered, Exactly, absent, differ, behind, gated, exactly-gated}
 use Rattle.variables.specs.Parts.{pieces}
 use Rattle.variables.specs.Variables.{Variable, Targets}
 use Rattle.variables.specs.Layout.{texts, wordsFrom}
@@ -64,66 +66,33 @@ module _ (n : Exclusions) (s : List ℕ) (m : ℕ) where
   pub roomy-is : (a : AllMeant n (pieces s)) → needed n s ≤ roomFor variableWords m → readOutcome n s m ≡ reads (laidOut (variablesOf a) exclusionsOf)
   roomy-is a h = read-is a ∙ rw (le-ltb (roomFor variableWords m) (length (variablesOf a) + length exclusionsOf) (omega (arith, needed-is a)))
 
-  -- one of three
-  data Fate : Type 0 where
-    missing : Missing n (pieces s) → Fate
-    crowded : AllMeant n (pieces s) → roomFor variableWords m < needed n s → Fate
-    roomy : AllMeant n (pieces s) → needed n s ≤ roomFor variableWords m → Fate
+  -- one of three, and the number of each
+  abbrev rows : List Rows.Row
+  rows =
+      row 7 (Missing n (pieces s))
+      ∷ row 4 (AllMeant n (pieces s) × (roomFor variableWords m < needed n s))
+      ∷ row 0 (AllMeant n (pieces s) × (needed n s ≤ roomFor variableWords m))
+      ∷ []
 
-  fate : Fate
-  fate = go (all-or-missing n (pieces s))
+  one : OneOf rows
+  unfolding OneOf
+  one = go (all-or-missing n (pieces s))
     where
-      by : AllMeant n (pieces s) → (t : Bool) → ltb (roomFor variableWords m) (needed n s) ≡ t → Fate
-      by a true e = crowded a (ltb-true (roomFor variableWords m) (needed n s) e)
-      by a false e = roomy a (ltb-false (roomFor variableWords m) (needed n s) e)
+      by : AllMeant n (pieces s) → (t : Bool) → ltb (roomFor variableWords m) (needed n s) ≡ t → OneOf rows
+      by a true e = inr (inl (a, ltb-true (roomFor variableWords m) (needed n s) e))
+      by a false e = inr (inr (inl (a, ltb-false (roomFor variableWords m) (needed n s) e)))
 
-      go : AllMeant n (pieces s) ⊎ Missing n (pieces s) → Fate
+      go : AllMeant n (pieces s) ⊎ Missing n (pieces s) → OneOf rows
       go (inl a) = by a (ltb (roomFor variableWords m) (needed n s)) refl
-      go (inr x) = missing x
+      go (inr x) = inl x
 
-  abbrev past : Outcome Filled
-  past = readOutcome n s m
+  numbered : Numbered (numberOf (readOutcome n s m)) rows
+  unfolding Numbered
+  numbered = (λ x. ap numberOf (missing-is x), (λ p. ap numberOf (crowded-is (p .0) (p .1)), (λ p. ap numberOf (roomy-is (p .0) (p .1)), tt)))
 
-  missing-number : Missing n (pieces s) → numberOf past ≡ 7
-  missing-number x = ap numberOf (missing-is x)
-
-  crowded-number : AllMeant n (pieces s) → roomFor variableWords m < needed n s → numberOf past ≡ 4
-  crowded-number a h = ap numberOf (crowded-is a h)
-
-  roomy-number : AllMeant n (pieces s) → needed n s ≤ roomFor variableWords m → numberOf past ≡ 0
-  roomy-number a h = ap numberOf (roomy-is a h)
-
-  late : Later (numberOf past)
-  late = go fate
-    where
-      go : Fate → Later (numberOf past)
-      go (missing x) = inr (omega (arith, missing-number x))
-      go (crowded a h) = inr (omega (arith, crowded-number a h))
-      go (roomy a h) = inl (roomy-number a h)
-
-  is-missing : (numberOf past ≡ 7) ↔ Missing n (pieces s)
-  is-missing = (λ z. go fate z, missing-number)
-    where
-      go : Fate → numberOf past ≡ 7 → Missing n (pieces s)
-      go (missing x) z = x
-      go (crowded a h) z = absurd (omega (arith, crowded-number a h))
-      go (roomy a h) z = absurd (omega (arith, roomy-number a h))
-
-  is-crowded : (numberOf past ≡ 4) ↔ (AllMeant n (pieces s) × (roomFor variableWords m < needed n s))
-  is-crowded = (λ z. go fate z, λ p. crowded-number (p .0) (p .1))
-    where
-      go : Fate → numberOf past ≡ 4 → AllMeant n (pieces s) × (roomFor variableWords m < needed n s)
-      go (missing x) z = absurd (omega (arith, missing-number x))
-      go (crowded a h) z = (a, h)
-      go (roomy a h) z = absurd (omega (arith, roomy-number a h))
-
-  is-roomy : (numberOf past ≡ 0) ↔ (AllMeant n (pieces s) × (needed n s ≤ roomFor variableWords m))
-  is-roomy = (λ z. go fate z, λ p. roomy-number (p .0) (p .1))
-    where
-      go : Fate → numberOf past ≡ 0 → AllMeant n (pieces s) × (needed n s ≤ roomFor variableWords m)
-      go (missing x) z = absurd (omega (arith, missing-number x))
-      go (crowded a h) z = absurd (omega (arith, crowded-number a h))
-      go (roomy a h) z = (a, h)
+  exact : (k : ℕ) → Exactly (numberOf (pastGate (gateOf s k (length s)) (readOutcome n s m))) (gated s k (length s) rows)
+  unfolding differ absent behind
+  exact k = exactly-gated s k (length s) (readOutcome n s m) rows refl one numbered
 
 -- ---- the whole call
 
@@ -157,15 +126,11 @@ pub record Numbers (n : Exclusions) (s text text′ records records′ : List �
       × (text′ ≡ padded (length text) (texts (variablesOf n s 0 a) (exclusionsOf n s 0)))
       × (records′ ≡ padded (length records) (wordsFrom 0 (variablesOf n s 0 a) (exclusionsOf n s 0)))
 
-given-number : (o : Outcome Filled) → givenBy o .number ≡ numberOf o
-given-number (refuses f) = refl
-given-number (reads x) = refl
-
 module _ (n : Exclusions) (s : List ℕ) {text text′ records records′ : List ℕ} {r : Answer} (x : Meets (outcomeOf n s (length text) (length records)) text text′ records records′ r) where
-  abbrev behind : Outcome Filled
-  behind = readOutcome n s (length records)
+  abbrev past : Outcome Filled
+  past = readOutcome n s (length records)
 
-  number-is : answerGiven r .number ≡ numberOf (pastGate (gateOf s (length text) (length s)) behind)
+  number-is : answerGiven r .number ≡ numberOf (pastGate (gateOf s (length text) (length s)) past)
   unfolding outcomeOf
   number-is = ap (λ (g : Given). g .number) (x .answer) ∙ given-number (outcomeOf n s (length text) (length records))
 
@@ -178,25 +143,22 @@ module _ (n : Exclusions) (s : List ℕ) {text text′ records records′ : List
     x .words ∙ ap (λ (o : Outcome Filled). recordsBy o records) e,
   )
 
-  at-gate : (g : Gate) → Row s (length text) (length s) g → outcomeOf n s (length text) (length records) ≡ pastGate g behind
+  at-gate : (g : Gate) → Row s (length text) (length s) g → outcomeOf n s (length text) (length records) ≡ pastGate g past
   unfolding outcomeOf
-  at-gate g h = past-row s (length text) (length s) behind g h
-
-  later : (k : ℕ) → Later k → {B : Type 0} → (numberOf behind ≡ k) ↔ B → (answerGiven r .number ≡ k) ↔ (Opened s (length text) (length s) × B)
-  later k l w =
-      let y = number-later s (length text) (length s) behind (late n s (length records)) k l in
-      rw number-is (λ e. (y .0 e .0, w .0 (y .0 e .1)), λ p. y .1 (p .0, w .1 (p .1)))
+  at-gate g h = past-row s (length text) (length s) past g h
 
   pub numbers : Numbers n s text text′ records records′ r
+  unfolding Exactly behind
   numbers =
       let m = length records in
+      let e = exact n s m (length text) in
       record {
-        number-1 = rw number-is (number-1 s (length text) (length s) behind (late n s m));
-        number-2 = rw number-is (number-2 s (length text) (length s) behind (late n s m));
-        number-3 = rw number-is (number-3 s (length text) (length s) behind (late n s m));
-        number-7 = later 7 (inr (omega arith)) (is-missing n s m);
-        number-4 = later 4 (inr (omega arith)) (is-crowded n s m);
-        number-0 = later 0 (inl refl) (is-roomy n s m);
+        number-1 = rw number-is (e .0);
+        number-2 = rw number-is (e .1 .0);
+        number-3 = rw number-is (e .1 .1 .0);
+        number-7 = rw number-is (e .1 .1 .1 .0);
+        number-4 = rw number-is (e .1 .1 .1 .1 .0);
+        number-0 = rw number-is (e .1 .1 .1 .1 .1 .0);
         long = λ h. by-outcome _ Answer.TooLong (at-gate Gate.TooLong h) refl;
         high = λ p h. by-outcome _ (Answer.NotAscii p) (at-gate (Gate.NotAscii p) h) refl;
         short = λ h. by-outcome _ Answer.Short (at-gate Gate.Short h) refl;
