@@ -6,8 +6,8 @@ use Rattle.demands.specs.Demand1.{Demand1}
 use Rattle.demands.proofs.FixedLaws.{gives, finish-fixed}
 use Rattle.demands.proofs.TokenCalls.{next-token-fixed, tokens-fixed, tokens-row}
 use Rattle.demands.proofs.ActionCalls.{parse-actions-fixed, parse-setvar-fixed, parse-actions-row, parse-setvar-row}
-use Rattle.demands.proofs.VariableCalls.{parse-variables-fixed, parse-update-targets-fixed, parse-variables-row, parse-update-targets-row}
-use Rattle.demands.proofs.OperatorCalls.{parse-operator-fixed, operator-argument-fixed}
+use Rattle.demands.proofs.VariableCalls.{read-targets-fixed, parse-variables-fixed, parse-update-targets-fixed, parse-variables-row, parse-update-targets-row}
+use Rattle.demands.proofs.OperatorCalls.{operator-in-fixed, parse-operator-fixed, operator-argument-fixed}
 use Rattle.demands.proofs.Library.{of-library}
 use Rattle.demands.proofs.ListingCalls.{write-listing-fixed, write-refusal-fixed, list-text-fixed}
 
@@ -78,6 +78,8 @@ demand1 = record {
     parse-setvar = parse-setvar-fixed;
     parse-variables = parse-variables-fixed;
     parse-update-targets = parse-update-targets-fixed;
+    read-targets = read-targets-fixed;
+    operator-in = operator-in-fixed;
     parse-operator = parse-operator-fixed;
     operator-argument = operator-argument-fixed;
   };

@@ -53,8 +53,10 @@ pub use Rattle.actions.proofs.parse_actions.Met.{met as parse-actions}
 pub use Rattle.actions.proofs.parse_setvar.Met.{met as parse-setvar}
 pub use Rattle.variables.proofs.parse_update_targets.Met.{met as parse-update-targets}
 pub use Rattle.variables.proofs.parse_variables.Met.{met as parse-variables}
+pub use Rattle.variables.proofs.read_targets.Met.{met as read-targets}
 pub use Rattle.xml.proofs.xml_target.Met.{met as xml-target}
 pub use Rattle.operators.proofs.operator_argument.Met.{met as operator-argument}
+pub use Rattle.operators.proofs.operator_in.Met.{met as operator-in}
 pub use Rattle.operators.proofs.parse_operator.Met.{met as parse-operator}
 pub use Rattle.rules.proofs.grade.Met.{met as grade}
 pub use Rattle.rules.proofs.phase.Met.{met as phase}

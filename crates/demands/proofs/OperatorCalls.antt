@@ -1,4 +1,4 @@
--- The promises of parse_operator and operator_argument are total, and have no second answer.
+-- The promises of operator_in, parse_operator and operator_argument are total, and have no second answer.
 use mathlib.Core.Path.{_≡_, refl}
 use mathlib.Core.List.{List}
 use Prim.Native.Nat.{ℕ}
@@ -13,9 +13,9 @@ use Rattle.operators.specs.Places.{namePlace, argumentPlace}
 use Rattle.operators.specs.Promises as O
 use Rattle.operators.specs.declared.Answer.{Answer}
 use Rattle.operators.specs.declared.Answer.the-variants as Answer
-use Rattle.operators.proofs.GivenLaws.{parse-operator-once, operator-argument-once}
+use Rattle.operators.proofs.GivenLaws.{operator-in-once, parse-operator-once, operator-argument-once}
 use Rattle.demands.specs.Fixed.{Fixed}
-use Rattle.demands.specs.Calls.{parse-operator-promise, operator-argument-promise}
+use Rattle.demands.specs.Calls.{operator-in-promise, parse-operator-promise, operator-argument-promise}
 use native.Mathlib.Omega.{arith}
 use Rattle.lent.proofs.GateLaws.{Row}
 
@@ -29,6 +29,14 @@ gate-told s x Open h = reading-told s x
 gate-told s x TooLong h = (Answer.TooLong, refl)
 gate-told s x (NotAscii p) h = (Answer.NotAscii p, refl)
 gate-told s x Short h = absurd (omega (arith, h .less))
+
+pub operator-in-fixed : Fixed (List ℕ) Answer operator-in-promise
+operator-in-fixed = record {
+  total = λ s.
+      let r = reading-told s (operator s) in
+      (r .0, record { answer = r .1 });
+  once = λ s r v x y. operator-in-once x y;
+}
 
 pub parse-operator-fixed : Fixed (List ℕ) Answer parse-operator-promise
 unfolding O.operatorOutcome

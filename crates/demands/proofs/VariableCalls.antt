@@ -1,4 +1,4 @@
--- The promises of parse_variables and parse_update_targets are total, have no second answer, and keep to document 01's table.
+-- The promises of read_targets, parse_variables and parse_update_targets are total, have no second answer, and keep to document 01's table.
 use mathlib.Core.Path.{refl}
 use mathlib.Core.Bool.{Bool, true, false}
 use mathlib.Core.List.{List, [], _∷_}
@@ -14,9 +14,11 @@ use Rattle.variables.specs.Variables.{Variable, Targets, targets, refused, asWr
 use Rattle.variables.specs.Promises as Vars
 use Rattle.variables.specs.declared.Answer.{Answer}
 use Rattle.variables.specs.declared.Answer.the-variants as Answer
+use Rattle.variables.specs.declared.Reached.{Reached}
 use Rattle.variables.proofs.GivenLaws.{meets-once}
+use Rattle.ascii.proofs.OneAnswer.{one-answer}
 use Rattle.demands.specs.Fixed.{Fixed}
-use Rattle.demands.specs.Calls.{Lent, Left, parse-variables-promise, parse-update-targets-promise}
+use Rattle.demands.specs.Calls.{Lent, Left, From, read-targets-promise, parse-variables-promise, parse-update-targets-promise}
 use Rattle.demands.specs.Rows.{Row}
 use Rattle.demands.proofs.FixedLaws.{left-same}
 use Rattle.demands.proofs.RowLaws.{row-of}
@@ -44,7 +46,15 @@ hung-told m (refused i name) = record { answer = Answer.Unknown i (length name);
 gated : Gated Vars.answerGiven
 gated = record { long = (Answer.TooLong, refl); high = λ p. (Answer.NotAscii p, refl); short = (Answer.Short, refl) }
 
--- either, by what a call comes to
+-- ---- read_targets
+
+pub read-targets-fixed : Fixed From (Left Reached) read-targets-promise
+read-targets-fixed = record {
+  total = λ i. (record { answer = _; text = _; records = _ }, record { answer = refl; texts = refl; words = refl });
+  once = λ i o p x y. left-same o p (one-answer (x .answer) (y .answer), one-answer (x .texts) (y .texts), one-answer (x .words) (y .words));
+}
+
+-- either parser, by what a call comes to
 module _ (o : Lent → Outcome Filled) (a : (i : Lent) → AnsweredVariables (o i)) where
   abbrev Met : Lent → Left Answer → Type 0
   Met i l = Vars.Meets (o i) (i .text) (l .text) (i .records) (l .records) (l .answer)

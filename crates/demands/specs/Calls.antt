@@ -10,8 +10,11 @@ use Rattle.lexer.specs.declared.writing.Answer as Lexer
 use Rattle.actions.specs.Promises.{ParseActions, SetvarAlone}
 use Rattle.actions.specs.declared.Answer as Actions
 use Rattle.variables.specs.Promises.{ParseVariables, ParseUpdateTargets}
+use Rattle.variables.specs.Cores.{ReadTargets}
 use Rattle.variables.specs.declared.Answer as Variables
-use Rattle.operators.specs.Promises.{ParseOperator, OperatorArgument}
+use Rattle.variables.specs.declared.Reached.{Reached}
+use Rattle.variables.specs.declared.singles.Exclusions.{Exclusions}
+use Rattle.operators.specs.Promises.{OperatorIn, ParseOperator, OperatorArgument}
 use Rattle.operators.specs.declared.Answer as Operators
 use Rattle.listing.specs.declared.Stop.{Stop}
 use Rattle.listing.specs.Promises.{WriteListing, WriteRefusal, ListText}
@@ -77,7 +80,21 @@ parse-variables-promise i o = ParseVariables (i .input) (i .text) (o .text) (i .
 abbrev pub parse-update-targets-promise : Lent → Left Variables.Answer → Type 0
 parse-update-targets-promise i o = ParseUpdateTargets (i .input) (i .text) (o .text) (i .records) (o .records) (o .answer)
 
+-- read_targets besides has what it is told of exclusions, and where it starts.
+pub record From : Type 0 where
+  pub lent : Lent
+  pub exclusions : Exclusions
+  pub offset : ℕ
+  pub place : ℕ
+
+abbrev pub read-targets-promise : From → Left Reached → Type 0
+read-targets-promise i o =
+    ReadTargets (i .exclusions) (i .lent .input) (i .offset) (i .place) (i .lent .text) (o .text) (i .lent .records) (o .records) (o .answer)
+
 -- Nothing is lent but the input.
+abbrev pub operator-in-promise : List ℕ → Operators.Answer → Type 0
+operator-in-promise = OperatorIn
+
 abbrev pub parse-operator-promise : List ℕ → Operators.Answer → Type 0
 parse-operator-promise = ParseOperator
 

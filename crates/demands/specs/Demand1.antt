@@ -35,6 +35,7 @@ use Rattle.actions.specs.declared.Answer as Listed
 use Rattle.xml.specs.Xml.{xmlTarget}
 use Rattle.variables.specs.Promises as Variables
 use Rattle.variables.specs.declared.Answer as Targets
+use Rattle.variables.specs.declared.Reached.{Reached}
 use Rattle.operators.specs.declared.Answer as Operator
 use Rattle.rules.specs.Entries.{entries}
 use Rattle.rules.specs.Phases.{phaseOf}
@@ -43,7 +44,7 @@ use Rattle.rules.specs.Selectors.{matched}
 use Rattle.rules.specs.declared.selecting.RuleIdSelector.{RuleIdSelector}
 use Rattle.listing.specs.declared.Answer as Listing
 use Rattle.demands.specs.Fixed.{Fixed, Gives}
-use Rattle.demands.specs.Calls.{Lent, Left, Wrote, Filling, finish-promise, Place, Records, Refusal, next-token-promise, tokens-promise, parse-actions-promise, parse-setvar-promise, parse-variables-promise, parse-update-targets-promise, parse-operator-promise, operator-argument-promise, write-listing-promise, write-refusal-promise, list-text-promise}
+use Rattle.demands.specs.Calls.{Lent, Left, Wrote, Filling, finish-promise, Place, Records, Refusal, next-token-promise, tokens-promise, parse-actions-promise, parse-setvar-promise, parse-variables-promise, parse-update-targets-promise, From, read-targets-promise, operator-in-promise, parse-operator-promise, operator-argument-promise, write-listing-promise, write-refusal-promise, list-text-promise}
 use Rattle.demands.specs.Rows.{Row}
 use Rattle.demands.specs.Library.{OfLibrary}
 
@@ -129,6 +130,8 @@ pub record OfParsers : Type 0 where
   pub parse-setvar : Fixed Lent (Left Listed.Answer) parse-setvar-promise
   pub parse-variables : Fixed Lent (Left Targets.Answer) parse-variables-promise
   pub parse-update-targets : Fixed Lent (Left Targets.Answer) parse-update-targets-promise
+  pub read-targets : Fixed From (Left Reached) read-targets-promise
+  pub operator-in : Fixed (List ℕ) Operator.Answer operator-in-promise
   pub parse-operator : Fixed (List ℕ) Operator.Answer parse-operator-promise
   pub operator-argument : Fixed (List ℕ) (List ℕ) operator-argument-promise
 

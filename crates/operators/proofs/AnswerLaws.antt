@@ -22,7 +22,7 @@ use Rattle.names.specs.declared.Lookup.{Lookup}
 use Rattle.names.specs.declared.Lookup.the-variants as Lookup
 use Rattle.operators.specs.Operators.{Spec, Reading, nameOf, operator}
 use Rattle.operators.specs.Places.{afterAt, isNamed, argumentPlace}
-use Rattle.operators.specs.Promises.{answerGiven, outcomeOf, operatorOutcome, givenBy, argumentBy, ParseOperator, OperatorArgument}
+use Rattle.operators.specs.Promises.{answerGiven, outcomeOf, operatorOutcome, givenBy, argumentBy, OperatorIn, ParseOperator, OperatorArgument}
 use Rattle.operators.specs.declared.Answer.{Answer}
 use Rattle.operators.specs.declared.Answer.the-variants as Answer
 use Rattle.operators.proofs.Answer.{the-type}
@@ -47,9 +47,9 @@ module _ (s : List ℕ) where
 
   -- the arm of Open and Short
   pub answer-open : (g : Gate) → g ≡ gateOf s 0 0 → OneOf (0 ∷ 3 ∷ []) (tagOf gates.the-type g)
-      → (r : Answer) → answerGiven r ≡ givenBy s (outcomeOf s (operator s)) → ParseOperator s r
+      → (r : Answer) → OperatorIn s r → ParseOperator s r
   unfolding operatorOutcome
-  answer-open Gate.Open e k r a = record { answer = rw (sym e) a }
+  answer-open Gate.Open e k r a = record { answer = rw (sym e) (a .answer) }
   answer-open Gate.TooLong e k r a = absurd (⊎-elim (λ z. omega arith) (λ z. omega arith) k)
   answer-open (Gate.NotAscii p) e k r a = absurd (⊎-elim (λ z. omega arith) (λ z. omega arith) k)
   answer-open Gate.Short e k r a = absurd (never-short (sym e))

@@ -8,7 +8,7 @@ use lib.Dec.{eqb}
 use Rattle.ascii.specs.Choice.{pick}
 use Rattle.ascii.proofs.OneAnswer.{one-answer, bit-back}
 use Rattle.lent.specs.Table.{Given}
-use Rattle.operators.specs.Promises.{answerGiven, ParseOperator, OperatorArgument}
+use Rattle.operators.specs.Promises.{answerGiven, OperatorIn, ParseOperator, OperatorArgument}
 use Rattle.operators.specs.declared.Answer.{Answer}
 use Rattle.operators.specs.declared.Answer.the-variants as Answer
 
@@ -31,7 +31,10 @@ answer-back (Answer.Unknown place len) = refl
 pub answer-told : (r v : Answer) → answerGiven r ≡ answerGiven v → r ≡ v
 answer-told r v e = sym (answer-back r) ∙ ap answerFrom e ∙ answer-back v
 
--- No second answer of parse_operator.
+-- No second answer of operator_in, and none of parse_operator.
+pub operator-in-once : {s : List ℕ} {r v : Answer} → OperatorIn s r → OperatorIn s v → r ≡ v
+operator-in-once {r = r} {v = v} x y = answer-told r v (one-answer (x .answer) (y .answer))
+
 pub parse-operator-once : {s : List ℕ} {r v : Answer} → ParseOperator s r → ParseOperator s v → r ≡ v
 parse-operator-once {r = r} {v = v} x y = answer-told r v (one-answer (x .answer) (y .answer))
 

@@ -1,5 +1,5 @@
--- What the two calls promise, in plain words: every number exactly when it is given, what is given with it, and where it stands.
--- The idea: lent's OutcomeLaws has numbers 1 and 2, and the name's lookup tells 8 from 0.
+-- What the calls promise, in plain words: every number exactly when it is given, what is given with it, and where it stands.
+-- The idea: lent's RowLaws has numbers 1 and 2 and one law for all, and the name's lookup tells 8 from 0.
 use mathlib.Core.Path.{_≡_, _∙_, refl, sym, ap, subst}
 use mathlib.Core.Bool.{Bool, true, false}
 use mathlib.Core.List.{List, [], _∷_}
@@ -16,14 +16,16 @@ use Rattle.lent.specs.declared.gating.Gate.{Gate}
 use Rattle.lent.specs.declared.gating.Gate.the-variants as Gate
 use Rattle.lent.proofs.HighLaws.{FirstAt}
 use Rattle.lent.proofs.GateLaws.{Opened, Row}
-use Rattle.lent.proofs.OutcomeLaws.{numberOf, Later, past-row, number-1, number-2, number-later}
+use Rattle.lent.proofs.OutcomeLaws.{numberOf, past-row}
+use Rattle.lent.proofs.RowLaws as Rows
+use Rattle.lent.proofs.RowLaws.{row, OneOf, Numbered, Exactly, absent, differ, exactly, behind, gated, exactly-gated}
 use Rattle.names.specs.Operators.{operatorCode}
 use Rattle.names.specs.declared.Lookup.{Lookup}
 use Rattle.names.specs.declared.Lookup.the-variants as Lookup
 use Rattle.ascii.proofs.TrimLaws.{leading-fits}
 use Rattle.operators.specs.Operators.{Spec, Reading, accepted, unknown, starts, nameLength, nameOf, afterName, unsigned, operator, inName}
 use Rattle.operators.specs.Places.{afterAt, namePlace, isNamed, argumentPlace}
-use Rattle.operators.specs.Promises.{answerGiven, outcomeOf, operatorOutcome, givenBy, argumentBy, partPlace, ParseOperator, OperatorArgument}
+use Rattle.operators.specs.Promises.{answerGiven, outcomeOf, operatorOutcome, givenBy, argumentBy, partPlace, OperatorIn, ParseOperator, OperatorArgument}
 use Rattle.operators.specs.Calls.{Missing, Meant, unwritten, written}
 use Rattle.operators.specs.declared.Answer.{Answer}
 use Rattle.operators.specs.declared.Answer.the-variants as Answer
@@ -62,39 +64,38 @@ module _ (s : List ℕ) where
   abbrev past : Outcome Spec
   past = outcomeOf s (operator s)
 
-  missing-number : Missing s → numberOf past ≡ 8
-  missing-number m = ap (λ (x : Reading). numberOf (outcomeOf s x)) (operator-missing m)
+  -- the number of each
+  abbrev rows : List Rows.Row
+  rows = row 8 (Missing s) ∷ row 0 (Meant s) ∷ []
 
-  meant-number : Meant s → numberOf past ≡ 0
-  meant-number m = ap (λ (x : Reading). numberOf (outcomeOf s x)) (operator-meant m)
-
-  missing-is : (numberOf past ≡ 8) ↔ Missing s
-  missing-is = (λ z. go missing-or-meant z, missing-number)
+  one : OneOf rows
+  unfolding OneOf
+  one = go missing-or-meant
     where
-      go : Missing s ⊎ Meant s → numberOf past ≡ 8 → Missing s
-      go (inl m) z = m
-      go (inr m) z = absurd (omega (arith, meant-number m))
+      go : Missing s ⊎ Meant s → OneOf rows
+      go (inl m) = inl m
+      go (inr m) = inr (inl m)
 
-  meant-is : (numberOf past ≡ 0) ↔ Meant s
-  meant-is = (λ z. go missing-or-meant z, meant-number)
-    where
-      go : Missing s ⊎ Meant s → numberOf past ≡ 0 → Meant s
-      go (inl m) z = absurd (omega (arith, missing-number m))
-      go (inr m) z = m
+  numbered : Numbered (numberOf past) rows
+  unfolding Numbered
+  numbered = (λ m. ap (λ (x : Reading). numberOf (outcomeOf s x)) (operator-missing m), (λ m. ap (λ (x : Reading). numberOf (outcomeOf s x)) (operator-meant m), tt))
 
-  late : Later (numberOf past)
-  late = go missing-or-meant
-    where
-      go : Missing s ⊎ Meant s → Later (numberOf past)
-      go (inl m) = inr (omega (arith, missing-number m))
-      go (inr m) = inl (meant-number m)
+  -- without the gate
+  in-exact : Exactly (numberOf past) rows
+  unfolding differ absent
+  in-exact = exactly (numberOf past) rows refl one numbered
+
+  -- and behind it
+  exact : Exactly (numberOf (pastGate (gateOf s 0 0) past)) (gated s 0 0 rows)
+  unfolding differ absent behind
+  exact = exactly-gated s 0 0 past rows refl one numbered
 
   -- The unknown name stands in the input, at the place given with it.
   pub unknown-stands : Missing s → take (length (nameOf (afterAt s))) (drop (namePlace s) s) ≡ nameOf (afterAt s)
   unknown-stands m =
       ap (λ (k : ℕ). take k (drop (namePlace s) s)) (length-take-le (nameLength (afterAt s)) (afterAt s) (leading-fits inName (afterAt s))) ∙ name-stands s
 
--- ---- parse_operator
+-- ---- operator_in and parse_operator
 
 given-number : (s : List ℕ) (o : Outcome Spec) → givenBy s o .number ≡ numberOf o
 given-number s (refuses f) = refl
@@ -107,6 +108,19 @@ parse-operator-numbers Answer.TooLong = inr (inl refl)
 parse-operator-numbers (Answer.NotAscii place) = inr (inr (inl refl))
 parse-operator-numbers (Answer.Unknown place len) = inr (inr (inr refl))
 
+module _ {s : List ℕ} {r : Answer} (x : OperatorIn s r) where
+  in-number : answerGiven r .number ≡ numberOf (past s)
+  in-number = ap (λ (g : Given). g .number) (x .answer) ∙ given-number s (past s)
+
+  -- Number 8: a name is written that no operator has. Number 0: else.
+  pub operator-in-8 : (answerGiven r .number ≡ 8) ↔ Missing s
+  unfolding Exactly
+  operator-in-8 = rw in-number (in-exact s .0)
+
+  pub operator-in-0 : (answerGiven r .number ≡ 0) ↔ Meant s
+  unfolding Exactly
+  operator-in-0 = rw in-number (in-exact s .1 .0)
+
 module _ {s : List ℕ} {r : Answer} (x : ParseOperator s r) where
   number-is : answerGiven r .number ≡ numberOf (pastGate (gateOf s 0 0) (past s))
   unfolding operatorOutcome
@@ -114,23 +128,23 @@ module _ {s : List ℕ} {r : Answer} (x : ParseOperator s r) where
 
   -- Number 1: the input is over the limit.
   pub parse-operator-1 : (answerGiven r .number ≡ 1) ↔ (limit < length s)
-  parse-operator-1 = rw number-is (number-1 s 0 0 (past s) (late s))
+  unfolding Exactly
+  parse-operator-1 = rw number-is (exact s .0)
 
   -- Number 2: it is not, and a byte is 128 or more.
   pub parse-operator-2 : (answerGiven r .number ≡ 2) ↔ ((length s ≤ limit) × ((p : ℕ) × FirstAt s p))
-  parse-operator-2 = rw number-is (number-2 s 0 0 (past s) (late s))
+  unfolding Exactly
+  parse-operator-2 = rw number-is (exact s .1 .0)
 
   -- Number 8: none is, and a name is written that no operator has.
   pub parse-operator-8 : (answerGiven r .number ≡ 8) ↔ (Opened s 0 0 × Missing s)
-  parse-operator-8 =
-      let n = number-later s 0 0 (past s) (late s) 8 (inr (omega arith)) in
-      rw number-is (λ e. (n .0 e .0, missing-is s .0 (n .0 e .1)), λ p. n .1 (p .0, missing-is s .1 (p .1)))
+  unfolding Exactly behind
+  parse-operator-8 = rw number-is (exact s .1 .1 .1 .0)
 
   -- Number 0: none of these.
   pub parse-operator-0 : (answerGiven r .number ≡ 0) ↔ (Opened s 0 0 × Meant s)
-  parse-operator-0 =
-      let n = number-later s 0 0 (past s) (late s) 0 (inl refl) in
-      rw number-is (λ e. (n .0 e .0, meant-is s .0 (n .0 e .1)), λ p. n .1 (p .0, meant-is s .1 (p .1)))
+  unfolding Exactly behind
+  parse-operator-0 = rw number-is (exact s .1 .1 .1 .1 .0)
 
   -- what is given back, by the gate's answer
   by-gate : (g : Gate) → Row s 0 0 g → answerGiven r ≡ givenBy s (pastGate g (past s))

@@ -1,4 +1,4 @@
--- What the two public calls promise, by document 01's table.
+-- What the public calls promise, by document 01's table.
 use mathlib.Core.Path.{_≡_}
 use Prim.Native.Nat.{ℕ}
 use mathlib.Core.List.{List, [], _∷_}
@@ -40,6 +40,10 @@ argumentBy (reads x) = x .argument
 abbrev pub partPlace : List ℕ → Outcome Spec → ℕ
 partPlace s (refuses f) = 0
 partPlace s (reads x) = argumentPlace s
+
+-- Without the gate, for any bytes.
+pub record OperatorIn (s : List ℕ) (r : Answer) : Type 0 where
+  pub answer : answerGiven r ≡ givenBy s (outcomeOf s (operator s))
 
 pub record ParseOperator (s : List ℕ) (r : Answer) : Type 0 where
   pub answer : answerGiven r ≡ givenBy s (operatorOutcome s)

@@ -3,6 +3,7 @@ mod finding;
 mod reading;
 
 pub use reading::operator_argument;
+pub use reading::operator_in;
 pub use reading::parse_operator;
 
 // What a call answers. Nothing is lent but the input, so the numbers 3 and 4 cannot come.

@@ -1,15 +1,13 @@
-// The two public calls: what the operator is, and its argument.
-ghost use mathlib.Core.Path.{_≡_};
-ghost use Rattle.operators.specs.Operators.{operator};
-ghost use Rattle.operators.specs.Promises.{answerGiven, givenBy, outcomeOf, ParseOperator, OperatorArgument};
+// The public calls: what the operator is, behind the gate and without it, and its argument.
+ghost use Rattle.operators.specs.Promises.{OperatorIn, ParseOperator, OperatorArgument};
 use crate::Answer;
 use crate::finding::find;
 use lent::Gate;
 use names::Lookup;
 
-// The operator of an input that passed the gate.
-fn parsed(s: &[u8]) -> Answer
-    ensures { λ r. ⌜ answerGiven r ≡ givenBy (now (s .entry)) (outcomeOf (now (s .entry)) (operator (now (s .entry)))) ⌝ }
+// The operator in a text of any bytes, without the gate: read, or number 8.
+pub fn operator_in(s: &[u8]) -> Answer
+    ensures { λ r. ⌜ OperatorIn (now (s .entry)) r ⌝ }
 {
     let f = find(s);
     let place = f.argument;
@@ -46,7 +44,7 @@ pub fn parse_operator(input: &[u8]) -> Answer
         Gate::TooLong => Answer::TooLong,
         Gate::NotAscii(place) => Answer::NotAscii(place),
         // Short cannot come, since no buffer is asked for.
-        Gate::Open | Gate::Short => parsed(input),
+        Gate::Open | Gate::Short => operator_in(input),
     }
 }
 

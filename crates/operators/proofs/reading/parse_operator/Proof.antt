@@ -12,7 +12,7 @@ returns-2 : tie.Need-returns-2
 returns-2 c = answer-not-ascii (now (c .before .before .before .before .before .args .input)) _ (c .before .before .before .admit .ensures) _ (c .before .place .given .1)
 
 returns-3 : tie.Need-returns-3
-returns-3 c = answer-open (now (c .before .before .before .before .args .input)) _ (c .before .before .admit .ensures) (c .before .match .keys3) _ (c .parsed .ensures)
+returns-3 c = answer-open (now (c .before .before .before .before .args .input)) _ (c .before .before .admit .ensures) (c .before .match .keys3) _ (c .operator-in .ensures)
 
 pub parse-operator-spec : {M : Type 1} → statement M
 parse-operator-spec =
