@@ -2,11 +2,11 @@
 -- and what it comes to at a refusal and at the end. Each piece pays for its texts, so the text buffer never ends too soon.
 use mathlib.Core.Path.{_≡_, refl, sym, ap, _∙_}
 use mathlib.Core.Bool.{Bool, true, false}
-use mathlib.Core.List.{List, [], _∷_, _++_, append-nil}
+use mathlib.Core.List.{List, [], _∷_, _++_, append-assoc, append-nil}
 use Prim.Native.Nat.{ℕ, suc, _+_, _-_, _*_, _≤_, _<_}
 use native.Mathlib.Numerals.{add-one}
 use native.Mathlib.Omega.{arith}
-use lib.ListN.{length, take, drop, length-drop, length-map, length-take}
+use lib.ListN.{length, take, drop, length-append, length-drop, length-map, length-take}
 use lib.Seq.{take-all, length-take-le}
 use lib.Dec.{ltb}
 use borrow.Author.Tests.{ltb-true, ltb-false, lt-ltb, le-ltb}
@@ -16,7 +16,7 @@ use Rattle.ascii.specs.Fold.{lower, lowered}
 use Rattle.ascii.specs.Trim.{trimEnds}
 use Rattle.ascii.proofs.TrimLaws.{ends-fit}
 use Rattle.lent.specs.Sizes.{actionWords}
-use Rattle.lent.specs.Buffers.{padded, stored}
+use Rattle.lent.specs.Buffers.{padded, placed, stored}
 use Rattle.lent.specs.Table.{Refusal, badArgument, unknownAction, refuses, reads}
 use Rattle.lent.proofs.BufferLaws.{Written, written-none, written-stored, taken-stored, written-all, written-length, stored-length}
 use Rattle.lent.specs.Layout.{textsOf, wordsOf}
@@ -65,23 +65,30 @@ module _ (s : List ℕ) (from end : ℕ) (inside : from ≤ length s) (end-is : 
 
 -- ---- what the loop keeps
 
+-- what stands before a place, xs behind it, and then the rest
+placed-is : (old : List ℕ) (i : ℕ) (xs : List ℕ) → i ≤ length old → take i old ++ xs ++ drop (length (take i old ++ xs)) old ≡ placed old i xs
+placed-is old i xs h =
+    append-assoc (take i old) xs (drop (length (take i old ++ xs)) old)
+    ∙ ap (λ (n : ℕ). take i old ++ (xs ++ drop n old)) (length-append (take i old) xs ∙ ap (λ (n : ℕ). n + length xs) (length-take-le i old h))
+
 -- the pieces up to the place `reach` are read, and `rest` are those still to come
-pub record Going (s text₀ records₀ text records : List ℕ) (rest : List (List ℕ)) (reach used count at : ℕ) : Type 0 where
+pub record Going (s : List ℕ) (offset place : ℕ) (text₀ records₀ text records : List ℕ) (rest : List (List ℕ)) (reach used count at : ℕ) : Type 0 where
   pub actions : List Action
   pub so-far : soFar actions (actionsFrom count rest) ≡ actionsFrom 0 (pieces s)
   pub inside : reach ≤ length s
-  pub used-low : used ≤ reach
+  pub used-low : used ≤ offset + reach
   pub count-low : count ≤ reach
   pub counted : length actions ≡ count
-  pub at-is : at ≡ count * actionWords
+  pub at-is : at ≡ place + count * actionWords
+  pub offset-low : offset ≤ length text₀
   pub written : Written text₀ text used
-  pub front : take used text ≡ texts actions
-  pub recorded : at ≤ length records₀ → (Written records₀ records at) × (take at records ≡ wordsFrom 0 actions)
+  pub front : take used text ≡ take offset text₀ ++ texts actions
+  pub recorded : at ≤ length records₀ → (Written records₀ records at) × (take at records ≡ take place records₀ ++ wordsFrom offset actions)
   pub long : length records ≡ length records₀
 
-pub begun : (s text records : List ℕ) → Going s text records text records (pieces (drop 0 s)) 0 0 0 0
+pub begun : (s text records : List ℕ) (offset place : ℕ) → offset ≤ length text → Going s offset place text records text records (pieces (drop 0 s)) 0 offset 0 place
 unfolding soFar textsOf wordsOf
-begun s text records = record {
+begun s text records offset place h = record {
   actions = [];
   so-far = refl;
   inside = omega arith;
@@ -89,14 +96,15 @@ begun s text records = record {
   count-low = omega arith;
   counted = refl;
   at-is = omega arith;
-  written = written-none text;
-  front = refl;
-  recorded = λ h. (written-none records, refl);
+  offset-low = h;
+  written = record { fits = h; long = refl; beyond = refl };
+  front = sym (append-nil (take offset text));
+  recorded = λ k. (record { fits = k; long = refl; beyond = refl }, sym (append-nil (take place records)));
   long = refl;
 }
 
-module _ {s text₀ records₀ text records : List ℕ} {from used count at : ℕ} (x : Going s text₀ records₀ text records (pieces (drop from s)) from used count at)
-    (room : length s ≤ length text₀)
+module _ {s : List ℕ} {offset place : ℕ} {text₀ records₀ text records : List ℕ} {from used count at : ℕ} (x : Going s offset place text₀ records₀ text records (pieces (drop from s)) from used count at)
+    (room : offset + length s ≤ length text₀)
     (end : ℕ) (end-is : end ≡ from + partLength outside (drop from s)) (piece : List ℕ) (piece-is : piece ≡ trimEnds (cut s from end)) where
   pub piece-short : from + length piece ≤ end
   piece-short =
@@ -107,7 +115,7 @@ module _ {s text₀ records₀ text records : List ℕ} {from used count at : �
   here = ap (actionsFrom count) (pieces-at s from end (x .inside) end-is ∙ ap (λ (p : List ℕ). keep p (behind s end)) (sym piece-is))
 
   -- a part that is no piece is passed over
-  pub passed : length piece ≤ 0 → Going s text₀ records₀ text records (behind s end) end used count at
+  pub passed : length piece ≤ 0 → Going s offset place text₀ records₀ text records (behind s end) end used count at
   passed h =
       let e = end-inside s from end (x .inside) end-is in
       record {
@@ -118,6 +126,7 @@ module _ {s text₀ records₀ text records : List ℕ} {from used count at : �
         count-low = omega (arith, e, x .count-low);
         counted = x .counted;
         at-is = x .at-is;
+        offset-low = x .offset-low;
         written = x .written;
         front = x .front;
         recorded = x .recorded;
@@ -136,7 +145,7 @@ module _ {s text₀ records₀ text records : List ℕ} {from used count at : �
       abbrev action : Action
       action = planAction piece plan
 
-      pub room-for : (used + length (actionText (planAction piece plan)) ≤ length text) × (used + length (actionText (planAction piece plan)) ≤ length s)
+      pub room-for : (used + length (actionText (planAction piece plan)) ≤ length text) × (used + length (actionText (planAction piece plan)) ≤ offset + length s)
       room-for =
           let w = fits (done action) (sym (j .means)) in
           let e = end-inside s from end (x .inside) end-is in
@@ -157,19 +166,21 @@ module _ {s text₀ records₀ text records : List ℕ} {from used count at : �
         text-fits : used + length (actionText action) ≤ length text₀
         text-fits = omega (arith, room-for, x .written .long)
 
-        kept : at + actionWords ≤ length records₀ → (Written records₀ records′ (at + actionWords)) × (take (at + actionWords) records′ ≡ wordsFrom 0 (x .actions ++ (action ∷ [])))
+        kept : at + actionWords ≤ length records₀ → (Written records₀ records′ (at + actionWords)) × (take (at + actionWords) records′ ≡ take place records₀ ++ wordsFrom offset (x .actions ++ (action ∷ [])))
         kept h =
             let y = x .recorded (omega arith) in
             let r = actionRecord used action in
             let f : at + length r ≤ length records₀ = omega (arith, h, record-is) in
-            let u : used ≡ 0 + length (texts (x .actions)) = omega (arith, written-length (x .written) (x .front)) in
+            let u : used ≡ offset + length (texts (x .actions)) = omega (arith, written-length (x .written) (x .front), length-append (take offset text₀) (texts (x .actions)), length-take-le offset text₀ (x .offset-low)) in
             let w : Written records₀ (stored records at r) (at + length r) = written-stored (y .0) r f in
-            let g : take (at + length r) (stored records at r) ≡ wordsFrom 0 (x .actions ++ (action ∷ [])) =
+            let g : take (at + length r) (stored records at r) ≡ take place records₀ ++ wordsFrom offset (x .actions ++ (action ∷ [])) =
             taken-stored (y .0) r f ∙ ap (λ (l : List ℕ). l ++ r) (y .1)
-            ∙ ap (λ (n : ℕ). wordsFrom 0 (x .actions) ++ actionRecord n action) u ∙ sym (words-more 0 (x .actions) action) in
+            ∙ append-assoc (take place records₀) (wordsFrom offset (x .actions)) r
+            ∙ ap (λ (n : ℕ). take place records₀ ++ (wordsFrom offset (x .actions) ++ actionRecord n action)) u
+            ∙ ap (λ (l : List ℕ). take place records₀ ++ l) (sym (words-more offset (x .actions) action)) in
             rw (p .words, ← record-is) (w, g)
 
-        pub acted : Going s text₀ records₀ text′ records′ (behind s end) end used′ (count + 1) (at + actionWords)
+        pub acted : Going s offset place text₀ records₀ text′ records′ (behind s end) end used′ (count + 1) (at + actionWords)
         acted = record {
           actions = x .actions ++ (action ∷ []);
           so-far = so-more;
@@ -178,8 +189,10 @@ module _ {s text₀ records₀ text records : List ℕ} {from used count at : �
           count-low = omega (arith, piece-short, x .count-low, some);
           counted = count-more (x .actions) action ∙ ap (λ (n : ℕ). n + 1) (x .counted);
           at-is = omega (arith, x .at-is);
+          offset-low = x .offset-low;
           written = rw (p .texts, p .end) (written-stored (x .written) (actionText action) text-fits);
-          front = rw (p .texts, p .end) (taken-stored (x .written) (actionText action) text-fits ∙ ap (λ (l : List ℕ). l ++ actionText action) (x .front) ∙ sym (texts-more (x .actions) action));
+          front = rw (p .texts, p .end) (taken-stored (x .written) (actionText action) text-fits ∙ ap (λ (l : List ℕ). l ++ actionText action) (x .front)
+              ∙ append-assoc (take offset text₀) (texts (x .actions)) (actionText action) ∙ ap (λ (l : List ℕ). take offset text₀ ++ l) (sym (texts-more (x .actions) action)));
           recorded = kept;
           long = rw (p .words, stored-length) (x .long);
         }
@@ -221,9 +234,9 @@ module _ {s text₀ records₀ text records : List ℕ} {from used count at : �
 
 -- ---- behind a part
 
-module _ {s text₀ records₀ text records : List ℕ} {end used count at : ℕ} (x : Going s text₀ records₀ text records (behind s end) end used count at) where
+module _ {s : List ℕ} {offset place : ℕ} {text₀ records₀ text records : List ℕ} {end used count at : ℕ} (x : Going s offset place text₀ records₀ text records (behind s end) end used count at) where
   -- the next part starts behind the comma
-  pub onward : end < length s → Going s text₀ records₀ text records (pieces (drop (end + 1) s)) (end + 1) used count at
+  pub onward : end < length s → Going s offset place text₀ records₀ text records (pieces (drop (end + 1) s)) (end + 1) used count at
   unfolding behind
   onward h = record {
     actions = x .actions;
@@ -233,6 +246,7 @@ module _ {s text₀ records₀ text records : List ℕ} {end used count at : ℕ
     count-low = omega (arith, x .count-low);
     counted = x .counted;
     at-is = x .at-is;
+    offset-low = x .offset-low;
     written = x .written;
     front = x .front;
     recorded = x .recorded;
@@ -240,7 +254,7 @@ module _ {s text₀ records₀ text records : List ℕ} {end used count at : ℕ
   }
 
   -- or the text ends
-  pub ended : length s ≤ end → ReadAll s text₀ text records₀ records count used
+  pub ended : length s ≤ end → ReadAll s offset place text₀ text records₀ records count used
   unfolding behind actionsFrom
   ended h =
       let a = x .actions in
@@ -249,9 +263,9 @@ module _ {s text₀ records₀ text records : List ℕ} {end used count at : ℕ
         all = sym (rw (le-ltb end (length s) h) at (x .so-far)) ∙ so-far-read a [] ∙ ap reads (append-nil a);
         laid = record {
           counted = sym (x .counted);
-          used-is = written-length (x .written) (x .front);
-          written = written-all (x .written) (x .front);
-          recorded = λ k. let y = x .recorded (omega (arith, x .counted, x .at-is)) in written-all (y .0) (y .1);
+          used-is = omega (arith, written-length (x .written) (x .front), length-append (take offset text₀) (texts a), length-take-le offset text₀ (x .offset-low));
+          written = written-all (x .written) (x .front) ∙ placed-is text₀ offset (texts a) (x .offset-low);
+          recorded = λ k. let y = x .recorded (omega (arith, x .counted, x .at-is)) in written-all (y .0) (y .1) ∙ placed-is records₀ place (wordsFrom offset a) (omega (arith, k));
           text-long = x .written .long;
           long = x .long;
         };

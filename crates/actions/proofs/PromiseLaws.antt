@@ -1,16 +1,16 @@
 -- From what is written to what parse_actions and parse_setvar promise: one law for each way out.
-use mathlib.Core.Path.{_≡_, refl, sym, ap, _∙_}
+use mathlib.Core.Path.{_≡_, refl, sym, ap, _∙_, ap₂}
 use mathlib.Core.Bool.{Bool, true, false}
 use mathlib.Core.List.{List, [], _∷_, _++_, append-nil}
 use Prim.Native.Nat.{ℕ, _+_, _*_, _≤_, _<_, min}
 use native.Mathlib.Omega.{arith}
-use lib.ListN.{length, take}
+use lib.ListN.{length, take, drop}
 use lib.Seq.{take-append-seam, take-at}
 use lib.Dec.{ltb, lit<}
 use borrow.Author.Tests.{ltb-false}
 use Rattle.ascii.specs.Choice.{pick}
 use Rattle.lent.specs.Sizes.{limit, actionWords, roomFor}
-use Rattle.lent.specs.Buffers.{zeros, padded}
+use Rattle.lent.specs.Buffers.{zeros, padded, placed}
 use Rattle.lent.specs.Gates.{gateOf}
 use Rattle.lent.specs.Table.{noRoom, unknownAction, badArgument, Outcome, refuses, reads, Filled, givenBy, textBy, recordsBy}
 use Rattle.lent.specs.declared.gating.Gate.{Gate}
@@ -29,7 +29,7 @@ use Rattle.actions.specs.Pieces.{pieces}
 use Rattle.actions.specs.Lists.{actionsOf}
 use Rattle.actions.specs.Layout.{actionRecord, wordsFrom, texts}
 use Rattle.actions.specs.Steps.{Put}
-use Rattle.actions.specs.Listing.{Laid, ReadAll, Stopped, overfull, Finished}
+use Rattle.actions.specs.Listing.{Laid, LaidAt, ReadAll, Stopped, overfull, Finished}
 use Rattle.actions.specs.Promises.{answerGiven, laidOut, roomed, actionsGate, actionsOutcome, setvarAlone, setvarOutcome, ParseActions, SetvarAlone}
 use Rattle.actions.specs.declared.Answer.{Answer}
 use Rattle.actions.specs.declared.Answer.the-variants as Answer
@@ -75,13 +75,33 @@ module _ {xs : List Action} {text₀ text text′ records₀ records records′ 
   pub finished-met : Met (roomed (length records₀) (reads xs)) text₀ text′ records₀ records′ r
   finished-met = finished-by (ltb (roomFor actionWords (length records₀)) (length xs)) refl
 
+-- from the front on
+take-none : (l : List ℕ) → take 0 l ≡ []
+take-none [] = refl
+take-none (b ∷ l) = refl
+
+placed-front : (old xs : List ℕ) → placed old 0 xs ≡ xs ++ drop (length xs) old
+placed-front old xs =
+    let z : 0 + length xs ≡ length xs = omega arith in
+    ap₂ (λ (l : List ℕ) (n : ℕ). l ++ (xs ++ drop n old)) (take-none old) z
+
+laid-front : {xs : List Action} {text text′ records records′ : List ℕ} {count used : ℕ} → LaidAt xs 0 0 text text′ records records′ count used → Laid xs text text′ records records′ count used
+laid-front {xs} {text} {text′} {records} x = record {
+  counted = x .counted;
+  used-is = omega (arith, x .used-is);
+  written = x .written ∙ placed-front text (texts xs);
+  recorded = λ k. x .recorded (omega (arith, k)) ∙ placed-front records (wordsFrom 0 xs);
+  text-long = x .text-long;
+  long = x .long;
+}
+
 -- a list that was read to its end
 pub read-met : {n text₀ text text′ records₀ records records′ : List ℕ} {count used : ℕ} {r : Answer}
-    → (x : ReadAll n text₀ text records₀ records count used) → Finished used count text text′ records records′ r
+    → (x : ReadAll n 0 0 text₀ text records₀ records count used) → Finished used count text text′ records records′ r
     → Met (roomed (length records₀) (reads (x .actions))) text₀ text′ records₀ records′ r
-read-met x f = finished-met (x .laid) f
+read-met x f = finished-met (laid-front (x .laid)) f
 
-module _ {n text text′ records records′ : List ℕ} {count used : ℕ} (x : ReadAll n text text′ records records′ count used) where
+module _ {n text text′ records records′ : List ℕ} {count used : ℕ} (x : ReadAll n 0 0 text text′ records records′ count used) where
   -- an action for each piece, and a byte at least for each of these
   pub count-low : count ≤ length n
   count-low =
@@ -89,7 +109,7 @@ module _ {n text text′ records records′ : List ℕ} {count used : ℕ} (x : 
       omega (arith, e, pieces-count n, x .laid .counted)
 
   pub used-low : used ≤ length text′
-  used-low = omega (arith, x .laid .used-is, front-fits text′ (texts (x .actions)) _ (x .laid .written))
+  used-low = omega (arith, x .laid .used-is, front-fits text′ (texts (x .actions)) _ (laid-front (x .laid) .written))
 
 -- ---- a list
 
@@ -126,7 +146,7 @@ module _ (s text work records : List ℕ) {shorter : ℕ} {g : Gate} (m : shorte
         record { answer = rw b (x .answer); texts = rw b (x .texts); words = rw b (x .words); scratch = rw z w }
 
     pub actions-read : {text₁ text′ records₁ records′ : List ℕ} {count used : ℕ} {r : Answer}
-        → ReadAll (normalised s) text text₁ records records₁ count used → Finished used count text₁ text′ records₁ records′ r
+        → ReadAll (normalised s) 0 0 text text₁ records records₁ count used → Finished used count text₁ text′ records₁ records′ r
         → ParseActions s text text′ work work′ records records′ r
     unfolding actionsOf
     actions-read x y = parse-met (reads (x .actions)) (x .all) (read-met x y)

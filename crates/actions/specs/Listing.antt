@@ -2,12 +2,12 @@
 use mathlib.Core.Path.{_≡_}
 use mathlib.Core.Bool.{Bool}
 use mathlib.Core.List.{List, _++_}
-use Prim.Native.Nat.{ℕ, _*_, _≤_}
+use Prim.Native.Nat.{ℕ, _+_, _*_, _≤_}
 use lib.ListN.{length, take, drop}
 use lib.Dec.{ltb}
 use Rattle.ascii.specs.Choice.{pick}
 use Rattle.lent.specs.Sizes.{actionWords, roomFor}
-use Rattle.lent.specs.Buffers.{zeros, padded}
+use Rattle.lent.specs.Buffers.{zeros, padded, placed}
 use Rattle.lent.specs.Table.{Refusal, unknownAction, badArgument, refuses, reads}
 use Rattle.single_action.specs.Actions.{Action}
 use Rattle.actions.specs.Pieces.{pieces}
@@ -27,11 +27,20 @@ pub record Laid (actions : List Action) (text text′ records records′ : List 
   pub text-long : length text′ ≡ length text
   pub long : length records′ ≡ length records
 
+-- The same with texts from an offset and records from a place on, what stands before them being kept.
+pub record LaidAt (actions : List Action) (offset place : ℕ) (text text′ records records′ : List ℕ) (count used : ℕ) : Type 0 where
+  pub counted : count ≡ length actions
+  pub used-is : used ≡ offset + length (texts actions)
+  pub written : text′ ≡ placed text offset (texts actions)
+  pub recorded : place + length actions * actionWords ≤ length records → records′ ≡ placed records place (wordsFrom offset actions)
+  pub text-long : length text′ ≡ length text
+  pub long : length records′ ≡ length records
+
 -- All pieces are read and written.
-pub record ReadAll (s text text′ records records′ : List ℕ) (count used : ℕ) : Type 0 where
+pub record ReadAll (s : List ℕ) (offset place : ℕ) (text text′ records records′ : List ℕ) (count used : ℕ) : Type 0 where
   pub actions : List Action
   pub all : actionsFrom 0 (pieces s) ≡ reads actions
-  pub laid : Laid actions text text′ records records′ count used
+  pub laid : LaidAt actions offset place text text′ records records′ count used
 
 -- A piece is refused: the text buffer is its name and zeros.
 pub record Stopped (refusal : List ℕ → Refusal) (s text text′ records records′ : List ℕ) (name : ℕ) : Type 0 where
@@ -41,10 +50,10 @@ pub record Stopped (refusal : List ℕ → Refusal) (s text text′ records reco
   pub written : text′ ≡ padded (length text) named
   pub long : length records′ ≡ length records
 
-abbrev pub Listed : List ℕ → List ℕ → List ℕ → List ℕ → List ℕ → Listing → Type 0
-Listed s text text′ records records′ (Read count used) = ReadAll s text text′ records records′ count used
-Listed s text text′ records records′ (Bad piece name) = Stopped (badArgument piece) s text text′ records records′ name
-Listed s text text′ records records′ (Unknown piece name) = Stopped (unknownAction piece) s text text′ records records′ name
+abbrev pub Listed : List ℕ → ℕ → ℕ → List ℕ → List ℕ → List ℕ → List ℕ → Listing → Type 0
+Listed s offset place text text′ records records′ (Read count used) = ReadAll s offset place text text′ records records′ count used
+Listed s offset place text text′ records records′ (Bad piece name) = Stopped (badArgument piece) s text text′ records records′ name
+Listed s offset place text text′ records records′ (Unknown piece name) = Stopped (unknownAction piece) s text text′ records records′ name
 
 -- More records than fit.
 abbrev pub overfull : ℕ → List ℕ → Bool

@@ -1,9 +1,9 @@
 // Action lists: parse_actions, and parse_setvar alone.
 ghost use mathlib.Core.Path.{_≡_};
-ghost use Prim.Native.Nat.{_+_, _≤_, _<_, min};
+ghost use Prim.Native.Nat.{_+_, _*_, _≤_, _<_, min};
 ghost use lib.ListN.{length};
 ghost use Rattle.ascii.specs.Fold.{lowered};
-ghost use Rattle.lent.specs.Sizes.{limit};
+ghost use Rattle.lent.specs.Sizes.{limit, actionWords};
 ghost use Rattle.lent.specs.Buffers.{padded};
 ghost use Rattle.single_action.specs.Table.{rowAt};
 ghost use Rattle.actions.specs.Normal.{normalised};
@@ -46,16 +46,23 @@ fn refuse_name(name: &[u8], text: &mut [u8])
     store_lowered(text, 0, name);
 }
 
-// Writes every action's texts, and its record where all records up to it fit; stops at the first bad piece.
-fn write_actions(s: &[u8], text: &mut [u8], records: &mut [u64]) -> Listing
-    requires { ⌜ length (now s) ≤ limit ⌝ }
-    requires { ⌜ length (now s) ≤ length (now text) ⌝ }
-    ensures { λ r. ⌜ Listed (now (s .entry)) (now (text .entry)) (now (text .exit)) (now (records .entry)) (now (records .exit)) r ⌝ }
+// Writes every action's texts from `offset` on, and its record, from the word `place` on, where all records up to it fit;
+// stops at the first bad piece.
+fn write_actions(
+    s: &[u8],
+    text: &mut [u8],
+    offset: usize,
+    records: &mut [u64],
+    place: usize,
+) -> Listing
+    requires { ⌜ (offset + length (now s) ≤ limit) × (place ≤ limit * actionWords) ⌝ }
+    requires { ⌜ offset + length (now s) ≤ length (now text) ⌝ }
+    ensures { λ r. ⌜ Listed (now (s .entry)) offset place (now (text .entry)) (now (text .exit)) (now (records .entry)) (now (records .exit)) r ⌝ }
 {
     let mut from = 0;
-    let mut used = 0;
+    let mut used = offset;
     let mut count = 0;
-    let mut at = 0;
+    let mut at = place;
     loop {
         let end = part_end(s, from);
         let piece = ascii::trim(&s[from..end]);
@@ -134,7 +141,7 @@ pub fn parse_actions(
         Gate::Open => {}
     }
     let n = fill_scratch(input, scratch);
-    match write_actions(&scratch[..n], text, records) {
+    match write_actions(&scratch[..n], text, 0, records, 0) {
         Listing::Bad { piece, name } => {
             lent::clear_words(records);
             Answer::BadArgument { piece, name }

@@ -13,13 +13,13 @@ use Rattle.actions.proofs.lists.write_actions.Statement.{statement}
 use Rattle.actions.proofs.lists.write_actions.Tie as tie
 
 abbrev Inv-loop : tie.InvT-loop
-Inv-loop s text₀ records₀ from₀ used₀ count₀ at₀ text records from used count at = Going s text₀ records₀ text records (pieces (drop from s)) from used count at
+Inv-loop s text₀ offset records₀ place from₀ used₀ count₀ at₀ text records from used count at = Going s offset place text₀ records₀ text records (pieces (drop from s)) from used count at
 
 abbrev μ-loop : tie.MeasureT-loop
-μ-loop s text₀ records₀ from₀ used₀ count₀ at₀ text records from used count at = length s + 1 - from
+μ-loop s text₀ offset records₀ place from₀ used₀ count₀ at₀ text records from used count at = length s + 1 - from
 
 loop-holds : tie.Need-loop-holds Inv-loop μ-loop
-loop-holds c = begun (now (c .before .before .before .args .s)) _ _
+loop-holds c = begun (now (c .before .before .before .args .s)) _ _ (c .before .before .before .args .offset) (c .before .before .before .args .place) (omega (arith, c .before .before .before .pre .1))
 
 part-end-requires : tie.Need-part-end-requires Inv-loop μ-loop
 part-end-requires c κs = c .loop .inv .inside
@@ -83,7 +83,7 @@ returns-2 c =
     stopped-unknown (c .before .before .before .before .before .before .before .before .before .before .before .before .before .loop .inv) (c .before .before .before .before .before .before .before .before .before .before .before .before .before .before .before .before .before .pre .1) (c .before .before .before .before .before .before .before .before .before .before .before .before .part-end .result) (c .before .before .before .before .before .before .before .before .before .before .before .before .part-end .ensures) (now (c .before .before .before .before .before .before .before .before .before .before .trim .result)) (c .before .before .before .before .before .before .before .before .before .before .trim .ensures) (c .before .before .before .before .before .before .before .before .before .if1 .taken) (c .before .before .before .before .before .before .name .given .0 .0) j (c .before .before .refuse-name .ensures)
 
 -- behind a part, whether it was a piece or not
-behind-part : (c : tie.Joined1 Inv-loop μ-loop) → Going (now (c .before .before .before .before .before .before .before .before .args .s)) (now (c .before .before .before .before .before .before .before .before .args .text)) (now (c .before .before .before .before .before .before .before .before .args .records)) (c .if1 .text) (c .if1 .records) (behind (now (c .before .before .before .before .before .before .before .before .args .s)) (c .before .before .before .part-end .result)) (c .before .before .before .part-end .result) (c .if1 .used) (c .if1 .count) (c .if1 .at)
+behind-part : (c : tie.Joined1 Inv-loop μ-loop) → Going (now (c .before .before .before .before .before .before .before .before .args .s)) (c .before .before .before .before .before .before .before .before .args .offset) (c .before .before .before .before .before .before .before .before .args .place) (now (c .before .before .before .before .before .before .before .before .args .text)) (now (c .before .before .before .before .before .before .before .before .args .records)) (c .if1 .text) (c .if1 .records) (behind (now (c .before .before .before .before .before .before .before .before .args .s)) (c .before .before .before .part-end .result)) (c .before .before .before .part-end .result) (c .if1 .used) (c .if1 .count) (c .if1 .at)
 behind-part c =
     ⊎-elim
     (λ w. rw (w .12, w .13, w .14, w .15, w .16) (acted (c .before .before .before .before .loop .inv) (c .before .before .before .before .before .before .before .before .pre .1) (c .before .before .before .part-end .result) (c .before .before .before .part-end .ensures) (now (c .before .trim .result)) (c .before .trim .ensures) (w .0 .taken) (w .3 .given .0 .0) (rw (w .3 .given .1) at (w .1 .ensures)) (w .7 .ensures)))
