@@ -7,11 +7,14 @@ use native.Mathlib.Omega.{arith}
 use lib.ListN.{length, getD, set}
 use types.Run.{OneOf}
 use denote.Enum.Declared.{tagOf}
+use borrow.Author.Tests.{lt-ltb, le-ltb}
 use Rattle.lent.proofs.BufferLaws.{written-all, written-length}
 use Rattle.actions.specs.Normal.{Mode, plain, held, afterCr, margin, modeAfter, textGiven, textHeld}
 use Rattle.actions.specs.Steps.{actText, actMode, Normalises}
+use Rattle.actions.specs.Cores.{Normalise}
 use Rattle.actions.specs.declared.normalising.Act.{Act}
 use Rattle.actions.specs.declared.normalising.Act.the-variants.{Vanishes, Gives, Keeps}
+use Rattle.actions.specs.declared.normalising.Normal.the-variants as Normal
 use Rattle.actions.proofs.normalising.Mode.{the-type}
 use Rattle.actions.proofs.NormalLoop.{Normalising, turn-none, turn-one, turn-two, ended, held-written, held-ended}
 
@@ -60,3 +63,12 @@ module _ {s old new : List ℕ} {m : Mode} {i n : ℕ} (room : length s ≤ leng
       none held t = absurd (⊎-elim (λ e. omega arith) (λ l. ⊎-elim (λ e. omega arith) (λ e. omega arith) l) t)
       none afterCr t = unfold textHeld in refl
       none margin t = unfold textHeld in refl
+
+-- ---- by the lengths
+
+-- on any buffer: nothing is touched, or the text stands first
+pub normal-short : (s out : List ℕ) → length out < length s → Normalise s out out Normal.Short
+normal-short s out h = let e = lt-ltb (length out) (length s) h in record { answer = rw e; text = rw e }
+
+pub normal-text : (s out : List ℕ) {out′ : List ℕ} {n : ℕ} → length s ≤ length out → Normalises s out out′ n → Normalise s out out′ (Normal.Text n)
+normal-text s out h x = let e = le-ltb (length out) (length s) h in record { answer = rw e (ap Normal.Text (x .count)); text = rw e (x .text) }

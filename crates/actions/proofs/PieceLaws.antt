@@ -12,22 +12,20 @@ use Rattle.ascii.specs.Choice.{pick, and}
 use Rattle.ascii.specs.Classes.{white}
 use Rattle.ascii.specs.Trim.{trimEnds}
 use Rattle.ascii.proofs.ListLaws.{next-byte}
+use Rattle.ascii.proofs.SameLaws.{and-left, and-right}
 use Rattle.ascii.proofs.TrimLaws.{ends-fit}
 use Rattle.single_action.specs.Marks.{quotation}
 use Rattle.actions.specs.Pieces.{Nest, nest, outside, nestBare, nestQuoted, nestAfter, cuts, cutBy, partsFrom, keep, piecesOf, pieces, partLength, partsBehind}
-
-both-hold : (x y : Bool) → and x y ≡ true → (x ≡ true) × (y ≡ true)
-both-hold true y e = (refl, e)
-both-hold false true e = (e, refl)
-both-hold false false e = (e, e)
 
 -- a comma that cuts leaves nothing open
 pub cut-outside : (n : Nest) (b : ℕ) → cuts n b ≡ true → nestAfter n b ≡ outside
 unfolding cuts nestAfter nestBare quotation
 cut-outside n b e =
-    let comma = both-hold (eqb b 44) (and (eqb (n .mark) 0) (eqb (n .depth) 0)) e in
-    let bare = both-hold (eqb (n .mark) 0) (eqb (n .depth) 0) (comma .1) in
-    rw (bare .0, eqb-true b 44 (comma .0), eqb-true (n .depth) 0 (bare .1))
+    let comma = eqb b 44 in
+    let bare = eqb (n .mark) 0 in
+    let flat = eqb (n .depth) 0 in
+    let open-none = and-right comma (and bare flat) e in
+    rw (and-left bare flat open-none, eqb-true b 44 (and-left comma (and bare flat) e), eqb-true (n .depth) 0 (and-right bare flat open-none))
 
 -- a byte opens one bracket at most, so the depth is no more than the bytes read
 pub depth-more : (n : Nest) (b : ℕ) → nestAfter n b .depth ≤ n .depth + 1

@@ -5,6 +5,7 @@ pub mod Layout
 pub mod Promises
 pub mod Steps
 pub mod Listing
+pub mod Cores
 pub mod Calls
 pub mod Cases
 pub mod CallCases

@@ -6,6 +6,8 @@ mod writing;
 
 pub use lists::parse_actions;
 pub use lists::parse_setvar;
+pub use normalising::Normal;
+pub use normalising::normalise;
 
 // The paper's numbers, by name; `name` is the length of the name that the text buffer starts with.
 pub enum Answer {

@@ -11,7 +11,7 @@ ghost use Rattle.actions.specs.Listing.{Listed, Finished};
 ghost use Rattle.actions.specs.Promises.{ParseActions, SetvarAlone};
 use crate::Answer;
 use crate::cutting::part_end;
-use crate::normalising::normalise;
+use crate::normalising::put_normal;
 use crate::writing::put_plan;
 use crate::writing::store_lowered;
 use lent::Gate;
@@ -113,7 +113,7 @@ fn fill_scratch(input: &[u8], scratch: &mut [u8]) -> usize
     ensures { λ r. ⌜ now (scratch .exit) ≡ padded (length (now (scratch .entry))) (normalised (now (input .entry))) ⌝ }
     ensures { λ r. ⌜ r ≡ length (normalised (now (input .entry))) ⌝ }
 {
-    let n = normalise(input, scratch);
+    let n = put_normal(input, scratch);
     lent::clear_bytes(&mut scratch[n..]);
     n
 }

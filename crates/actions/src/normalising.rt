@@ -4,6 +4,7 @@ ghost use Prim.Native.Nat.{_≤_};
 ghost use lib.ListN.{length};
 ghost use Rattle.actions.specs.Normal.{plain, held, margin, modeAfter, textGiven};
 ghost use Rattle.actions.specs.Steps.{actText, actMode, Passed, Normalises};
+ghost use Rattle.actions.specs.Cores.{Normalise};
 
 // Plainly; a backslash held back; behind backslash-CR; in the whitespace behind an escaped line end.
 pub enum Mode {
@@ -18,6 +19,12 @@ pub enum Act {
     Vanishes(Mode),
     Gives(u8, Mode),
     Keeps(u8, Mode),
+}
+
+// How long the normalised text is, or that the buffer is shorter than the text it is made from.
+pub enum Normal {
+    Text(usize),
+    Short,
 }
 
 fn plain_act(b: u8) -> Act
@@ -78,8 +85,8 @@ fn pass_plain(s: &[u8], i: usize, out: &mut [u8], n: usize) -> usize
     past
 }
 
-// Writes the normalised text to the front of `out`, and gives its length.
-pub fn normalise(s: &[u8], out: &mut [u8]) -> usize
+// Writes the normalised text to the front of `out`, which is as long as the text at least, and gives its length.
+pub fn put_normal(s: &[u8], out: &mut [u8]) -> usize
     requires { ⌜ length (now s) ≤ length (now out) ⌝ }
     ensures { λ r. ⌜ Normalises (now (s .entry)) (now (out .entry)) (now (out .exit)) r ⌝ }
 {
@@ -116,4 +123,14 @@ pub fn normalise(s: &[u8], out: &mut [u8]) -> usize
         n += 1;
     }
     n
+}
+
+// The normalised text at the front of a lent buffer, what stands beyond it being kept; nothing where the buffer is shorter than the text.
+pub fn normalise(s: &[u8], out: &mut [u8]) -> Normal
+    ensures { λ r. ⌜ Normalise (now (s .entry)) (now (out .entry)) (now (out .exit)) r ⌝ }
+{
+    if out.len() < s.len() {
+        return Normal::Short;
+    }
+    Normal::Text(put_normal(s, out))
 }

@@ -1,9 +1,9 @@
 // An action's texts and record, written into lent memory.
 ghost use mathlib.Core.Path.{_≡_};
-ghost use Prim.Native.Nat.{_+_, _≤_};
+ghost use Prim.Native.Nat.{_+_, _≤_, _<_};
 ghost use lib.ListN.{length};
 ghost use Rattle.ascii.specs.Fold.{lowered};
-ghost use Rattle.lent.specs.Sizes.{limit};
+ghost use Rattle.lent.specs.Sizes.{limit, spanBase};
 ghost use Rattle.lent.specs.Buffers.{stored};
 ghost use Rattle.single_action.specs.Plans.{originText, Lies, planAction, Inside};
 ghost use Rattle.single_action.specs.Actions.{actionText};
@@ -59,7 +59,7 @@ fn put_text(s: &[u8], origin: Origin, text: &mut [u8], at: usize) -> usize
 // The span word of a text that runs from `at` up to `end` in the text buffer: 0 where there is none.
 fn word_of(origin: Origin, at: usize, end: usize) -> u64
     requires { ⌜ at ≤ end ⌝ }
-    requires { ⌜ end ≤ 65535 ⌝ }
+    requires { ⌜ end < spanBase ⌝ }
     ensures { λ r. ⌜ r ≡ originWord origin at end ⌝ }
 {
     let span = lent::span(at as u32, (end - at) as u32);
