@@ -1,5 +1,5 @@
 -- What parse_actions promises, in plain words: every number exactly when it is given, and what is given and left with it.
--- The idea: lent's OutcomeLaws has numbers 1 to 3; the first refused piece and the room tell 5, 6, 4 and 0 apart.
+-- The idea: lent's RowLaws has numbers 1 to 3 and one law for all; the first refused piece and the room tell 5, 6, 4 and 0 apart.
 use mathlib.Core.Path.{_≡_, _∙_, refl, ap}
 use mathlib.Core.Bool.{Bool, true, false}
 use mathlib.Core.List.{List, [], _∷_, _++_}
@@ -11,10 +11,12 @@ use lib.ListN.{length}
 use lib.Dec.{ltb}
 use borrow.Author.Tests.{lt-ltb, le-ltb, ltb-true, ltb-false}
 use Rattle.lent.specs.Sizes.{limit, actionWords, roomFor}
-use Rattle.lent.specs.Table.{Given, Refusal, noRoom, unknownAction, badArgument, Outcome, refuses, reads, Filled, givenBy}
+use Rattle.lent.specs.Table.{Given, Refusal, noRoom, unknownAction, badArgument, Outcome, refuses, reads, Filled}
 use Rattle.lent.proofs.HighLaws.{FirstAt}
 use Rattle.lent.proofs.GateLaws.{Opened, Shortened}
-use Rattle.lent.proofs.OutcomeLaws.{numberOf, Later}
+use Rattle.lent.proofs.OutcomeLaws.{numberOf, given-number}
+use Rattle.lent.proofs.RowLaws as Rows
+use Rattle.lent.proofs.RowLaws.{row, OneOf, Numbered, Exactly, absent, differ, behind, gated, exactly-gated}
 use Rattle.single_action.specs.Actions.{Action, Single, done, bad, unknown, single}
 use Rattle.actions.specs.Normal.{normalised}
 use Rattle.actions.specs.Pieces.{pieces}
@@ -22,7 +24,6 @@ use Rattle.actions.specs.Lists.{actionThen, singleThen, actionsFrom, act
 use Rattle.actions.specs.Calls.{AllDone, FirstRefused}
 use Rattle.actions.specs.Promises.{answerGiven, laidOut, roomed, actionsOutcome, ParseActions}
 use Rattle.actions.specs.declared.Answer.{Answer}
-use Rattle.actions.proofs.OutcomeLaws.{actions-1, actions-2, actions-3, actions-past}
 
 -- ---- the pieces
 
@@ -131,72 +132,35 @@ module _ (s : List ℕ) (m : ℕ) where
   pub roomy-is : (a : AllDone (pieces (normalised s))) → length (pieces (normalised s)) ≤ roomFor actionWords m → roomed m (actionsOf s) ≡ reads (laidOut (given (pieces (normalised s)) a))
   roomy-is a h = read-is a ∙ rw (le-ltb (roomFor actionWords m) (length (given parts a)) (omega (arith, given-count parts a)))
 
-  -- one of four
-  data Fate : Type 0 where
-    strayed : FirstRefused unknown parts → Fate
-    spoiled : FirstRefused bad parts → Fate
-    crowded : AllDone parts → roomFor actionWords m < length parts → Fate
-    roomy : AllDone parts → length parts ≤ roomFor actionWords m → Fate
+  -- one of four, and the number of each
+  abbrev rows : List Rows.Row
+  rows =
+      row 5 (FirstRefused unknown parts)
+      ∷ row 6 (FirstRefused bad parts)
+      ∷ row 4 (AllDone parts × (roomFor actionWords m < length parts))
+      ∷ row 0 (AllDone parts × (length parts ≤ roomFor actionWords m))
+      ∷ []
 
-  fate : Fate
-  fate = go (which parts)
+  one : OneOf rows
+  unfolding OneOf
+  one = go (which parts)
     where
-      by : AllDone parts → (t : Bool) → ltb (roomFor actionWords m) (length parts) ≡ t → Fate
-      by a true e = crowded a (ltb-true (roomFor actionWords m) (length parts) e)
-      by a false e = roomy a (ltb-false (roomFor actionWords m) (length parts) e)
+      by : AllDone parts → (t : Bool) → ltb (roomFor actionWords m) (length parts) ≡ t → OneOf rows
+      by a true e = inr (inr (inl (a, ltb-true (roomFor actionWords m) (length parts) e)))
+      by a false e = inr (inr (inr (inl (a, ltb-false (roomFor actionWords m) (length parts) e))))
 
-      go : Pieces parts → Fate
+      go : Pieces parts → OneOf rows
       go (all a) = by a (ltb (roomFor actionWords m) (length parts)) refl
-      go (stray x) = strayed x
-      go (spoilt x) = spoiled x
+      go (stray x) = inl x
+      go (spoilt x) = inr (inl x)
 
-  abbrev number-of : Fate → ℕ
-  number-of (strayed x) = 5
-  number-of (spoiled x) = 6
-  number-of (crowded a h) = 4
-  number-of (roomy a h) = 0
+  numbered : Numbered (numberOf past) rows
+  unfolding Numbered
+  numbered = (λ x. ap numberOf (stray-is x), (λ x. ap numberOf (spoilt-is x), (λ p. ap numberOf (crowded-is (p .0) (p .1)), (λ p. ap numberOf (roomy-is (p .0) (p .1)), tt))))
 
-  fated : (f : Fate) → numberOf (roomed m (actionsOf s)) ≡ number-of f
-  fated (strayed x) = ap numberOf (stray-is x)
-  fated (spoiled x) = ap numberOf (spoilt-is x)
-  fated (crowded a h) = ap numberOf (crowded-is a h)
-  fated (roomy a h) = ap numberOf (roomy-is a h)
-
-  is-stray : (numberOf (roomed m (actionsOf s)) ≡ 5) ↔ FirstRefused unknown parts
-  is-stray = (λ z. go fate z, λ x. fated (strayed x))
-    where
-      go : Fate → numberOf past ≡ 5 → FirstRefused unknown parts
-      go (strayed x) z = x
-      go (spoiled x) z = absurd (omega (arith, z, fated (spoiled x)))
-      go (crowded a h) z = absurd (omega (arith, z, fated (crowded a h)))
-      go (roomy a h) z = absurd (omega (arith, z, fated (roomy a h)))
-
-  is-spoilt : (numberOf (roomed m (actionsOf s)) ≡ 6) ↔ FirstRefused bad parts
-  is-spoilt = (λ z. go fate z, λ x. fated (spoiled x))
-    where
-      go : Fate → numberOf past ≡ 6 → FirstRefused bad parts
-      go (strayed x) z = absurd (omega (arith, z, fated (strayed x)))
-      go (spoiled x) z = x
-      go (crowded a h) z = absurd (omega (arith, z, fated (crowded a h)))
-      go (roomy a h) z = absurd (omega (arith, z, fated (roomy a h)))
-
-  is-crowded : (numberOf (roomed m (actionsOf s)) ≡ 4) ↔ (AllDone parts × (roomFor actionWords m < length parts))
-  is-crowded = (λ z. go fate z, λ p. fated (crowded (p .0) (p .1)))
-    where
-      go : Fate → numberOf past ≡ 4 → (AllDone parts × (roomFor actionWords m < length parts))
-      go (strayed x) z = absurd (omega (arith, z, fated (strayed x)))
-      go (spoiled x) z = absurd (omega (arith, z, fated (spoiled x)))
-      go (crowded a h) z = (a, h)
-      go (roomy a h) z = absurd (omega (arith, z, fated (roomy a h)))
-
-  is-roomy : (numberOf (roomed m (actionsOf s)) ≡ 0) ↔ (AllDone parts × (length parts ≤ roomFor actionWords m))
-  is-roomy = (λ z. go fate z, λ p. fated (roomy (p .0) (p .1)))
-    where
-      go : Fate → numberOf past ≡ 0 → (AllDone parts × (length parts ≤ roomFor actionWords m))
-      go (strayed x) z = absurd (omega (arith, z, fated (strayed x)))
-      go (spoiled x) z = absurd (omega (arith, z, fated (spoiled x)))
-      go (crowded a h) z = absurd (omega (arith, z, fated (crowded a h)))
-      go (roomy a h) z = (a, h)
+  exact : (n k : ℕ) → Exactly (numberOf (actionsOutcome s n k m)) (gated s (min n k) (length s) rows)
+  unfolding actionsOutcome differ absent behind
+  exact n k = exactly-gated s (min n k) (length s) past rows refl one numbered
 
 -- ---- the whole call
 
@@ -219,31 +183,20 @@ pub record Numbers (s text text′ work work′ records records′ : List ℕ) (
   pub number-0 : (answerGiven r .number ≡ 0)
       ↔ (Opened s (min (length text) (length work)) (length s) × (AllDone (pieces (normalised s)) × (length (pieces (normalised s)) ≤ roomFor actionWords (length records))))
 
-given-number : (o : Outcome Filled) → givenBy o .number ≡ numberOf o
-given-number (refuses f) = refl
-given-number (reads x) = refl
-
 module _ {s text text′ work work′ records records′ : List ℕ} {r : Answer} (x : ParseActions s text text′ work work′ records records′ r) where
   number-is : answerGiven r .number ≡ numberOf (actionsOutcome s (length text) (length work) (length records))
   number-is = ap (λ (g : Given). g .number) (x .answer) ∙ given-number (actionsOutcome s (length text) (length work) (length records))
 
-  later : (k : ℕ) → Later k → {B : Type 0} → (numberOf (roomed (length records) (actionsOf s)) ≡ k) ↔ B
-      → (answerGiven r .number ≡ k) ↔ (Opened s (min (length text) (length work)) (length s) × B)
-  later k l w =
-      let y = actions-past s (length text) (length work) (length records) k l in
-      rw number-is (λ e. (y .0 e .0, w .0 (y .0 e .1)), λ p. y .1 (p .0, w .1 (p .1)))
-
   pub parse-actions-numbers : Numbers s text text′ work work′ records records′ r
+  unfolding Exactly behind
   parse-actions-numbers =
-      let n = length text in
-      let k = length work in
-      let m = length records in
+      let e = exact s (length records) (length text) (length work) in
       record {
-        number-1 = rw number-is (actions-1 s n k m);
-        number-2 = rw number-is (actions-2 s n k m);
-        number-3 = rw number-is (actions-3 s n k m);
-        number-5 = later 5 (inr (omega arith)) (is-stray s m);
-        number-6 = later 6 (inr (omega arith)) (is-spoilt s m);
-        number-4 = later 4 (inr (omega arith)) (is-crowded s m);
-        number-0 = later 0 (inl refl) (is-roomy s m);
+        number-1 = rw number-is (e .0);
+        number-2 = rw number-is (e .1 .0);
+        number-3 = rw number-is (e .1 .1 .0);
+        number-5 = rw number-is (e .1 .1 .1 .0);
+        number-6 = rw number-is (e .1 .1 .1 .1 .0);
+        number-4 = rw number-is (e .1 .1 .1 .1 .1 .0);
+        number-0 = rw number-is (e .1 .1 .1 .1 .1 .1 .0);
       }
