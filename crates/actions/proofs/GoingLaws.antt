@@ -2,11 +2,11 @@
 -- and what it comes to at a refusal and at the end. Each piece pays for its texts, so the text buffer never ends too soon.
 use mathlib.Core.Path.{_≡_, refl, sym, ap, _∙_}
 use mathlib.Core.Bool.{Bool, true, false}
-use mathlib.Core.List.{List, [], _∷_, _++_, append-assoc, append-nil}
+use mathlib.Core.List.{List, [], _∷_, _++_, append-nil}
 use Prim.Native.Nat.{ℕ, suc, _+_, _-_, _*_, _≤_, _<_}
 use native.Mathlib.Numerals.{add-one}
 use native.Mathlib.Omega.{arith}
-use lib.ListN.{length, take, drop, length-append, length-drop, length-map, length-take}
+use lib.ListN.{length, take, drop, length-drop, length-map, length-take}
 use lib.Seq.{take-all, length-take-le}
 use lib.Dec.{ltb}
 use borrow.Author.Tests.{ltb-true, ltb-false, lt-ltb, le-ltb}
@@ -15,11 +15,13 @@ use Rattle.ascii.specs.Classes.{white}
 use Rattle.ascii.specs.Fold.{lower, lowered}
 use Rattle.ascii.specs.Trim.{trimEnds}
 use Rattle.ascii.proofs.TrimLaws.{ends-fit}
-use Rattle.lent.specs.Sizes.{actionWords}
-use Rattle.lent.specs.Buffers.{padded, placed, stored}
+use Rattle.lent.specs.Sizes.{spanBase, actionWords}
+use Rattle.lent.specs.Endings.{starts}
+use Rattle.lent.proofs.StartLaws.{Started, starts-is}
+use Rattle.lent.specs.Buffers.{zeros, padded, stored, storedEach}
 use Rattle.lent.specs.Table.{Refusal, badArgument, unknownAction, refuses, reads}
-use Rattle.lent.proofs.BufferLaws.{Written, written-none, written-stored, taken-stored, written-all, written-length, stored-length}
-use Rattle.lent.specs.Layout.{textsOf, wordsOf}
+use Rattle.lent.proofs.BufferLaws.{stored-none, stored-more}
+use Rattle.lent.specs.Layout.{textsOf, recordsOf}
 use Rattle.lent.proofs.LayoutLaws.{count-more}
 use Rattle.single_action.specs.Table.{rowAt}
 use Rattle.single_action.specs.Actions.{Action, actionText, Single, done, bad, single}
@@ -29,11 +31,11 @@ use Rattle.single_action.specs.declared.plans.Verdict.the-variants.{Done, Bad, 
 use Rattle.single_action.proofs.SingleLaws.{Within, single-within}
 use Rattle.actions.specs.Pieces.{outside, keep, pieces, partLength}
 use Rattle.actions.specs.Lists.{singleThen, actionsFrom}
-use Rattle.actions.specs.Layout.{actionRecord, wordsFrom, texts}
+use Rattle.actions.specs.Layout.{actionRecord, recordsFrom, texts}
 use Rattle.actions.specs.Steps.{Put}
-use Rattle.actions.specs.Listing.{ReadAll, Stopped}
+use Rattle.actions.specs.Listing.{Laid, ReadAll, Stopped}
 use Rattle.actions.proofs.PieceLaws.{part-fits}
-use Rattle.actions.proofs.LayoutLaws.{texts-more, words-more, record-length}
+use Rattle.actions.proofs.LayoutLaws.{texts-more, texts-length, each-record, text-long, records-long}
 use Rattle.actions.proofs.LoopLaws.{pieces-more, pieces-last, soFar, no-piece, one-piece, so-far-more, so-far-refused, so-far-read}
 
 -- ---- the parts
@@ -65,54 +67,48 @@ module _ (s : List ℕ) (from end : ℕ) (inside : from ≤ length s) (end-is : 
 
 -- ---- what the loop keeps
 
--- what stands before a place, xs behind it, and then the rest
-placed-is : (old : List ℕ) (i : ℕ) (xs : List ℕ) → i ≤ length old → take i old ++ xs ++ drop (length (take i old ++ xs)) old ≡ placed old i xs
-placed-is old i xs h =
-    append-assoc (take i old) xs (drop (length (take i old ++ xs)) old)
-    ∙ ap (λ (n : ℕ). take i old ++ (xs ++ drop n old)) (length-append (take i old) xs ∙ ap (λ (n : ℕ). n + length xs) (length-take-le i old h))
-
 -- the pieces up to the place `reach` are read, and `rest` are those still to come
 pub record Going (s : List ℕ) (offset place : ℕ) (text₀ records₀ text records : List ℕ) (rest : List (List ℕ)) (reach used count at : ℕ) : Type 0 where
   pub actions : List Action
-  pub so-far : soFar actions (actionsFrom count rest) ≡ actionsFrom 0 (pieces s)
+  pub so-far : soFar actions (actionsFrom (length actions) rest) ≡ actionsFrom 0 (pieces s)
   pub inside : reach ≤ length s
   pub used-low : used ≤ offset + reach
   pub count-low : count ≤ reach
-  pub counted : length actions ≡ count
-  pub at-is : at ≡ place + count * actionWords
-  pub offset-low : offset ≤ length text₀
-  pub written : Written text₀ text used
-  pub front : take used text ≡ take offset text₀ ++ texts actions
-  pub recorded : at ≤ length records₀ → (Written records₀ records at) × (take at records ≡ take place records₀ ++ wordsFrom offset actions)
-  pub long : length records ≡ length records₀
+  pub at-is : at ≡ (place + count) * actionWords
+  pub laid : Laid actions offset place text₀ text records₀ records count used
 
-pub begun : (s text records : List ℕ) (offset place : ℕ) → offset ≤ length text → Going s offset place text records text records (pieces (drop 0 s)) 0 offset 0 place
-unfolding soFar textsOf wordsOf
-begun s text records offset place h = record {
+pub begun : (s text records : List ℕ) (offset place : ℕ) → Going s offset place text records text records (pieces (drop 0 s)) 0 offset 0 (place * actionWords)
+unfolding soFar textsOf recordsOf storedEach
+begun s text records offset place = record {
   actions = [];
   so-far = refl;
   inside = omega arith;
   used-low = omega arith;
   count-low = omega arith;
-  counted = refl;
   at-is = omega arith;
-  offset-low = h;
-  written = record { fits = h; long = refl; beyond = refl };
-  front = sym (append-nil (take offset text));
-  recorded = λ k. (record { fits = k; long = refl; beyond = refl }, sym (append-nil (take place records)));
-  long = refl;
+  laid = record { counted = omega arith; used-is = omega arith; written = sym (stored-none text offset); recorded = refl };
 }
 
 module _ {s : List ℕ} {offset place : ℕ} {text₀ records₀ text records : List ℕ} {from used count at : ℕ} (x : Going s offset place text₀ records₀ text records (pieces (drop from s)) from used count at)
-    (room : offset + length s ≤ length text₀)
+    (h : starts (length s) (length text₀) offset place ≡ true)
     (end : ℕ) (end-is : end ≡ from + partLength outside (drop from s)) (piece : List ℕ) (piece-is : piece ≡ trimEnds (cut s from end)) where
+  low : Started (length s) (length text₀) offset place
+  low = starts-is (length s) (length text₀) offset place .0 h
+
   pub piece-short : from + length piece ≤ end
   piece-short =
       let e = end-inside s from end (x .inside) end-is in
       omega (arith, e, ap length piece-is, ends-fit white (cut s from end), length-take (end - from) (drop from s))
 
-  here : actionsFrom count (pieces (drop from s)) ≡ actionsFrom count (keep piece (behind s end))
-  here = ap (actionsFrom count) (pieces-at s from end (x .inside) end-is ∙ ap (λ (p : List ℕ). keep p (behind s end)) (sym piece-is))
+  -- how many actions were read
+  abbrev told : ℕ
+  told = length (x .actions)
+
+  here : actionsFrom told (pieces (drop from s)) ≡ actionsFrom told (keep piece (behind s end))
+  here = ap (actionsFrom told) (pieces-at s from end (x .inside) end-is ∙ ap (λ (p : List ℕ). keep p (behind s end)) (sym piece-is))
+
+  same-text : length text ≡ length text₀
+  same-text = text-long (x .laid)
 
   -- a part that is no piece is passed over
   pub passed : length piece ≤ 0 → Going s offset place text₀ records₀ text records (behind s end) end used count at
@@ -120,22 +116,17 @@ module _ {s : List ℕ} {offset place : ℕ} {text₀ records₀ text records : 
       let e = end-inside s from end (x .inside) end-is in
       record {
         actions = x .actions;
-        so-far = ap (soFar (x .actions)) (sym (here ∙ no-piece count piece (behind s end) h)) ∙ x .so-far;
+        so-far = ap (soFar (x .actions)) (sym (here ∙ no-piece told piece (behind s end) h)) ∙ x .so-far;
         inside = e .1;
         used-low = omega (arith, e, x .used-low);
         count-low = omega (arith, e, x .count-low);
-        counted = x .counted;
         at-is = x .at-is;
-        offset-low = x .offset-low;
-        written = x .written;
-        front = x .front;
-        recorded = x .recorded;
-        long = x .long;
+        laid = x .laid;
       }
 
   module _ (some : 0 < length piece) where
-    one : actionsFrom count (pieces (drop from s)) ≡ singleThen count (single piece) (actionsFrom (suc count) (behind s end))
-    one = here ∙ one-piece count piece (behind s end) some
+    one : actionsFrom told (pieces (drop from s)) ≡ singleThen told (single piece) (actionsFrom (suc told) (behind s end))
+    one = here ∙ one-piece told piece (behind s end) some
 
     -- what the piece writes fits
     fits : (v : Single) → single piece ≡ v → Within (length piece) v
@@ -145,91 +136,100 @@ module _ {s : List ℕ} {offset place : ℕ} {text₀ records₀ text records : 
       abbrev action : Action
       action = planAction piece plan
 
-      pub room-for : (used + length (actionText (planAction piece plan)) ≤ length text) × (used + length (actionText (planAction piece plan)) ≤ offset + length s)
+      pub room-for : (used + length (actionText (planAction piece plan)) ≤ length text) × (used + length (actionText (planAction piece plan)) < spanBase)
       room-for =
           let w = fits (done action) (sym (j .means)) in
           let e = end-inside s from end (x .inside) end-is in
-          (omega (arith, w, e, piece-short, x .used-low, x .written .long), omega (arith, w, e, piece-short, x .used-low))
+          (omega (arith, w, e, piece-short, x .used-low, same-text, low .room), omega (arith, w, e, piece-short, x .used-low, low))
 
       -- an action that is written
       module _ {text′ records′ : List ℕ} {used′ : ℕ} (p : Put (planAction piece plan) used at text text′ records records′ used′) where
-        so-more : soFar (x .actions ++ (action ∷ [])) (actionsFrom (count + 1) (behind s end)) ≡ actionsFrom 0 (pieces s)
+        abbrev all : List Action
+        all = x .actions ++ (action ∷ [])
+
+        so-more : soFar all (actionsFrom (length all) (behind s end)) ≡ actionsFrom 0 (pieces s)
         so-more =
-            rw (add-one count)
-            (sym (so-far-more (x .actions) action (actionsFrom (suc count) (behind s end)))
-            ∙ ap (soFar (x .actions)) (ap (λ (v : Single). singleThen count v (actionsFrom (suc count) (behind s end))) (j .means) ∙ sym one)
+            rw (count-more (x .actions) action, add-one told)
+            (sym (so-far-more (x .actions) action (actionsFrom (suc told) (behind s end)))
+            ∙ ap (soFar (x .actions)) (ap (λ (v : Single). singleThen told v (actionsFrom (suc told) (behind s end))) (j .means) ∙ sym one)
             ∙ x .so-far)
 
-        record-is : length (actionRecord used action) ≡ actionWords
-        record-is = record-length used action
+        used-at : used ≡ offset + length (texts (x .actions))
+        used-at = x .laid .used-is
 
-        text-fits : used + length (actionText action) ≤ length text₀
-        text-fits = omega (arith, room-for, x .written .long)
+        text-more : text′ ≡ stored text₀ offset (texts all)
+        text-more =
+            let fit : offset + length (texts (x .actions)) + length (actionText action) ≤ length text₀ = omega (arith, room-for, same-text, used-at) in
+            p .texts
+            ∙ ap (λ (l : List ℕ). stored l used (actionText action)) (x .laid .written)
+            ∙ ap (λ (n : ℕ). stored (stored text₀ offset (texts (x .actions))) n (actionText action)) used-at
+            ∙ stored-more text₀ offset (texts (x .actions)) (actionText action) fit
+            ∙ ap (stored text₀ offset) (sym (texts-more (x .actions) action))
 
-        kept : at + actionWords ≤ length records₀ → (Written records₀ records′ (at + actionWords)) × (take (at + actionWords) records′ ≡ take place records₀ ++ wordsFrom offset (x .actions ++ (action ∷ [])))
-        kept h =
-            let y = x .recorded (omega arith) in
-            let r = actionRecord used action in
-            let f : at + length r ≤ length records₀ = omega (arith, h, record-is) in
-            let u : used ≡ offset + length (texts (x .actions)) = omega (arith, written-length (x .written) (x .front), length-append (take offset text₀) (texts (x .actions)), length-take-le offset text₀ (x .offset-low)) in
-            let w : Written records₀ (stored records at r) (at + length r) = written-stored (y .0) r f in
-            let g : take (at + length r) (stored records at r) ≡ take place records₀ ++ wordsFrom offset (x .actions ++ (action ∷ [])) =
-            taken-stored (y .0) r f ∙ ap (λ (l : List ℕ). l ++ r) (y .1)
-            ∙ append-assoc (take place records₀) (wordsFrom offset (x .actions)) r
-            ∙ ap (λ (n : ℕ). take place records₀ ++ (wordsFrom offset (x .actions) ++ actionRecord n action)) u
-            ∙ ap (λ (l : List ℕ). take place records₀ ++ l) (sym (words-more offset (x .actions) action)) in
-            rw (p .words, ← record-is) (w, g)
+        records-more : records′ ≡ storedEach records₀ (place * actionWords) (recordsFrom offset all)
+        records-more =
+            let a : at ≡ place * actionWords + length (x .actions) * actionWords = omega (arith, x .at-is, x .laid .counted) in
+            p .words
+            ∙ ap (λ (l : List ℕ). stored l at (actionRecord used action)) (x .laid .recorded)
+            ∙ rw (a, used-at) (each-record records₀ (place * actionWords) offset (x .actions) action)
 
         pub acted : Going s offset place text₀ records₀ text′ records′ (behind s end) end used′ (count + 1) (at + actionWords)
         acted = record {
-          actions = x .actions ++ (action ∷ []);
+          actions = all;
           so-far = so-more;
           inside = end-inside s from end (x .inside) end-is .1;
           used-low = omega (arith, fits (done action) (sym (j .means)), piece-short, x .used-low, p .end);
           count-low = omega (arith, piece-short, x .count-low, some);
-          counted = count-more (x .actions) action ∙ ap (λ (n : ℕ). n + 1) (x .counted);
           at-is = omega (arith, x .at-is);
-          offset-low = x .offset-low;
-          written = rw (p .texts, p .end) (written-stored (x .written) (actionText action) text-fits);
-          front = rw (p .texts, p .end) (taken-stored (x .written) (actionText action) text-fits ∙ ap (λ (l : List ℕ). l ++ actionText action) (x .front)
-              ∙ append-assoc (take offset text₀) (texts (x .actions)) (actionText action) ∙ ap (λ (l : List ℕ). take offset text₀ ++ l) (sym (texts-more (x .actions) action)));
-          recorded = kept;
-          long = rw (p .words, stored-length) (x .long);
+          laid = record {
+            counted = omega (arith, count-more (x .actions) action, x .laid .counted);
+            used-is = omega (arith, p .end, used-at, texts-length (x .actions) action);
+            written = text-more;
+            recorded = records-more;
+          };
         }
 
     -- a refused piece: nothing was refused before it
-    stopped : (f : Refusal) → singleThen count (single piece) (actionsFrom (suc count) (behind s end)) ≡ refuses f → actionsFrom 0 (pieces s) ≡ refuses f
+    stopped : (f : Refusal) → singleThen told (single piece) (actionsFrom (suc told) (behind s end)) ≡ refuses f → actionsFrom 0 (pieces s) ≡ refuses f
     stopped f e = sym (x .so-far) ∙ ap (soFar (x .actions)) (one ∙ e) ∙ so-far-refused (x .actions) f
+
+    -- the piece as it is counted
+    told-is : told ≡ count
+    told-is = omega (arith, x .laid .counted)
+
+    blank : {records′ : List ℕ} → records′ ≡ zeros (length records) → records′ ≡ zeros (length records₀)
+    blank e = e ∙ ap zeros (records-long (x .laid))
 
     module _ (row : ℕ) (j : Judged piece (Bad row) (single piece)) where
       pub row-fits : length (rowAt row .name) ≤ length text
       row-fits =
           let e = end-inside s from end (x .inside) end-is in
-          omega (arith, fits (bad (rowAt row .name)) (sym (j .means)), e, piece-short, x .written .long)
+          omega (arith, fits (bad (rowAt row .name)) (sym (j .means)), e, piece-short, same-text, low .room)
 
-      pub stopped-bad : {text′ : List ℕ} {n : ℕ} → text′ ≡ padded (length text) (rowAt row .name) → n ≡ length (rowAt row .name)
-          → Stopped (badArgument count) s text₀ text′ records₀ records n
-      stopped-bad e f = record {
+      pub stopped-bad : {text′ records′ : List ℕ} {n : ℕ} → text′ ≡ padded (length text) (rowAt row .name) → records′ ≡ zeros (length records) → n ≡ length (rowAt row .name)
+          → Stopped (badArgument count) s text₀ text′ records₀ records′ n
+      stopped-bad e z f = record {
         named = rowAt row .name;
-        first = stopped (badArgument count (rowAt row .name)) (ap (λ (v : Single). singleThen count v (actionsFrom (suc count) (behind s end))) (sym (j .means)));
+        first = rw (← told-is) (stopped (badArgument told (rowAt row .name)) (ap (λ (v : Single). singleThen told v (actionsFrom (suc told) (behind s end))) (sym (j .means))));
         counted = f;
-        written = rw (← x .written .long) e;
-        long = x .long;
+        written = rw (← same-text) e;
+        cleared = blank z;
       }
 
     module _ (n : ℕ) (j : Judged piece (Unknown n) (single piece)) where
       pub name-fits : length (take n piece) ≤ length text
       name-fits =
           let e = end-inside s from end (x .inside) end-is in
-          omega (arith, length-take n piece, e, piece-short, x .written .long)
+          omega (arith, length-take n piece, e, piece-short, same-text, low .room)
 
-      pub stopped-unknown : {text′ : List ℕ} → text′ ≡ padded (length text) (lowered (take n piece)) → Stopped (unknownAction count) s text₀ text′ records₀ records n
-      stopped-unknown e = record {
+      pub stopped-unknown : {text′ records′ : List ℕ} → text′ ≡ padded (length text) (lowered (take n piece)) → records′ ≡ zeros (length records)
+          → Stopped (unknownAction count) s text₀ text′ records₀ records′ n
+      stopped-unknown e z = record {
         named = lowered (take n piece);
-        first = stopped (unknownAction count (lowered (take n piece))) (ap (λ (v : Single). singleThen count v (actionsFrom (suc count) (behind s end))) (sym (j .means)));
+        first = rw (← told-is) (stopped (unknownAction told (lowered (take n piece))) (ap (λ (v : Single). singleThen told v (actionsFrom (suc told) (behind s end))) (sym (j .means))));
         counted = sym (length-map (take n piece) lower ∙ length-take-le n piece (j .sound));
-        written = rw (← x .written .long) e;
-        long = x .long;
+        written = rw (← same-text) e;
+        cleared = blank z;
       }
 
 -- ---- behind a part
@@ -244,13 +244,8 @@ module _ {s : List ℕ} {offset place : ℕ} {text₀ records₀ text records : 
     inside = omega arith;
     used-low = omega (arith, x .used-low);
     count-low = omega (arith, x .count-low);
-    counted = x .counted;
     at-is = x .at-is;
-    offset-low = x .offset-low;
-    written = x .written;
-    front = x .front;
-    recorded = x .recorded;
-    long = x .long;
+    laid = x .laid;
   }
 
   -- or the text ends
@@ -261,12 +256,6 @@ module _ {s : List ℕ} {offset place : ℕ} {text₀ records₀ text records : 
       record {
         actions = a;
         all = sym (rw (le-ltb end (length s) h) at (x .so-far)) ∙ so-far-read a [] ∙ ap reads (append-nil a);
-        laid = record {
-          counted = sym (x .counted);
-          used-is = omega (arith, written-length (x .written) (x .front), length-append (take offset text₀) (texts a), length-take-le offset text₀ (x .offset-low));
-          written = written-all (x .written) (x .front) ∙ placed-is text₀ offset (texts a) (x .offset-low);
-          recorded = λ k. let y = x .recorded (omega (arith, x .counted, x .at-is)) in written-all (y .0) (y .1) ∙ placed-is records₀ place (wordsFrom offset a) (omega (arith, k));
-          text-long = x .written .long;
-          long = x .long;
-        };
+        laid = x .laid;
+        fits = omega (arith, x .used-low, x .inside);
       }

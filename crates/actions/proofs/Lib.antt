@@ -8,8 +8,9 @@ pub mod OutcomeLaws
 pub mod NormalLoop
 pub mod TrimmedLaws
 pub mod WritingLaws
-pub mod FinishLaws
+pub mod ScratchLaws
 pub mod GoingLaws
+pub mod CoreLaws
 pub mod PromiseLaws
 pub mod NumberLaws
 pub mod CountLaws

@@ -1,14 +1,14 @@
 -- Texts and records stored one after another, and zeros beyond them.
-use mathlib.Core.Path.{_≡_, refl, sym, ap, _∙_}
-use mathlib.Core.List.{List, [], _∷_, _++_, append-assoc}
+use mathlib.Core.Path.{_≡_, refl, ap, _∙_}
+use mathlib.Core.List.{List, [], _∷_, _++_}
 use Prim.Native.Nat.{ℕ, _+_, _-_, _≤_}
 use native.Mathlib.Omega.{arith}
-use lib.ListN.{length, take, drop, length-append, length-drop, length-map}
+use lib.ListN.{length, drop, length-append, length-drop, length-map}
 use lib.Seq.{length-take-le}
 use Rattle.ascii.specs.Fold.{lower, lowered}
 use Rattle.lent.specs.Sizes.{spanWord}
 use Rattle.lent.specs.Buffers.{stored}
-use Rattle.lent.proofs.BufferLaws.{Written, stored-length, written-stored, taken-stored, written-all}
+use Rattle.lent.proofs.BufferLaws.{stored-length, stored-more}
 use Rattle.single_action.specs.Actions.{actionText}
 use Rattle.single_action.specs.Plans.{cut, originSlot, originText, Lies, planAction}
 use Rattle.single_action.specs.declared.plans.Plan.{Plan}
@@ -16,25 +16,6 @@ use Rattle.single_action.specs.declared.plans.Origin.{Origin}
 use Rattle.single_action.specs.declared.plans.Origin.the-variants.{Absent, Copied, Lowered, Tx, One}
 use Rattle.actions.specs.Layout.{slotWord, actionRecord}
 use Rattle.actions.specs.Steps.{originWord, Put}
-
--- one run behind another is both as one
-module _ (old : List ℕ) (i : ℕ) (xs ys : List ℕ) (h : i + length xs + length ys ≤ length old) where
-  start : Written old old i
-  start = record { fits = omega arith; long = refl; beyond = refl }
-
-  once : Written old (stored old i xs) (i + length xs)
-  once = written-stored start xs (omega arith)
-
-  both : take (i + length xs + length ys) (stored (stored old i xs) (i + length xs) ys) ≡ take i old ++ (xs ++ ys)
-  both = taken-stored once ys h ∙ ap (λ (l : List ℕ). l ++ ys) (taken-stored start xs (omega arith)) ∙ append-assoc (take i old) xs ys
-
-  together : i + length (xs ++ ys) ≤ length old
-  together = omega (arith, length-append xs ys)
-
-  pub stored-twice : stored (stored old i xs) (i + length xs) ys ≡ stored old i (xs ++ ys)
-  stored-twice =
-      written-all (written-stored once ys h) both
-      ∙ sym (written-all (written-stored start (xs ++ ys) together) (taken-stored start (xs ++ ys) together))
 
 -- ---- one text
 
@@ -94,10 +75,10 @@ module _ (s : List ℕ) (p : Plan) where
           e3
           ∙ ap (λ (l : List ℕ). stored l c (originText s (p .c))) e2
           ∙ ap (λ (n : ℕ). stored (stored t1 b (originText s (p .b))) n (originText s (p .c))) c-is
-          ∙ stored-twice t1 b (originText s (p .b)) (originText s (p .c)) f
+          ∙ stored-more t1 b (originText s (p .b)) (originText s (p .c)) f
           ∙ ap (λ (l : List ℕ). stored l b (originText s (p .b) ++ originText s (p .c))) e1
           ∙ ap (λ (n : ℕ). stored (stored text used (originText s (p .a))) n (originText s (p .b) ++ originText s (p .c))) b-is
-          ∙ stored-twice text used (originText s (p .a)) (originText s (p .b) ++ originText s (p .c)) (rw length-append (omega (arith, h, plan-length)))
+          ∙ stored-more text used (originText s (p .a)) (originText s (p .b) ++ originText s (p .c)) (rw length-append (omega (arith, h, plan-length)))
 
       pub put-all : (records : List ℕ) (at : ℕ) {records′ : List ℕ} {wa wb wc : ℕ}
           → wa ≡ originWord (p .a) used b → wb ≡ originWord (p .b) b c → wc ≡ originWord (p .c) c end

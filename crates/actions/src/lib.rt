@@ -6,6 +6,7 @@ mod writing;
 
 pub use lists::parse_actions;
 pub use lists::parse_setvar;
+pub use lists::read_actions;
 pub use normalising::Normal;
 pub use normalising::normalise;
 
@@ -25,4 +26,15 @@ pub enum Answer {
     BadArgument { piece: usize, name: usize },
     // 4: the records needed
     NoRoom(usize),
+}
+
+// What a normalised text comes to that is read into buffers from an offset and a count of records on.
+pub enum Reached {
+    // how many records, and the offset past the last text
+    Read { count: usize, offset: usize },
+    // 5 and 6: the piece, and the length of its name
+    Unknown { piece: usize, name: usize },
+    Bad { piece: usize, name: usize },
+    // it may not be read from there: `lent::starts` is false
+    Unfit,
 }

@@ -1,15 +1,18 @@
 // Action lists: parse_actions, and parse_setvar alone.
 ghost use mathlib.Core.Path.{_≡_};
-ghost use Prim.Native.Nat.{_+_, _*_, _≤_, _<_, min};
+ghost use mathlib.Core.Bool.{true};
+ghost use Prim.Native.Nat.{_+_, _≤_, min};
 ghost use lib.ListN.{length};
 ghost use Rattle.ascii.specs.Fold.{lowered};
-ghost use Rattle.lent.specs.Sizes.{limit, actionWords};
-ghost use Rattle.lent.specs.Buffers.{padded};
+ghost use Rattle.lent.specs.Buffers.{zeros, padded};
+ghost use Rattle.lent.specs.Endings.{starts};
 ghost use Rattle.single_action.specs.Table.{rowAt};
 ghost use Rattle.actions.specs.Normal.{normalised};
-ghost use Rattle.actions.specs.Listing.{Listed, Finished};
+ghost use Rattle.actions.specs.Listing.{Listed, Ended};
+ghost use Rattle.actions.specs.Cores.{ReadActions};
 ghost use Rattle.actions.specs.Promises.{ParseActions, SetvarAlone};
 use crate::Answer;
+use crate::Reached;
 use crate::cutting::part_end;
 use crate::normalising::put_normal;
 use crate::writing::put_plan;
@@ -20,49 +23,44 @@ use single_action::put_name;
 use single_action::read_setvar;
 use single_action::read_single;
 
-// What a normalised text comes to: how many actions and bytes of text, or the piece that is refused and its name's length.
-pub enum Listing {
-    Read { count: usize, used: usize },
-    Bad { piece: usize, name: usize },
-    Unknown { piece: usize, name: usize },
-}
-
-// The text buffer of a refusal with an action's name as the Rust spells it: the name, and zeros.
-fn refuse_row(row: usize, text: &mut [u8]) -> usize
+// Both buffers of a refusal with an action's name as the Rust spells it: the name, and zeros.
+fn refuse_row(row: usize, text: &mut [u8], records: &mut [u64]) -> usize
     requires { ⌜ length (rowAt row .name) ≤ length (now text) ⌝ }
     ensures { λ r. ⌜ now (text .exit) ≡ padded (length (now (text .entry))) (rowAt row .name) ⌝ }
+    ensures { λ r. ⌜ now (records .exit) ≡ zeros (length (now (records .entry))) ⌝ }
     ensures { λ r. ⌜ r ≡ length (rowAt row .name) ⌝ }
 {
+    lent::clear_words(records);
     lent::clear_bytes(text);
     put_name(row, text)
 }
 
-// And that of one with a name in small letters.
-fn refuse_name(name: &[u8], text: &mut [u8])
+// And those of one with a name in small letters.
+fn refuse_name(name: &[u8], text: &mut [u8], records: &mut [u64])
     requires { ⌜ length (now name) ≤ length (now text) ⌝ }
     ensures { λ r. ⌜ now (text .exit) ≡ padded (length (now (text .entry))) (lowered (now (name .entry))) ⌝ }
+    ensures { λ r. ⌜ now (records .exit) ≡ zeros (length (now (records .entry))) ⌝ }
 {
+    lent::clear_words(records);
     lent::clear_bytes(text);
     store_lowered(text, 0, name);
 }
 
-// Writes every action's texts from `offset` on, and its record, from the word `place` on, where all records up to it fit;
-// stops at the first bad piece.
+// Writes every action's texts from `offset` on, and its record, the first behind `place` others, where that fits; stops at the first bad piece.
 fn write_actions(
     s: &[u8],
     text: &mut [u8],
     offset: usize,
     records: &mut [u64],
     place: usize,
-) -> Listing
-    requires { ⌜ (offset + length (now s) ≤ limit) × (place ≤ limit * actionWords) ⌝ }
-    requires { ⌜ offset + length (now s) ≤ length (now text) ⌝ }
+) -> Reached
+    requires { ⌜ starts (length (now s)) (length (now text)) offset place ≡ true ⌝ }
     ensures { λ r. ⌜ Listed (now (s .entry)) offset place (now (text .entry)) (now (text .exit)) (now (records .entry)) (now (records .exit)) r ⌝ }
 {
     let mut from = 0;
     let mut used = offset;
     let mut count = 0;
-    let mut at = place;
+    let mut at = place * lent::ACTION_WORDS;
     loop {
         let end = part_end(s, from);
         let piece = ascii::trim(&s[from..end]);
@@ -74,36 +72,48 @@ fn write_actions(
                     count += 1;
                 }
                 Verdict::Bad(row) => {
-                    let name = refuse_row(row, text);
-                    return Listing::Bad { piece: count, name };
+                    let name = refuse_row(row, text, records);
+                    return Reached::Bad { piece: count, name };
                 }
                 Verdict::Unknown(name) => {
-                    refuse_name(&piece[..name], text);
-                    return Listing::Unknown { piece: count, name };
+                    refuse_name(&piece[..name], text, records);
+                    return Reached::Unknown { piece: count, name };
                 }
             }
         }
         if s.len() <= end {
-            return Listing::Read { count, used };
+            return Reached::Read {
+                count,
+                offset: used,
+            };
         }
         from = end + 1;
     }
 }
 
-// Number 4 where the records do not fit, with both buffers all zero; else zeros beyond what was written.
-fn finish(text: &mut [u8], used: usize, records: &mut [u64], count: usize) -> Answer
-    requires { ⌜ used ≤ length (now text) ⌝ }
-    requires { ⌜ count ≤ limit ⌝ }
-    ensures { λ r. ⌜ Finished used count (now (text .entry)) (now (text .exit)) (now (records .entry)) (now (records .exit)) r ⌝ }
+// A normalised text read into lent buffers from an offset and a count of records on, with no gate before it and nothing cleared behind it.
+pub fn read_actions(
+    s: &[u8],
+    text: &mut [u8],
+    offset: usize,
+    records: &mut [u64],
+    place: usize,
+) -> Reached
+    ensures { λ r. ⌜ ReadActions (now (s .entry)) offset place (now (text .entry)) (now (text .exit)) (now (records .entry)) (now (records .exit)) r ⌝ }
 {
-    if lent::room(records.len(), lent::ACTION_WORDS) < count {
-        lent::clear_bytes(text);
-        lent::clear_words(records);
+    if lent::starts(s.len(), text.len(), offset, place) {
+        return write_actions(s, text, offset, records, place);
+    }
+    Reached::Unfit
+}
+
+// The ending that every reader has, as an answer.
+fn finish(text: &mut [u8], used: usize, records: &mut [u64], count: usize) -> Answer
+    ensures { λ r. ⌜ Ended used count (now (text .entry)) (now (text .exit)) (now (records .entry)) (now (records .exit)) r ⌝ }
+{
+    if lent::finish(text, used, records, count, lent::ACTION_WORDS) {
         return Answer::NoRoom(count);
     }
-    lent::clear_bytes(&mut text[used..]);
-    let words = count * lent::ACTION_WORDS;
-    lent::clear_words(&mut records[words..]);
     Answer::Read { count, text: used }
 }
 
@@ -142,15 +152,11 @@ pub fn parse_actions(
     }
     let n = fill_scratch(input, scratch);
     match write_actions(&scratch[..n], text, 0, records, 0) {
-        Listing::Bad { piece, name } => {
-            lent::clear_words(records);
-            Answer::BadArgument { piece, name }
-        }
-        Listing::Unknown { piece, name } => {
-            lent::clear_words(records);
-            Answer::UnknownAction { piece, name }
-        }
-        Listing::Read { count, used } => finish(text, used, records, count),
+        Reached::Bad { piece, name } => Answer::BadArgument { piece, name },
+        Reached::Unknown { piece, name } => Answer::UnknownAction { piece, name },
+        Reached::Read { count, offset } => finish(text, offset, records, count),
+        // not past the gate
+        Reached::Unfit => Answer::Short,
     }
 }
 

@@ -3,7 +3,7 @@ ghost use mathlib.Core.Path.{_≡_};
 ghost use Prim.Native.Nat.{_+_, _≤_, _<_};
 ghost use lib.ListN.{length};
 ghost use Rattle.ascii.specs.Fold.{lowered};
-ghost use Rattle.lent.specs.Sizes.{limit, spanBase};
+ghost use Rattle.lent.specs.Sizes.{spanBase};
 ghost use Rattle.lent.specs.Buffers.{stored};
 ghost use Rattle.single_action.specs.Plans.{originText, Lies, planAction, Inside};
 ghost use Rattle.single_action.specs.Actions.{actionText};
@@ -83,7 +83,7 @@ pub fn put_plan(
 ) -> usize
     requires { ⌜ Inside (now s) plan ⌝ }
     requires { ⌜ used + length (actionText (planAction (now s) plan)) ≤ length (now text) ⌝ }
-    requires { ⌜ used + length (actionText (planAction (now s) plan)) ≤ limit + 3 ⌝ }
+    requires { ⌜ used + length (actionText (planAction (now s) plan)) < spanBase ⌝ }
     ensures { λ r. ⌜ Put (planAction (now (s .entry)) plan) used at (now (text .entry)) (now (text .exit)) (now (records .entry)) (now (records .exit)) r ⌝ }
 {
     let first = plan.a;

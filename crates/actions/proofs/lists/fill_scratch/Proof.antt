@@ -1,7 +1,7 @@
 -- The rest of the buffer is cleared behind the normalised text.
 use borrow.Author.Needs.{needs}
 use denote.Ref.{now}
-use Rattle.actions.proofs.FinishLaws.{scratch-fits, scratch-filled}
+use Rattle.actions.proofs.ScratchLaws.{scratch-fits, scratch-filled}
 use Rattle.actions.proofs.lists.fill_scratch.Statement.{statement}
 use Rattle.actions.proofs.lists.fill_scratch.Tie as tie
 

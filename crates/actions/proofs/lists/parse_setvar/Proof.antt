@@ -2,7 +2,7 @@
 use borrow.Author.Needs.{needs}
 use native.Mathlib.Omega.{arith}
 use denote.Ref.{now}
-use Rattle.actions.proofs.PromiseLaws.{alone-too-long, alone-not-ascii, alone-short, alone-room, alone-laid, alone-read}
+use Rattle.actions.proofs.PromiseLaws.{alone-too-long, alone-not-ascii, alone-short, alone-room, alone-read}
 use Rattle.actions.proofs.lists.parse_setvar.Statement.{statement}
 use Rattle.actions.proofs.lists.parse_setvar.Tie as tie
 
@@ -21,15 +21,9 @@ put-plan-requires c κs =
     let r = alone-room (now (c .before .before .before .before .before .before .before .before .before .args .input)) (now (c .before .before .before .before .before .before .before .before .before .args .text)) (now (c .before .before .before .before .before .before .before .before .before .args .records)) (c .before .before .before .before .before .admit .ensures) (c .before .before .before .enum-told3 .given .1) _ p in
     (p .inside, (omega (arith, r), omega (arith, r)))
 
-finish-requires : tie.Need-finish-requires
-finish-requires c κs =
-    let r = alone-room (now (c .before .before .before .before .before .before .before .before .before .before .before .before .before .before .before .before .args .input)) (now (c .before .before .before .before .before .before .before .before .before .before .before .before .before .before .before .before .args .text)) (now (c .before .before .before .before .before .before .before .before .before .before .before .before .before .before .before .before .args .records)) (c .before .before .before .before .before .before .before .before .before .before .before .before .admit .ensures) (c .before .before .before .before .before .before .before .before .before .before .enum-told3 .given .1) _ (c .before .before .before .before .before .before .before .before .before .read-setvar .ensures) in
-    (omega (arith, r, c .before .before .before .before .before .before .put-plan .ensures .end, c .before .before .before .before .before .before .put-plan .kept), omega arith)
-
 returns-4 : tie.Need-returns-4
 returns-4 c =
-    let o = c .before .before .before .before .before .before .before .before .before .before .before .before .before .before .before .enum-told3 .given .1 in
-    alone-read (now (c .before .before .before .before .before .before .before .before .before .before .before .before .before .before .before .before .before .before .before .before .before .args .input)) (now (c .before .before .before .before .before .before .before .before .before .before .before .before .before .before .before .before .before .before .before .before .before .args .text)) (now (c .before .before .before .before .before .before .before .before .before .before .before .before .before .before .before .before .before .before .before .before .before .args .records)) (c .before .before .before .before .before .before .before .before .before .before .before .before .before .before .before .before .before .admit .ensures) o (alone-laid (now (c .before .before .before .before .before .before .before .before .before .before .before .before .before .before .before .before .before .before .before .before .before .args .input)) (now (c .before .before .before .before .before .before .before .before .before .before .before .before .before .before .before .before .before .before .before .before .before .args .text)) (now (c .before .before .before .before .before .before .before .before .before .before .before .before .before .before .before .before .before .before .before .before .before .args .records)) (c .before .before .before .before .before .before .before .before .before .before .before .before .before .before .before .before .before .admit .ensures) o _ (c .before .before .before .before .before .before .before .before .before .before .before .before .before .before .read-setvar .ensures) (c .before .before .before .before .before .before .before .before .before .before .before .put-plan .ensures)) (c .before .before .before .before .finish .ensures)
+    alone-read (now (c .before .before .before .before .before .before .before .before .before .before .before .before .before .before .before .before .before .before .before .before .before .args .input)) (now (c .before .before .before .before .before .before .before .before .before .before .before .before .before .before .before .before .before .before .before .before .before .args .text)) (now (c .before .before .before .before .before .before .before .before .before .before .before .before .before .before .before .before .before .before .before .before .before .args .records)) (c .before .before .before .before .before .before .before .before .before .before .before .before .before .before .before .before .before .admit .ensures) (c .before .before .before .before .before .before .before .before .before .before .before .before .before .before .before .enum-told3 .given .1) _ (c .before .before .before .before .before .before .before .before .before .before .before .before .before .before .read-setvar .ensures) (c .before .before .before .before .before .before .before .before .before .before .before .put-plan .ensures) (c .before .before .before .before .finish .ensures)
 
 pub parse-setvar-spec : {M : Type 1} → statement M
 parse-setvar-spec =
@@ -46,7 +40,7 @@ parse-setvar-spec =
     (λ c. search needs)
     (λ c κs. search needs)
     put-plan-requires
-    finish-requires
+    (λ c κs. search needs)
     (λ c. search needs)
     (λ c. search needs)
     returns-4)

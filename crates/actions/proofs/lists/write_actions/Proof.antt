@@ -7,7 +7,9 @@ use borrow.Author.Needs.{needs}
 use denote.Ref.{now}
 use lib.ListN.{length, drop}
 use lib.Seq.{length-take-le}
+use Rattle.lent.proofs.StartLaws.{Started, starts-is}
 use Rattle.actions.specs.Pieces.{pieces}
+use Rattle.actions.proofs.LayoutLaws.{text-long, records-long}
 use Rattle.actions.proofs.GoingLaws.{behind, Going, begun, end-inside, passed, room-for, acted, row-fits, stopped-bad, name-fits, stopped-unknown, onward, ended}
 use Rattle.actions.proofs.lists.write_actions.Statement.{statement}
 use Rattle.actions.proofs.lists.write_actions.Tie as tie
@@ -18,8 +20,15 @@ Inv-loop s text₀ offset records₀ place from₀ used₀ count₀ at₀ text r
 abbrev μ-loop : tie.MeasureT-loop
 μ-loop s text₀ offset records₀ place from₀ used₀ count₀ at₀ text records from used count at = length s + 1 - from
 
+-- the loop starts where it may
+started : (c : tie.Start Inv-loop μ-loop) → Started (length (now (c .args .s))) (length (now (c .args .text))) (c .args .offset) (c .args .place)
+started c = starts-is (length (now (c .args .s))) (length (now (c .args .text))) (c .args .offset) (c .args .place) .0 (c .pre)
+
+mul-at : tie.Need-mul-at Inv-loop μ-loop
+mul-at c = omega (arith, started (c .before .before .before))
+
 loop-holds : tie.Need-loop-holds Inv-loop μ-loop
-loop-holds c = begun (now (c .before .before .before .args .s)) _ _ (c .before .before .before .args .offset) (c .before .before .before .args .place) (omega (arith, c .before .before .before .pre .1))
+loop-holds c = begun (now (c .before .before .before .args .s)) _ _ (c .before .before .before .args .offset) (c .before .before .before .args .place)
 
 part-end-requires : tie.Need-part-end-requires Inv-loop μ-loop
 part-end-requires c κs = c .loop .inv .inside
@@ -36,30 +45,30 @@ part-trim-end c = end-inside (now (c .before .before .before .before .before .ar
 put-plan-requires : tie.Need-put-plan-requires Inv-loop μ-loop
 put-plan-requires c κs =
     let j = rw (c .before .before .before .plan .given .1) at (c .before .before .before .before .before .read-single .ensures) in
-    let h = room-for (c .before .before .before .before .before .before .before .before .before .before .loop .inv) (c .before .before .before .before .before .before .before .before .before .before .before .before .before .before .pre .1) (c .before .before .before .before .before .before .before .before .before .part-end .result) (c .before .before .before .before .before .before .before .before .before .part-end .ensures) (now (c .before .before .before .before .before .before .before .trim .result)) (c .before .before .before .before .before .before .before .trim .ensures) (c .before .before .before .before .before .before .if1 .taken) (c .before .before .before .plan .given .0 .0) j in
-    (j .sound, (h .0, omega (arith, h .1, c .before .before .before .before .before .before .before .before .before .before .before .before .before .before .pre .0)))
+    (j .sound, room-for (c .before .before .before .before .before .before .before .before .before .before .loop .inv) (c .before .before .before .before .before .before .before .before .before .before .before .before .before .before .pre) (c .before .before .before .before .before .before .before .before .before .part-end .result) (c .before .before .before .before .before .before .before .before .before .part-end .ensures) (now (c .before .before .before .before .before .before .before .trim .result)) (c .before .before .before .before .before .before .before .trim .ensures) (c .before .before .before .before .before .before .if1 .taken) (c .before .before .before .plan .given .0 .0) j)
 
 add-at : tie.Need-add-at Inv-loop μ-loop
-add-at c = let x = c .before .before .before .before .before .before .before .before .before .before .before .before .before .before .before .loop .inv in omega (arith, x .at-is, x .count-low, x .inside, c .before .before .before .before .before .before .before .before .before .before .before .before .before .before .before .before .before .before .before .pre .0)
+add-at c = let x = c .before .before .before .before .before .before .before .before .before .before .before .before .before .before .before .loop .inv in omega (arith, x .at-is, x .count-low, x .inside, started (c .before .before .before .before .before .before .before .before .before .before .before .before .before .before .before .before .before .before .before))
 
 add-count : tie.Need-add-count Inv-loop μ-loop
-add-count c = let x = c .before .before .before .before .before .before .before .before .before .before .before .before .before .before .before .loop .inv in omega (arith, x .count-low, x .inside, c .before .before .before .before .before .before .before .before .before .before .before .before .before .before .before .before .before .before .before .pre .0)
+add-count c = let x = c .before .before .before .before .before .before .before .before .before .before .before .before .before .before .before .loop .inv in omega (arith, x .count-low, x .inside, started (c .before .before .before .before .before .before .before .before .before .before .before .before .before .before .before .before .before .before .before))
 
 refuse-row-requires : tie.Need-refuse-row-requires Inv-loop μ-loop
 refuse-row-requires c κs =
-    let j = rw (c .before .before .row .given .1) at (c .before .before .before .before .read-single .ensures) in
-    row-fits (c .before .before .before .before .before .before .before .before .before .loop .inv) (c .before .before .before .before .before .before .before .before .before .before .before .before .before .pre .1) (c .before .before .before .before .before .before .before .before .part-end .result) (c .before .before .before .before .before .before .before .before .part-end .ensures) (now (c .before .before .before .before .before .before .trim .result)) (c .before .before .before .before .before .before .trim .ensures) (c .before .before .before .before .before .if1 .taken) (c .before .before .row .given .0 .0) j
+    let j = rw (c .before .before .before .row .given .1) at (c .before .before .before .before .before .read-single .ensures) in
+    row-fits (c .before .before .before .before .before .before .before .before .before .before .loop .inv) (c .before .before .before .before .before .before .before .before .before .before .before .before .before .before .pre) (c .before .before .before .before .before .before .before .before .before .part-end .result) (c .before .before .before .before .before .before .before .before .before .part-end .ensures) (now (c .before .before .before .before .before .before .before .trim .result)) (c .before .before .before .before .before .before .before .trim .ensures) (c .before .before .before .before .before .before .if1 .taken) (c .before .before .before .row .given .0 .0) j
 
 same-length : tie.Need-same-length Inv-loop μ-loop
-same-length c = omega (arith, c .before .before .before .before .before .before .before .before .before .before .before .before .loop .inv .written .long, c .before .before .refuse-row .kept)
+same-length c = omega (arith, text-long (c .before .before .before .before .before .before .before .before .before .before .before .before .before .before .before .loop .inv .laid), c .before .before .before .before .refuse-row .kept)
 
 same-length-2 : tie.Need-same-length-2 Inv-loop μ-loop
-same-length-2 c = c .before .before .before .before .before .before .before .before .before .before .before .before .loop .inv .long
+same-length-2 c = omega (arith, records-long (c .before .before .before .before .before .before .before .before .before .before .before .before .before .before .before .loop .inv .laid), c .before .before .before .before .refuse-row .kept)
 
 returns : tie.Need-returns Inv-loop μ-loop
 returns c =
-    let j = rw (c .before .before .before .before .before .row .given .1) at (c .before .before .before .before .before .before .before .read-single .ensures) in
-    stopped-bad (c .before .before .before .before .before .before .before .before .before .before .before .before .loop .inv) (c .before .before .before .before .before .before .before .before .before .before .before .before .before .before .before .before .pre .1) (c .before .before .before .before .before .before .before .before .before .before .before .part-end .result) (c .before .before .before .before .before .before .before .before .before .before .before .part-end .ensures) (now (c .before .before .before .before .before .before .before .before .before .trim .result)) (c .before .before .before .before .before .before .before .before .before .trim .ensures) (c .before .before .before .before .before .before .before .before .if1 .taken) (c .before .before .before .before .before .row .given .0 .0) j (c .before .before .refuse-row .ensures .0) (c .before .before .refuse-row .ensures .1)
+    let j = rw (c .before .before .before .before .before .before .before .before .row .given .1) at (c .before .before .before .before .before .before .before .before .before .before .read-single .ensures) in
+    let e = c .before .before .before .before .refuse-row .ensures in
+    stopped-bad (c .before .before .before .before .before .before .before .before .before .before .before .before .before .before .before .loop .inv) (c .before .before .before .before .before .before .before .before .before .before .before .before .before .before .before .before .before .before .before .pre) (c .before .before .before .before .before .before .before .before .before .before .before .before .before .before .part-end .result) (c .before .before .before .before .before .before .before .before .before .before .before .before .before .before .part-end .ensures) (now (c .before .before .before .before .before .before .before .before .before .before .before .before .trim .result)) (c .before .before .before .before .before .before .before .before .before .before .before .before .trim .ensures) (c .before .before .before .before .before .before .before .before .before .before .before .if1 .taken) (c .before .before .before .before .before .before .before .before .row .given .0 .0) j (e .0) (e .1 .0) (e .1 .1)
 
 slice-aggregate-refuse-name : tie.Need-slice-aggregate-refuse-name Inv-loop μ-loop
 slice-aggregate-refuse-name c =
@@ -68,39 +77,40 @@ slice-aggregate-refuse-name c =
 
 refuse-name-requires : tie.Need-refuse-name-requires Inv-loop μ-loop
 refuse-name-requires c κs =
-    let j = rw (c .before .before .before .name .given .1) at (c .before .before .before .before .before .read-single .ensures) in
-    name-fits (c .before .before .before .before .before .before .before .before .before .before .loop .inv) (c .before .before .before .before .before .before .before .before .before .before .before .before .before .before .pre .1) (c .before .before .before .before .before .before .before .before .before .part-end .result) (c .before .before .before .before .before .before .before .before .before .part-end .ensures) (now (c .before .before .before .before .before .before .before .trim .result)) (c .before .before .before .before .before .before .before .trim .ensures) (c .before .before .before .before .before .before .if1 .taken) (c .before .before .before .name .given .0 .0) j
+    let j = rw (c .before .before .before .before .name .given .1) at (c .before .before .before .before .before .before .read-single .ensures) in
+    name-fits (c .before .before .before .before .before .before .before .before .before .before .before .loop .inv) (c .before .before .before .before .before .before .before .before .before .before .before .before .before .before .before .pre) (c .before .before .before .before .before .before .before .before .before .before .part-end .result) (c .before .before .before .before .before .before .before .before .before .before .part-end .ensures) (now (c .before .before .before .before .before .before .before .before .trim .result)) (c .before .before .before .before .before .before .before .before .trim .ensures) (c .before .before .before .before .before .before .before .if1 .taken) (c .before .before .before .before .name .given .0 .0) j
 
 same-length-3 : tie.Need-same-length-3 Inv-loop μ-loop
-same-length-3 c = omega (arith, c .before .before .before .before .before .before .before .before .before .before .before .before .before .loop .inv .written .long, c .before .before .refuse-name .kept)
+same-length-3 c = omega (arith, text-long (c .before .before .before .before .before .before .before .before .before .before .before .before .before .before .before .before .loop .inv .laid), c .before .before .before .before .refuse-name .kept)
 
 same-length-4 : tie.Need-same-length-4 Inv-loop μ-loop
-same-length-4 c = c .before .before .before .before .before .before .before .before .before .before .before .before .before .loop .inv .long
+same-length-4 c = omega (arith, records-long (c .before .before .before .before .before .before .before .before .before .before .before .before .before .before .before .before .loop .inv .laid), c .before .before .before .before .refuse-name .kept)
 
 returns-2 : tie.Need-returns-2 Inv-loop μ-loop
 returns-2 c =
-    let j = rw (c .before .before .before .before .before .before .name .given .1) at (c .before .before .before .before .before .before .before .before .read-single .ensures) in
-    stopped-unknown (c .before .before .before .before .before .before .before .before .before .before .before .before .before .loop .inv) (c .before .before .before .before .before .before .before .before .before .before .before .before .before .before .before .before .before .pre .1) (c .before .before .before .before .before .before .before .before .before .before .before .before .part-end .result) (c .before .before .before .before .before .before .before .before .before .before .before .before .part-end .ensures) (now (c .before .before .before .before .before .before .before .before .before .before .trim .result)) (c .before .before .before .before .before .before .before .before .before .before .trim .ensures) (c .before .before .before .before .before .before .before .before .before .if1 .taken) (c .before .before .before .before .before .before .name .given .0 .0) j (c .before .before .refuse-name .ensures)
+    let j = rw (c .before .before .before .before .before .before .before .before .before .name .given .1) at (c .before .before .before .before .before .before .before .before .before .before .before .read-single .ensures) in
+    let e = c .before .before .before .before .refuse-name .ensures in
+    stopped-unknown (c .before .before .before .before .before .before .before .before .before .before .before .before .before .before .before .before .loop .inv) (c .before .before .before .before .before .before .before .before .before .before .before .before .before .before .before .before .before .before .before .before .pre) (c .before .before .before .before .before .before .before .before .before .before .before .before .before .before .before .part-end .result) (c .before .before .before .before .before .before .before .before .before .before .before .before .before .before .before .part-end .ensures) (now (c .before .before .before .before .before .before .before .before .before .before .before .before .before .trim .result)) (c .before .before .before .before .before .before .before .before .before .before .before .before .before .trim .ensures) (c .before .before .before .before .before .before .before .before .before .before .before .before .if1 .taken) (c .before .before .before .before .before .before .before .before .before .name .given .0 .0) j (e .0) (e .1)
 
 -- behind a part, whether it was a piece or not
 behind-part : (c : tie.Joined1 Inv-loop μ-loop) → Going (now (c .before .before .before .before .before .before .before .before .args .s)) (c .before .before .before .before .before .before .before .before .args .offset) (c .before .before .before .before .before .before .before .before .args .place) (now (c .before .before .before .before .before .before .before .before .args .text)) (now (c .before .before .before .before .before .before .before .before .args .records)) (c .if1 .text) (c .if1 .records) (behind (now (c .before .before .before .before .before .before .before .before .args .s)) (c .before .before .before .part-end .result)) (c .before .before .before .part-end .result) (c .if1 .used) (c .if1 .count) (c .if1 .at)
 behind-part c =
     ⊎-elim
-    (λ w. rw (w .12, w .13, w .14, w .15, w .16) (acted (c .before .before .before .before .loop .inv) (c .before .before .before .before .before .before .before .before .pre .1) (c .before .before .before .part-end .result) (c .before .before .before .part-end .ensures) (now (c .before .trim .result)) (c .before .trim .ensures) (w .0 .taken) (w .3 .given .0 .0) (rw (w .3 .given .1) at (w .1 .ensures)) (w .7 .ensures)))
-    (λ w. rw (w .1, w .2, w .3, w .4, w .5) (passed (c .before .before .before .before .loop .inv) (c .before .before .before .before .before .before .before .before .pre .1) (c .before .before .before .part-end .result) (c .before .before .before .part-end .ensures) (now (c .before .trim .result)) (c .before .trim .ensures) (w .0 .left)))
+    (λ w. rw (w .12, w .13, w .14, w .15, w .16) (acted (c .before .before .before .before .loop .inv) (c .before .before .before .before .before .before .before .before .pre) (c .before .before .before .part-end .result) (c .before .before .before .part-end .ensures) (now (c .before .trim .result)) (c .before .trim .ensures) (w .0 .taken) (w .3 .given .0 .0) (rw (w .3 .given .1) at (w .1 .ensures)) (w .7 .ensures)))
+    (λ w. rw (w .1, w .2, w .3, w .4, w .5) (passed (c .before .before .before .before .loop .inv) (c .before .before .before .before .before .before .before .before .pre) (c .before .before .before .part-end .result) (c .before .before .before .part-end .ensures) (now (c .before .trim .result)) (c .before .trim .ensures) (w .0 .left)))
     (c .if1 .came)
 
 same-length-5 : tie.Need-same-length-5 Inv-loop μ-loop
-same-length-5 c = behind-part (c .before) .written .long
+same-length-5 c = text-long (behind-part (c .before) .laid)
 
 same-length-6 : tie.Need-same-length-6 Inv-loop μ-loop
-same-length-6 c = behind-part (c .before) .long
+same-length-6 c = records-long (behind-part (c .before) .laid)
 
 returns-3 : tie.Need-returns-3 Inv-loop μ-loop
 returns-3 c = ended (behind-part (c .before)) (c .if2 .taken)
 
 add-from : tie.Need-add-from Inv-loop μ-loop
-add-from c = let x = behind-part (c .before) in omega (arith, x .inside, c .if2 .left, c .before .before .before .before .before .before .before .before .before .pre .0)
+add-from c = let x = behind-part (c .before) in omega (arith, x .inside, c .if2 .left, started (c .before .before .before .before .before .before .before .before .before))
 
 loop-less : tie.Need-loop-less Inv-loop μ-loop
 loop-less c = omega (arith, c .before .before .before .before .part-end .ensures, c .before .before .before .before .before .loop .inv .inside, c .if2 .left)
@@ -114,6 +124,7 @@ write-actions-spec =
     (tie.spec
     Inv-loop
     μ-loop
+    mul-at
     loop-holds
     part-end-requires
     sub-trim

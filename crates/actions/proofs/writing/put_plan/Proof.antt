@@ -1,5 +1,5 @@
-use borrow.Author.Needs.{needs}
 -- Three texts one behind the other, and the record with their spans.
+use borrow.Author.Needs.{needs}
 use native.Mathlib.Omega.{arith}
 use denote.Ref.{now}
 use Rattle.actions.proofs.WritingLaws.{plan-length, put-all}

@@ -1,9 +1,10 @@
-use borrow.Author.Needs.{needs}
 -- Each kind of text is stored by itself; its length is known by its places.
+use mathlib.Core.Path.{sym}
+use borrow.Author.Needs.{needs}
 use native.Mathlib.Omega.{arith}
 use denote.Ref.{now}
 use Rattle.ascii.specs.Text.{bytes}
-use Rattle.single_action.proofs.NamingLaws.{stored-none}
+use Rattle.lent.proofs.BufferLaws.{stored-none}
 use Rattle.actions.proofs.WritingLaws.{copied-lies, copied-long, copied-put, lowered-lies, lowered-long, lowered-put}
 use Rattle.actions.proofs.writing.put_text.Statement.{statement}
 use Rattle.actions.proofs.writing.put_text.Tie as tie
@@ -39,7 +40,7 @@ add-result-2 : tie.Need-add-result-2
 add-result-2 c = omega (arith, lowered-long (now (c .before .before .before .before .before .before .before .before .before .before .args .s)) _ _ _ (c .before .before .before .before .before .before .before .before .before .before .pre .0) (c .before .before .before .before .before .before .origin2 .given .1), c .before .before .before .before .before .before .before .before .before .before .pre .1)
 
 returns : tie.Need-returns
-returns c = rw (c .enum-told .given .1) (stored-none _ _, omega arith)
+returns c = rw (c .enum-told .given .1) (sym (stored-none _ _), omega arith)
 
 returns-2 : tie.Need-returns-2
 returns-2 c = copied-put (now (c .before .before .before .before .before .before .before .before .before .before .args .s)) _ _ _ (c .before .before .before .before .before .before .before .before .before .before .pre .0) (c .before .before .before .before .before .before .origin .given .1) _ _ (c .before .before .store-bytes .ensures)

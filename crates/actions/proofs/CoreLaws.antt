@@ -1,0 +1,80 @@
+-- From what the loop over a normalised text leaves to what read_actions promises: one law for each way out.
+use mathlib.Core.Path.{_≡_, refl, sym, ap, _∙_}
+use mathlib.Core.Bool.{Bool, true, false}
+use mathlib.Core.Logic.{_↔_}
+use mathlib.Core.List.{List}
+use Prim.Native.Nat.{ℕ}
+use native.Mathlib.Omega.{arith}
+use lib.ListN.{length}
+use Rattle.ascii.specs.Choice.{pick, bit}
+use Rattle.lent.specs.Endings.{starts}
+use Rattle.lent.specs.Table.{tooLong, notAscii, shortBuffer, noRoom, named, noAction, noArgument, noVariable, unknownOperator, badCursor, unknownAction, badArgument, Outcome, refuses, reads}
+use Rattle.single_action.specs.Actions.{Action}
+use Rattle.actions.specs.Pieces.{pieces}
+use Rattle.actions.specs.Lists.{actionsFrom}
+use Rattle.actions.specs.Listing.{Listed}
+use Rattle.actions.specs.Cores.{coreOutcome, coreGiven, reachedFrom, coreText, coreRecords, ReadActions}
+use Rattle.actions.proofs.CountLaws.{Counted, from-counted}
+use Rattle.actions.specs.declared.Reached.{Reached}
+use Rattle.actions.specs.declared.Reached.the-variants.{Read, Bad, Unknown, Unfit}
+
+module _ (s : List ℕ) (offset place : ℕ) (text records : List ℕ) where
+  -- by what the text comes to there
+  core-by : (o : Outcome (List Action)) → coreOutcome s (length text) offset place ≡ o → {text′ records′ : List ℕ} {r : Reached}
+      → r ≡ reachedFrom (coreGiven offset o) → text′ ≡ coreText offset text o → records′ ≡ coreRecords offset place records o
+      → ReadActions s offset place text text′ records records′ r
+  core-by o e a t w = record { answer = rw e a; texts = rw e t; words = rw e w }
+
+  -- nothing is touched where it does not place
+  pub core-unfit : starts (length s) (length text) offset place ≡ false → ReadActions s offset place text text records records Unfit
+  unfolding coreOutcome
+  core-unfit h = core-by (refuses shortBuffer) (rw h) refl refl refl
+
+  module _ (h : starts (length s) (length text) offset place ≡ true) where
+    started : (o : Outcome (List Action)) → actionsFrom 0 (pieces s) ≡ o → coreOutcome s (length text) offset place ≡ o
+    unfolding coreOutcome
+    started o e = rw h e
+
+    pub core-met : {text′ records′ : List ℕ} (r : Reached) → Listed s offset place text text′ records records′ r → ReadActions s offset place text text′ records records′ r
+    core-met (Read count used) x =
+        core-by (reads (x .actions)) (started (reads (x .actions)) (x .all)) (rw (x .laid .counted, x .laid .used-is)) (x .laid .written) (x .laid .recorded)
+    core-met (Bad piece name) x =
+        core-by (refuses (badArgument piece (x .named))) (started (refuses (badArgument piece (x .named))) (x .first)) (rw (x .counted)) (x .written) (x .cleared)
+    core-met (Unknown piece name) x =
+        core-by (refuses (unknownAction piece (x .named))) (started (refuses (unknownAction piece (x .named))) (x .first)) (rw (x .counted)) (x .written) (x .cleared)
+    core-met Unfit x = absurd x
+
+-- ---- unfit
+
+-- an answer that is read or refuses a piece
+abbrev fit : Reached → Bool
+fit (Read count used) = true
+fit (Bad piece name) = true
+fit (Unknown piece name) = true
+fit Unfit = false
+
+-- what pieces come to is such an answer
+pieces-fit : (offset n : ℕ) (o : Outcome (List Action)) → Counted 0 n o → fit (reachedFrom (coreGiven offset o)) ≡ true
+pieces-fit offset n (reads xs) h = refl
+pieces-fit offset n (refuses (named noAction p name)) h = refl
+pieces-fit offset n (refuses (named noArgument p name)) h = refl
+pieces-fit offset n (refuses (named noVariable p name)) h = absurd h
+pieces-fit offset n (refuses tooLong) h = absurd h
+pieces-fit offset n (refuses (notAscii p)) h = absurd h
+pieces-fit offset n (refuses shortBuffer) h = absurd h
+pieces-fit offset n (refuses (noRoom p)) h = absurd h
+pieces-fit offset n (refuses (unknownOperator p l)) h = absurd h
+pieces-fit offset n (refuses badCursor) h = absurd h
+
+-- it is unfit exactly where it does not place
+pub unfit-exactly : {s : List ℕ} {offset place : ℕ} {text text′ records records′ : List ℕ} {r : Reached} → ReadActions s offset place text text′ records records′ r
+    → (r ≡ Unfit) ↔ (starts (length s) (length text) offset place ≡ false)
+unfolding coreOutcome
+unfit-exactly {s} {offset} {place} {text} {r = r} x = (go (starts (length s) (length text) offset place) refl, λ h. x .answer ∙ rw h)
+  where
+    go : (b : Bool) → starts (length s) (length text) offset place ≡ b → r ≡ Unfit → b ≡ false
+    go false z e = refl
+    go true z e =
+        let a : r ≡ reachedFrom (coreGiven offset (actionsFrom 0 (pieces s))) = x .answer ∙ rw z in
+        let q : true ≡ false = sym (pieces-fit offset (length (pieces s)) (actionsFrom 0 (pieces s)) (from-counted 0 (pieces s))) ∙ ap fit (sym a ∙ e) in
+        absurd (omega (arith, ap bit q))
