@@ -1,0 +1,29 @@
+-- How actions become words and texts in lent memory.
+use Prim.Native.Nat.{ℕ, _+_}
+use mathlib.Core.List.{List, [], _∷_}
+use lib.ListN.{length}
+use Rattle.lent.specs.Sizes.{spanWord}
+use Rattle.lent.specs.Layout.{textsOf, wordsOf}
+use Rattle.records.specs.Actions.{Slot, absent, present, Action, slotText, actionText}
+
+-- The span word of a text, the offset o being reached: an absent one is 0.
+abbrev pub slotWord : ℕ → Slot → ℕ
+slotWord o absent = 0
+slotWord o (present t) = spanWord o (length t)
+
+-- The offset behind it.
+abbrev pub slotEnd : ℕ → Slot → ℕ
+slotEnd o s = o + length (slotText s)
+
+-- The words of an action whose texts start at the offset o.
+unfoldable pub actionRecord : ℕ → Action → List ℕ
+actionRecord o x =
+    x .code ∷ x .number ∷ slotWord o (x .a) ∷ slotWord (slotEnd o (x .a)) (x .b) ∷ x .kind ∷
+    slotWord (slotEnd (slotEnd o (x .a)) (x .b)) (x .c) ∷ []
+
+-- The words of all actions, one record after another, the first text at the offset o; and their texts.
+abbrev pub wordsFrom : ℕ → List Action → List ℕ
+wordsFrom = wordsOf actionRecord actionText
+
+abbrev pub texts : List Action → List ℕ
+texts = textsOf actionText
