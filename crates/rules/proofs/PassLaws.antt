@@ -4,25 +4,18 @@ use mathlib.Core.Bool.{Bool, true, false}
 use mathlib.Core.List.{List, [], _∷_}
 use mathlib.Core.Logic.{_↔_}
 use Prim.Native.Nat.{ℕ, _≤_}
-use native.Mathlib.Omega.{arith}
 use lib.Dec.{eqb, leb}
 use borrow.Author.Tests.{eqb-true, eqb-false, le-leb, leb-true}
 use Rattle.ascii.specs.Choice.{pick, and}
+use Rattle.records.proofs.TestLaws.{both, joins}
 use Rattle.rules.specs.Entries.{Entry, idCode, phaseCode, severityCode, maturityCode, accuracyCode}
 use Rattle.rules.specs.Grades.{between, fine, allFine, ids, grades, Every, none, more, Passes}
 
-and-both : (a b : Bool) → and a b ≡ true → (a ≡ true) × (b ≡ true)
-and-both true b e = (refl, e)
-and-both false b e = let z : _≡_ {A = ℕ} 0 1 = cc in absurd (omega arith)
-
-and-of : (a b : Bool) → a ≡ true → b ≡ true → and a b ≡ true
-and-of a b e f = rw (e, f)
-
 between-is : (l m n : ℕ) → between l m n ≡ true → (l ≤ n) × (n ≤ m)
-between-is l m n e = let k = and-both (leb l n) (leb n m) e in (leb-true l n (k .0), leb-true n m (k .1))
+between-is l m n e = let k = both (leb l n) (leb n m) e in (leb-true l n (k .0), leb-true n m (k .1))
 
 is-between : (l m n : ℕ) → (l ≤ n) × (n ≤ m) → between l m n ≡ true
-is-between l m n h = and-of (leb l n) (leb n m) (le-leb l n (h .0)) (le-leb n m (h .1))
+is-between l m n h = joins (le-leb l n (h .0)) (le-leb n m (h .1))
 
 -- ---- one action
 
@@ -76,7 +69,7 @@ fine-all : (es : List Entry) → allFine es ≡ true → All es
 unfolding allFine
 fine-all [] h = record { id = none; phase = none; severity = none; maturity = none; accuracy = none }
 fine-all (e ∷ r) h =
-    let k = and-both (fine (e .code) (e .number)) (allFine r) h in
+    let k = both (fine (e .code) (e .number)) (allFine r) h in
     let x = fine-asks (e .code) (e .number) (k .0) in
     let y = fine-all r (k .1) in
     record {
@@ -97,7 +90,7 @@ all-fine : (es : List Entry) → All es → allFine es ≡ true
 unfolding allFine
 all-fine [] x = refl
 all-fine (e ∷ r) x =
-    and-of (fine (e .code) (e .number)) (allFine r)
+    joins
     (asks-fine (e .code) (e .number) (record { id = head (x .id); phase = head (x .phase); severity = head (x .severity); maturity = head (x .maturity); accuracy = head (x .accuracy) }))
     (all-fine r (record { id = rest (x .id); phase = rest (x .phase); severity = rest (x .severity); maturity = rest (x .maturity); accuracy = rest (x .accuracy) }))
 
@@ -108,12 +101,12 @@ grade-passes es = (there, back)
   where
     there : and (allFine es) (leb (ids es) 1) ≡ true → Passes es
     there e =
-        let k = and-both (allFine es) (leb (ids es) 1) e in
+        let k = both (allFine es) (leb (ids es) 1) e in
         let x = fine-all es (k .0) in
         record { one-id = leb-true (ids es) 1 (k .1); id = x .id; phase = x .phase; severity = x .severity; maturity = x .maturity; accuracy = x .accuracy }
 
     back : Passes es → and (allFine es) (leb (ids es) 1) ≡ true
     back p =
-        and-of (allFine es) (leb (ids es) 1)
+        joins
         (all-fine es (record { id = p .id; phase = p .phase; severity = p .severity; maturity = p .maturity; accuracy = p .accuracy }))
         (le-leb (ids es) 1 (p .one-id))

@@ -3,27 +3,13 @@ use Prim.Native.Nat.{ℕ, zero, suc}
 use mathlib.Core.List.{List, [], _∷_}
 use lib.ListN.{length, drop, getD}
 use Rattle.lent.specs.Sizes.{actionWords, roomFor}
+-- the codes of document 01 that are read here
+pub use Rattle.records.specs.Codes.{idCode, phaseCode, severityCode, maturityCode, accuracyCode}
 
 -- an action: its code, and its number word as it stands
 pub record Entry : Type 0 where
   pub code : ℕ
   pub number : ℕ
-
--- the codes of document 01 that are read here
-abbrev pub idCode : ℕ
-idCode = 11
-
-abbrev pub phaseCode : ℕ
-phaseCode = 12
-
-abbrev pub severityCode : ℕ
-severityCode = 13
-
-abbrev pub maturityCode : ℕ
-maturityCode = 18
-
-abbrev pub accuracyCode : ℕ
-accuracyCode = 19
 
 -- the record that the words start with
 abbrev pub first : List ℕ → Entry

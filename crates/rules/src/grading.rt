@@ -2,11 +2,6 @@
 ghost use mathlib.Core.Path.{_≡_};
 ghost use Rattle.rules.specs.Entries.{entries};
 ghost use Rattle.rules.specs.Grades.{between, fine, grades};
-use crate::ACCURACY;
-use crate::ID;
-use crate::MATURITY;
-use crate::PHASE;
-use crate::SEVERITY;
 
 fn is_between(least: u64, most: u64, n: u64) -> bool
     ensures { λ r. ⌜ r ≡ between least most n ⌝ }
@@ -21,19 +16,19 @@ fn is_between(least: u64, most: u64, n: u64) -> bool
 fn is_fine(code: u64, number: u64) -> bool
     ensures { λ r. ⌜ r ≡ fine code number ⌝ }
 {
-    if code == ID {
+    if code == records::ID {
         return 1 <= number;
     }
-    if code == PHASE {
+    if code == records::PHASE {
         return is_between(1, 4, number);
     }
-    if code == SEVERITY {
+    if code == records::SEVERITY {
         return number <= 7;
     }
-    if code == MATURITY {
+    if code == records::MATURITY {
         return is_between(1, 9, number);
     }
-    if code == ACCURACY {
+    if code == records::ACCURACY {
         return is_between(1, 9, number);
     }
     true
@@ -50,7 +45,7 @@ pub fn grade(words: &[u64]) -> bool
         if !is_fine(code, words[at + 1]) {
             return false;
         }
-        if code == ID {
+        if code == records::ID {
             if named {
                 return false;
             }

@@ -2,7 +2,6 @@
 ghost use mathlib.Core.Path.{_≡_};
 ghost use Rattle.rules.specs.Entries.{entries};
 ghost use Rattle.rules.specs.Phases.{phaseOf};
-use crate::PHASE;
 
 // The number of the first phase, as it stands, else 2.
 pub fn phase(words: &[u64]) -> u64
@@ -10,7 +9,7 @@ pub fn phase(words: &[u64]) -> u64
 {
     let mut at = 0;
     while lent::ACTION_WORDS <= words.len() - at {
-        if words[at] == PHASE {
+        if words[at] == records::PHASE {
             return words[at + 1];
         }
         at += lent::ACTION_WORDS;
