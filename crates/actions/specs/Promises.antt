@@ -11,6 +11,7 @@ use Rattle.lent.specs.Gates.{gateOf}
 use Rattle.lent.specs.Table.{Given, given, tooLong, notAscii, shortBuffer, noRoom, refused, Outcome, refuses, reads, pastGate, Filled, givenBy, textBy, recordsBy}
 use Rattle.lent.specs.declared.gating.Gate.{Gate}
 use Rattle.lent.specs.declared.gating.Gate.the-variants.{Open, TooLong, NotAscii, Short}
+use Rattle.records.specs.Codes.{setVarCode}
 use Rattle.single_action.specs.Setvar.{setvar}
 use Rattle.single_action.specs.Actions.{Action, setvarAction}
 use Rattle.actions.specs.Normal.{normalised}
@@ -64,9 +65,9 @@ pub record ParseActions (s text text′ work work′ records records′ : List �
 
 -- ---- a setvar alone
 
--- The one action of parse_setvar alone, with code 22.
+-- The one action of parse_setvar alone, with the code of SetVar.
 abbrev pub setvarAlone : List ℕ → List Action
-setvarAlone s = setvarAction 22 (setvar s) ∷ []
+setvarAlone s = setvarAction setVarCode (setvar s) ∷ []
 
 -- What a call of parse_setvar comes to, with n bytes of text and m words of records lent: 3 where text is shorter than the input plus 3.
 unfoldable pub setvarOutcome : List ℕ → ℕ → ℕ → Outcome Filled

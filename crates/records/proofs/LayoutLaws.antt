@@ -1,18 +1,20 @@
 -- Records and texts of a list of actions, by lent's laws.
-use mathlib.Core.Path.{_≡_, refl}
+use mathlib.Core.Path.{_≡_, _∙_, refl, sym, ap}
 use mathlib.Core.List.{List, [], _∷_, _++_}
 use Prim.Native.Nat.{ℕ, _+_, _*_}
-use lib.ListN.{length}
+use lib.ListN.{length, length-append}
 use Rattle.lent.specs.Sizes.{actionWords}
+use Rattle.lent.specs.Buffers.{stored, storedEach, joined}
+use Rattle.lent.proofs.BufferLaws.{each-more}
 use Rattle.lent.proofs.LayoutLaws as Lent
 use Rattle.records.specs.Actions.{Action, actionText}
-use Rattle.records.specs.Layout.{actionRecord, wordsFrom, texts}
+use Rattle.records.specs.Layout.{actionRecord, recordsFrom, wordsFrom, texts}
 
 pub texts-more : (xs : List Action) (x : Action) → texts (xs ++ (x ∷ [])) ≡ texts xs ++ actionText x
 texts-more = Lent.texts-more actionText
 
-pub words-more : (o : ℕ) (xs : List Action) (x : Action) → wordsFrom o (xs ++ (x ∷ [])) ≡ wordsFrom o xs ++ actionRecord (o + length (texts xs)) x
-words-more = Lent.words-more actionText actionRecord
+pub texts-length : (xs : List Action) (x : Action) → length (texts (xs ++ (x ∷ []))) ≡ length (texts xs) + length (actionText x)
+texts-length xs x = ap length (texts-more xs x) ∙ length-append (texts xs) (actionText x)
 
 pub record-length : (o : ℕ) (x : Action) → length (actionRecord o x) ≡ actionWords
 unfolding actionRecord
@@ -20,3 +22,16 @@ record-length o x = refl
 
 pub words-length : (o : ℕ) (xs : List Action) → length (wordsFrom o xs) ≡ length xs * actionWords
 words-length = Lent.words-length actionText actionRecord actionWords record-length
+
+pub words-joined : (o : ℕ) (xs : List Action) → joined (recordsFrom o xs) ≡ wordsFrom o xs
+words-joined = Lent.records-joined actionText actionRecord
+
+-- one record more, behind those before it
+pub each-record : (old : List ℕ) (i o : ℕ) (xs : List Action) (x : Action)
+    → stored (storedEach old i (recordsFrom o xs)) (i + length xs * actionWords) (actionRecord (o + length (texts xs)) x) ≡ storedEach old i (recordsFrom o (xs ++ (x ∷ [])))
+each-record old i o xs x =
+    let r = actionRecord (o + length (texts xs)) x in
+    let e : length (joined (recordsFrom o xs)) ≡ length xs * actionWords = ap length (words-joined o xs) ∙ words-length o xs in
+    ap (λ (n : ℕ). stored (storedEach old i (recordsFrom o xs)) (i + n) r) (sym e)
+    ∙ sym (each-more old i (recordsFrom o xs) r)
+    ∙ ap (storedEach old i) (sym (Lent.records-more actionText actionRecord o xs x))

@@ -3,7 +3,7 @@ use Prim.Native.Nat.{ℕ, _+_}
 use mathlib.Core.List.{List, [], _∷_}
 use lib.ListN.{length}
 use Rattle.lent.specs.Sizes.{spanWord}
-use Rattle.lent.specs.Layout.{textsOf, wordsOf}
+use Rattle.lent.specs.Layout.{textsOf, recordsOf, wordsOf}
 use Rattle.records.specs.Actions.{Slot, absent, present, Action, slotText, actionText}
 
 -- The span word of a text, the offset o being reached: an absent one is 0.
@@ -21,7 +21,11 @@ actionRecord o x =
     x .code ∷ x .number ∷ slotWord o (x .a) ∷ slotWord (slotEnd o (x .a)) (x .b) ∷ x .kind ∷
     slotWord (slotEnd (slotEnd o (x .a)) (x .b)) (x .c) ∷ []
 
--- The words of all actions, one record after another, the first text at the offset o; and their texts.
+-- The records of all actions, the first text at the offset o.
+abbrev pub recordsFrom : ℕ → List Action → List (List ℕ)
+recordsFrom = recordsOf actionRecord actionText
+
+-- Their words, one record after another; and their texts.
 abbrev pub wordsFrom : ℕ → List Action → List ℕ
 wordsFrom = wordsOf actionRecord actionText
 

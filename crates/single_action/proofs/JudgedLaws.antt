@@ -24,9 +24,10 @@ use Rattle.ascii.proofs.numbers.Number.{the-type as number-type}
 use Rattle.ascii.proofs.SplitLaws.{first-fits, split-halves, split-whole}
 use Rattle.names.specs.Severities.{severityCode}
 use Rattle.ascii.proofs.SameLaws.{never}
+use Rattle.records.specs.Codes.{transformationCode}
 use Rattle.single_action.specs.Marks.{stripped}
 use Rattle.single_action.specs.Setvar.{setvar}
-use Rattle.single_action.specs.Table.{Rule, plain, wanted, unmarked, upTo, severity, equation, expiry, setting, Row, rowAt, Placed}
+use Rattle.single_action.specs.Table.{Rule, plain, wanted, unmarked, upTo, severity, equation, expiry, setting, Row, largest, rowAt, Placed}
 use Rattle.single_action.specs.Actions.{Action, action, numbered, absent, present, done, bad, unknown, numberBy, lookupBy, severityBy, bothBy, seconds, expiryBy, setvarAction, withText, withNone, named, transforms, single}
 use Rattle.single_action.specs.Plans.{cut, Planned, textPlan, Judged, Stripped}
 use Rattle.single_action.specs.declared.plans.Plan.{Plan}
@@ -81,7 +82,7 @@ module _ (s : List ℕ) (from code : ℕ) (h : from ≤ length s) (n : ℕ) (e :
   pub expiry-whole : length s ≤ from + n → Planned s (textPlan code 0 (Copied from (from + n))) (expiryBy code (split 61 (drop from s)))
   expiry-whole l = rw (together l) (copied-plan s code 0 from (from + n) (cut s from (from + n)) (omega arith) equals-within refl)
 
-  pub expiry-halves : from + n < length s → (k : ℕ) → seconds (unsignedBy 18446744073709551615 (cut s (from + n + 1) (length s))) ≡ k
+  pub expiry-halves : from + n < length s → (k : ℕ) → seconds (unsignedBy (largest 64) (cut s (from + n + 1) (length s))) ≡ k
       → Planned s (textPlan code k (Copied from (from + n))) (expiryBy code (split 61 (drop from s)))
   expiry-halves l k q = rw (apart l, q) (copied-plan s code k from (from + n) (cut s from (from + n)) (omega arith) equals-within refl)
 
@@ -115,7 +116,7 @@ module _ {s : List ℕ} {from : ℕ} {r : Row} {code : ℕ} {rule : Rule} (k : R
   text-number w = rw (sym (k .ruled) ∙ w, cut-end s from)
 
   pub text-severity : rule ≡ severity → {p : Part} → Stripped s from p
-      → withText (r .rule) r (drop from s) ≡ severityBy r (cut s (p .first) (p .past)) (unsignedBy 255 (cut s (p .first) (p .past)))
+      → withText (r .rule) r (drop from s) ≡ severityBy r (cut s (p .first) (p .past)) (unsignedBy (largest 8) (cut s (p .first) (p .past)))
   unfolding withText
   text-severity w m = rw (sym (k .ruled) ∙ w, m .text)
 
@@ -178,9 +179,9 @@ transform-long s e = go (ltb (length s) 2) refl
     go true l = let q = transform-short s (ltb-true (length s) 2 l) in absurd (never cc)
     go false l = ltb-false (length s) 2 l
 
-pub transform-done : (s : List ℕ) → transforms s ≡ true → Judged s (Done (textPlan 32 0 (Copied 2 (length s)))) (single s)
+pub transform-done : (s : List ℕ) → transforms s ≡ true → Judged s (Done (textPlan transformationCode 0 (Copied 2 (length s)))) (single s)
 unfolding single
-transform-done s e = rw e (done-plan s (copied-plan s 32 0 2 (length s) (drop 2 s) (transform-long s e) (omega arith) (cut-end s 2)))
+transform-done s e = rw e (done-plan s (copied-plan s transformationCode 0 2 (length s) (drop 2 s) (transform-long s e) (omega arith) (cut-end s 2)))
 
 -- the name stands before the first `:`, and it is no transformation
 pub record Parted (s : List ℕ) (n : ℕ) : Type 0 where

@@ -10,3 +10,4 @@ pub mod CutLaws
 pub mod SettingLaws
 pub mod JudgedLaws
 pub mod SaidLaws
+pub mod MadeLaws

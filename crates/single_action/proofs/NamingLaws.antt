@@ -51,13 +51,6 @@ all-shelved = refl
 short : ℕ → Bool
 short k = leb (length (rowAt k .name)) 15
 
-low : ℕ → Bool
-low k = leb (rowAt k .code) 255
-
-all-low : every low 41 ≡ true
-unfolding every low rows
-all-low = refl
-
 all-short : every short 41 ≡ true
 unfolding every short rows bytes
 all-short = refl
@@ -79,10 +72,6 @@ module _ (k : ℕ) (h : k < 41) where
 
   pub code-at : getD codes k 0 ≡ rowAt k .code
   code-at = getD-map (λ (r : Row). r .code) rows k (row "" 0 plain) 0 inside
-
-  pub code-fits : Fits w64 (getD codes k 0)
-  unfolding low
-  code-fits = let l : rowAt k .code ≤ 255 = leb-true _ _ (at low 41 all-low k h) in omega (arith, l, code-at)
 
   pub length-fits : Fits w64 (getD lengths k 0)
   length-fits = omega (arith, length-at, length-short)

@@ -20,9 +20,10 @@ use Rattle.names.specs.declared.Lookup.{Lookup}
 use Rattle.names.specs.declared.Lookup.the-variants.{Code, Unknown}
 use Rattle.names.specs.Severities.{severityCode}
 use Rattle.ascii.proofs.SameLaws.{and-left, and-right, same-true}
+use Rattle.records.specs.Codes.{transformationCode}
 use Rattle.single_action.specs.Marks.{stripped}
 use Rattle.single_action.specs.Setvar.{setvar}
-use Rattle.single_action.specs.Table.{Rule, plain, wanted, unmarked, upTo, severity, equation, expiry, setting, Row, rows, Found, found, missing, find}
+use Rattle.single_action.specs.Table.{Rule, plain, wanted, unmarked, upTo, severity, equation, expiry, setting, Row, largest, rows, Found, found, missing, find}
 use Rattle.single_action.specs.Actions.{absent, present, slotText, actionText, worded, Single, done, bad, unknown, textOf, setvarAction, numberBy, lookupBy, severityBy, bothBy, expiryBy, withText, withNone, foundBy, named, splitBy, single}
 use Rattle.single_action.proofs.MarkLaws.{stripped-short}
 use Rattle.single_action.proofs.SetvarLaws.{setvar-short}
@@ -82,7 +83,7 @@ with-text plain r t n h k = omega arith
 with-text wanted r t n h k = omega (arith, worded-within (r .code) t)
 with-text unmarked r t n h k = omega (arith, worded-within (r .code) (stripped t), stripped-short t)
 with-text (upTo most) r t n h k = number-within n r (unsignedBy most t) h
-with-text severity r t n h k = severity-within n r (stripped t) (unsignedBy 255 (stripped t)) h
+with-text severity r t n h k = severity-within n r (stripped t) (unsignedBy (largest 8) (stripped t)) h
 with-text equation r t n h k = omega (arith, both-within (r .code) (split 61 t), split-spread 61 t)
 with-text expiry r t n h k = omega (arith, expiry-within (r .code) (split 61 t), split-spread 61 t)
 with-text setting r t n h k = omega (arith, setvar-text (r .code) t)
@@ -144,6 +145,6 @@ pub single-within : (s : List ℕ) → Within (length s) (single s)
 unfolding single
 single-within s = go (same (take 2 s) (bytes "t:")) (rw split-spread at (split-within (split 58 s)))
   where
-    go : (t : Bool) → Within (length s) (splitBy (split 58 s)) → Within (length s) (pick t (done (worded 32 (drop 2 s))) (splitBy (split 58 s)))
-    go true h = omega (arith, worded-within 32 (drop 2 s), length-drop 2 s)
+    go : (t : Bool) → Within (length s) (splitBy (split 58 s)) → Within (length s) (pick t (done (worded transformationCode (drop 2 s))) (splitBy (split 58 s)))
+    go true h = omega (arith, worded-within transformationCode (drop 2 s), length-drop 2 s)
     go false h = h

@@ -1,7 +1,7 @@
 -- One action of a list: parse_single_action.
 use Prim.Native.Nat.{ℕ}
 use mathlib.Core.Bool.{Bool}
-use mathlib.Core.List.{List, [], _++_}
+use mathlib.Core.List.{List, []}
 use lib.ListN.{take, drop}
 use Rattle.ascii.specs.Choice.{pick}
 use Rattle.ascii.specs.Text.{bytes}
@@ -13,32 +13,12 @@ use Rattle.ascii.specs.declared.numbers.Number.the-variants.{Value, Unreadable,
 use Rattle.names.specs.declared.Lookup.{Lookup}
 use Rattle.names.specs.declared.Lookup.the-variants.{Code, Unknown}
 use Rattle.names.specs.Severities.{severityCode}
+use Rattle.records.specs.Codes.{stringKind, intKind, incrementKind, decrementKind, deleteKind, macroKind, transformationCode}
+pub use Rattle.records.specs.Actions.{Slot, absent, present, Action, slotText}
+unfoldable pub use Rattle.records.specs.Actions.{actionText}
 use Rattle.single_action.specs.Marks.{stripped}
 use Rattle.single_action.specs.Setvar.{SetValue, text, int, increment, decrement, delete, macro, Setvar, setvar}
-use Rattle.single_action.specs.Table.{Rule, plain, wanted, unmarked, upTo, severity, equation, expiry, setting, Row, rows, Found, found, missing, find}
-
--- A text that may be absent; a present one may be empty.
-pub data Slot : Type 0 where
-  absent : Slot
-  present : List ℕ → Slot
-
--- What a record of an action says: code, number, texts a, b and c, value kind.
-pub record Action : Type 0 where
-  pub code : ℕ
-  pub number : ℕ
-  pub a : Slot
-  pub b : Slot
-  pub kind : ℕ
-  pub c : Slot
-
--- The bytes of a text.
-abbrev pub slotText : Slot → List ℕ
-slotText absent = []
-slotText (present t) = t
-
--- The texts of one action, in the order a, b, c.
-unfoldable pub actionText : Action → List ℕ
-actionText x = slotText (x .a) ++ (slotText (x .b) ++ slotText (x .c))
+use Rattle.single_action.specs.Table.{Rule, plain, wanted, unmarked, upTo, severity, equation, expiry, setting, Row, largest, rows, Found, found, missing, find}
 
 -- An action with this code, number, a and b, and no value.
 abbrev pub action : ℕ → ℕ → Slot → Slot → Action
@@ -60,12 +40,12 @@ pub data Single : Type 0 where
 
 -- The value kind: the variants of SetVarValue in their order, from 1.
 abbrev pub kindOf : SetValue → ℕ
-kindOf (text t) = 1
-kindOf (int n) = 2
-kindOf (increment n) = 3
-kindOf (decrement n) = 4
-kindOf delete = 5
-kindOf (macro t) = 6
+kindOf (text t) = stringKind
+kindOf (int n) = intKind
+kindOf (increment n) = incrementKind
+kindOf (decrement n) = decrementKind
+kindOf delete = deleteKind
+kindOf (macro t) = macroKind
 
 -- The amount of a SetVarValue, or 0.
 abbrev pub numberOf : SetValue → ℕ
@@ -120,7 +100,7 @@ seconds TooLarge = 0
 -- A variable and its seconds, as for expirevar in parse_single_action; without `=` they are 0.
 abbrev pub expiryBy : ℕ → Split → Action
 expiryBy k (whole a) = action k 0 (present a) absent
-expiryBy k (halves a b) = action k (seconds (unsignedBy 18446744073709551615 b)) (present a) absent
+expiryBy k (halves a b) = action k (seconds (unsignedBy (largest 64) b)) (present a) absent
 
 -- A row's rule on the argument that is there: an arm of parse_single_action.
 unfoldable pub withText : Rule → Row → List ℕ → Single
@@ -128,7 +108,7 @@ withText plain r t = done (numbered (r .code) 0)
 withText wanted r t = done (worded (r .code) t)
 withText unmarked r t = done (worded (r .code) (stripped t))
 withText (upTo most) r t = numberBy r (unsignedBy most t)
-withText severity r t = severityBy r (stripped t) (unsignedBy 255 (stripped t))
+withText severity r t = severityBy r (stripped t) (unsignedBy (largest 8) (stripped t))
 withText equation r t = done (bothBy (r .code) (split 61 t))
 withText expiry r t = done (expiryBy (r .code) (split 61 t))
 withText setting r t = done (setvarAction (r .code) (setvar t))
@@ -169,4 +149,4 @@ transforms s = same (take 2 s) (bytes "t:")
 
 -- parse_single_action on a piece, which is trimmed.
 unfoldable pub single : List ℕ → Single
-single s = pick (transforms s) (done (worded 32 (drop 2 s))) (splitBy (split 58 s))
+single s = pick (transforms s) (done (worded transformationCode (drop 2 s))) (splitBy (split 58 s))

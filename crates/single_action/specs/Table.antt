@@ -1,6 +1,6 @@
 -- The action names and their rules: the arms of parse_single_action as rows.
 use mathlib.Core.Path.{_≡_}
-use Prim.Native.Nat.{ℕ, _≤_, _<_}
+use Prim.Native.Nat.{ℕ, _-_, _^_, _≤_, _<_}
 use Prim.Native.String.{String}
 use mathlib.Core.List.{List, [], _∷_}
 use lib.ListN.{getD}
@@ -8,6 +8,7 @@ use lib.Dec.{eqb}
 use Rattle.ascii.specs.Choice.{pick}
 use Rattle.ascii.specs.Text.{bytes}
 use Rattle.ascii.specs.Fold.{lowered, sameLowered}
+use Rattle.records.specs.Codes as K
 pub use Rattle.single_action.specs.declared.naming.Rule.{Rule}
 pub use Rattle.single_action.specs.declared.naming.Rule.the-variants.{Plain as plain, Wanted as wanted, Unmarked as unmarked, UpTo as upTo, Severity as severity, Equation as equation, Expiry as expiry, Setting as setting}
 
@@ -21,50 +22,54 @@ pub record Row : Type 0 where
 abbrev pub row : String → ℕ → Rule → Row
 row n c r = record { name = bytes n; code = c; rule = r }
 
+-- The largest number of so many bits.
+abbrev pub largest : ℕ → ℕ
+largest bits = 2 ^ bits - 1
+
 -- The rows in the order of the arms of parse_single_action.
 unfoldable pub rows : List Row
 rows =
-    row "deny" 1 plain ∷
-    row "block" 2 plain ∷
-    row "pass" 3 plain ∷
-    row "allow" 4 plain ∷
-    row "drop" 5 plain ∷
-    row "redirect" 6 wanted ∷
-    row "chain" 7 plain ∷
-    row "skip" 8 (upTo 4294967295) ∷
-    row "skipAfter" 9 wanted ∷
-    row "id" 11 (upTo 18446744073709551615) ∷
-    row "phase" 12 (upTo 255) ∷
-    row "severity" 13 severity ∷
-    row "msg" 14 unmarked ∷
-    row "tag" 15 unmarked ∷
-    row "rev" 16 unmarked ∷
-    row "ver" 17 unmarked ∷
-    row "maturity" 18 (upTo 255) ∷
-    row "accuracy" 19 (upTo 255) ∷
-    row "logdata" 20 unmarked ∷
-    row "status" 21 (upTo 65535) ∷
-    row "setvar" 22 setting ∷
-    row "capture" 23 plain ∷
-    row "log" 26 plain ∷
-    row "nolog" 27 plain ∷
-    row "auditlog" 28 plain ∷
-    row "noauditlog" 29 plain ∷
-    row "sanitisematched" 30 plain ∷
-    row "sanitizematched" 30 plain ∷
-    row "ctl" 31 equation ∷
-    row "initcol" 24 equation ∷
-    row "setsid" 29 plain ∷
-    row "setuid" 29 plain ∷
-    row "deprecatevar" 29 plain ∷
-    row "expirevar" 25 expiry ∷
-    row "multimatch" 10 plain ∷
-    row "exec" 29 plain ∷
-    row "append" 29 plain ∷
-    row "prepend" 29 plain ∷
-    row "proxy" 29 plain ∷
-    row "pause" 29 plain ∷
-    row "xmlns" 29 plain ∷
+    row "deny" K.denyCode plain ∷
+    row "block" K.blockCode plain ∷
+    row "pass" K.passCode plain ∷
+    row "allow" K.allowCode plain ∷
+    row "drop" K.dropCode plain ∷
+    row "redirect" K.redirectCode wanted ∷
+    row "chain" K.chainCode plain ∷
+    row "skip" K.skipCode (upTo (largest 32)) ∷
+    row "skipAfter" K.skipAfterCode wanted ∷
+    row "id" K.idCode (upTo (largest 64)) ∷
+    row "phase" K.phaseCode (upTo (largest 8)) ∷
+    row "severity" K.severityCode severity ∷
+    row "msg" K.msgCode unmarked ∷
+    row "tag" K.tagCode unmarked ∷
+    row "rev" K.revCode unmarked ∷
+    row "ver" K.verCode unmarked ∷
+    row "maturity" K.maturityCode (upTo (largest 8)) ∷
+    row "accuracy" K.accuracyCode (upTo (largest 8)) ∷
+    row "logdata" K.logDataCode unmarked ∷
+    row "status" K.statusCode (upTo (largest 16)) ∷
+    row "setvar" K.setVarCode setting ∷
+    row "capture" K.captureCode plain ∷
+    row "log" K.logCode plain ∷
+    row "nolog" K.noLogCode plain ∷
+    row "auditlog" K.auditLogCode plain ∷
+    row "noauditlog" K.noAuditLogCode plain ∷
+    row "sanitisematched" K.sanitiseMatchedCode plain ∷
+    row "sanitizematched" K.sanitiseMatchedCode plain ∷
+    row "ctl" K.controlCode equation ∷
+    row "initcol" K.initColCode equation ∷
+    row "setsid" K.noAuditLogCode plain ∷
+    row "setuid" K.noAuditLogCode plain ∷
+    row "deprecatevar" K.noAuditLogCode plain ∷
+    row "expirevar" K.expireVarCode expiry ∷
+    row "multimatch" K.multiMatchCode plain ∷
+    row "exec" K.noAuditLogCode plain ∷
+    row "append" K.noAuditLogCode plain ∷
+    row "prepend" K.noAuditLogCode plain ∷
+    row "proxy" K.noAuditLogCode plain ∷
+    row "pause" K.noAuditLogCode plain ∷
+    row "xmlns" K.noAuditLogCode plain ∷
     []
 
 -- A row, or that there is none.
@@ -105,10 +110,10 @@ unfoldable pub ruleOf : ℕ → Rule
 ruleOf n =
     pick (eqb n 1) wanted
     (pick (eqb n 2) unmarked
-    (pick (eqb n 3) (upTo 255)
-    (pick (eqb n 4) (upTo 65535)
-    (pick (eqb n 5) (upTo 4294967295)
-    (pick (eqb n 6) (upTo 18446744073709551615)
+    (pick (eqb n 3) (upTo (largest 8))
+    (pick (eqb n 4) (upTo (largest 16))
+    (pick (eqb n 5) (upTo (largest 32))
+    (pick (eqb n 6) (upTo (largest 64))
     (pick (eqb n 7) severity
     (pick (eqb n 8) equation
     (pick (eqb n 9) expiry

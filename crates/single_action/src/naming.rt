@@ -5,6 +5,13 @@ ghost use lib.ListN.{length};
 ghost use Rattle.lent.specs.Buffers.{stored};
 ghost use Rattle.single_action.specs.Table.{rowAt, ruleOf};
 
+// The largest number of each width.
+pub const LARGEST_8: u64 = u8::MAX as u64;
+
+const LARGEST_16: u64 = u16::MAX as u64;
+
+const LARGEST_32: u64 = u32::MAX as u64;
+
 // What is done with an argument.
 pub enum Rule {
     // nothing
@@ -74,48 +81,48 @@ const LENGTHS: [u8; 41] = [
     5, // xmlns
 ];
 
-const CODES: [u8; 41] = [
-    1, // deny
-    2, // block
-    3, // pass
-    4, // allow
-    5, // drop
-    6, // redirect
-    7, // chain
-    8, // skip
-    9, // skipAfter
-    11, // id
-    12, // phase
-    13, // severity
-    14, // msg
-    15, // tag
-    16, // rev
-    17, // ver
-    18, // maturity
-    19, // accuracy
-    20, // logdata
-    21, // status
-    22, // setvar
-    23, // capture
-    26, // log
-    27, // nolog
-    28, // auditlog
-    29, // noauditlog
-    30, // sanitisematched
-    30, // sanitizematched
-    31, // ctl
-    24, // initcol
-    29, // setsid
-    29, // setuid
-    29, // deprecatevar
-    25, // expirevar
-    10, // multimatch
-    29, // exec
-    29, // append
-    29, // prepend
-    29, // proxy
-    29, // pause
-    29, // xmlns
+const CODES: [u64; 41] = [
+    records::DENY, // deny
+    records::BLOCK, // block
+    records::PASS, // pass
+    records::ALLOW, // allow
+    records::DROP, // drop
+    records::REDIRECT, // redirect
+    records::CHAIN, // chain
+    records::SKIP, // skip
+    records::SKIP_AFTER, // skipAfter
+    records::ID, // id
+    records::PHASE, // phase
+    records::SEVERITY, // severity
+    records::MSG, // msg
+    records::TAG, // tag
+    records::REV, // rev
+    records::VER, // ver
+    records::MATURITY, // maturity
+    records::ACCURACY, // accuracy
+    records::LOG_DATA, // logdata
+    records::STATUS, // status
+    records::SET_VAR, // setvar
+    records::CAPTURE, // capture
+    records::LOG, // log
+    records::NO_LOG, // nolog
+    records::AUDIT_LOG, // auditlog
+    records::NO_AUDIT_LOG, // noauditlog
+    records::SANITISE_MATCHED, // sanitisematched
+    records::SANITISE_MATCHED, // sanitizematched
+    records::CONTROL, // ctl
+    records::INIT_COL, // initcol
+    records::NO_AUDIT_LOG, // setsid
+    records::NO_AUDIT_LOG, // setuid
+    records::NO_AUDIT_LOG, // deprecatevar
+    records::EXPIRE_VAR, // expirevar
+    records::MULTI_MATCH, // multimatch
+    records::NO_AUDIT_LOG, // exec
+    records::NO_AUDIT_LOG, // append
+    records::NO_AUDIT_LOG, // prepend
+    records::NO_AUDIT_LOG, // proxy
+    records::NO_AUDIT_LOG, // pause
+    records::NO_AUDIT_LOG, // xmlns
 ];
 
 const RULES: [u8; 41] = [
@@ -179,7 +186,7 @@ pub fn code_of(row: usize) -> u64
     requires { ⌜ row < 41 ⌝ }
     ensures { λ r. ⌜ r ≡ rowAt row .code ⌝ }
 {
-    CODES[row] as u64
+    CODES[row]
 }
 
 // The rule by its number in the table.
@@ -189,10 +196,10 @@ fn numbered_rule(number: u8) -> Rule
     match number {
         1 => Rule::Wanted,
         2 => Rule::Unmarked,
-        3 => Rule::UpTo(255),
-        4 => Rule::UpTo(65535),
-        5 => Rule::UpTo(4294967295),
-        6 => Rule::UpTo(18446744073709551615),
+        3 => Rule::UpTo(LARGEST_8),
+        4 => Rule::UpTo(LARGEST_16),
+        5 => Rule::UpTo(LARGEST_32),
+        6 => Rule::UpTo(u64::MAX),
         7 => Rule::Severity,
         8 => Rule::Equation,
         9 => Rule::Expiry,

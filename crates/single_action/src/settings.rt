@@ -2,6 +2,7 @@
 ghost use mathlib.Core.Path.{_≡_};
 ghost use Prim.Native.Nat.{_≤_};
 ghost use lib.ListN.{length, drop};
+ghost use Rattle.records.specs.Codes.{setVarCode};
 ghost use Rattle.single_action.specs.Setvar.{nameOf, plainValue, valueOf, setvarBare, setvar};
 ghost use Rattle.single_action.specs.Actions.{setvarAction};
 ghost use Rattle.single_action.specs.Plans.{cut, stepPlan, setvarPlan, NamePlanned, ValuePlanned, Planned};
@@ -70,20 +71,20 @@ fn plain_value(s: &[u8], first: usize, past: usize) -> ValuePlan
 {
     if first < past {
         match s[first] {
-            43 => return step(3, ascii::signed(&s[first + 1..past])),
-            45 => return step(4, ascii::signed(&s[first + 1..past])),
+            43 => return step(records::INCREMENT_KIND, ascii::signed(&s[first + 1..past])),
+            45 => return step(records::DECREMENT_KIND, ascii::signed(&s[first + 1..past])),
             _ => {}
         }
     }
     match ascii::signed(&s[first..past]) {
         Number::Value(number) => ValuePlan {
             number,
-            kind: 2,
+            kind: records::INT_KIND,
             text: Origin::Absent,
         },
         _ => ValuePlan {
             number: 0,
-            kind: 1,
+            kind: records::STRING_KIND,
             text: Origin::Copied { first, past },
         },
     }
@@ -98,7 +99,7 @@ fn value_plan(s: &[u8], first: usize, past: usize) -> ValuePlan
     if has_macro(&s[first..past]) {
         return ValuePlan {
             number: 0,
-            kind: 6,
+            kind: records::MACRO_KIND,
             text: Origin::Copied { first, past },
         };
     }
@@ -132,7 +133,7 @@ fn bare_plan(s: &[u8], first: usize, past: usize, code: u64) -> Plan
         if s[first] == b'!' {
             let deleted = ValuePlan {
                 number: 0,
-                kind: 5,
+                kind: records::DELETE_KIND,
                 text: Origin::Absent,
             };
             return setvar_of(code, name_plan(s, first + 1, past), deleted);
@@ -142,7 +143,7 @@ fn bare_plan(s: &[u8], first: usize, past: usize, code: u64) -> Plan
     if past <= equals {
         let one = ValuePlan {
             number: 0,
-            kind: 1,
+            kind: records::STRING_KIND,
             text: Origin::One,
         };
         return setvar_of(code, name_plan(s, first, past), one);
@@ -168,9 +169,9 @@ pub fn setvar_plan(s: &[u8], from: usize, code: u64) -> Plan
     bare_plan(s, first, past, code)
 }
 
-// A setvar specification alone, which has the code 22.
+// A setvar specification alone, which has the code of SetVar.
 pub fn read_setvar(s: &[u8]) -> Plan
-    ensures { λ r. ⌜ Planned (now (s .entry)) r (setvarAction 22 (setvar (now (s .entry)))) ⌝ }
+    ensures { λ r. ⌜ Planned (now (s .entry)) r (setvarAction setVarCode (setvar (now (s .entry)))) ⌝ }
 {
-    setvar_plan(s, 0, 22)
+    setvar_plan(s, 0, records::SET_VAR)
 }

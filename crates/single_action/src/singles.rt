@@ -5,11 +5,12 @@ ghost use Prim.Native.Nat.{ℕ, _≤_, _<_};
 ghost use lib.ListN.{length, drop};
 ghost use Rattle.ascii.specs.Numbers.{unsignedBy};
 ghost use Rattle.ascii.specs.Splits.{split};
-ghost use Rattle.single_action.specs.Table.{rowAt};
+ghost use Rattle.single_action.specs.Table.{largest, rowAt};
 ghost use Rattle.single_action.specs.Actions.{numberBy, severityBy, bothBy, expiryBy, withText, withNone, transforms, single};
 ghost use Rattle.single_action.specs.Plans.{textPlan, Planned, Judged};
 use crate::finding::row_of;
 use crate::marking::unmarked;
+use crate::naming::LARGEST_8;
 use crate::naming::Rule;
 use crate::naming::code_of;
 use crate::naming::rule_of;
@@ -49,9 +50,9 @@ fn number_verdict(row: usize, n: Number) -> Verdict
 // parse_severity: a number of the width u8 first, then the words.
 fn severity_verdict(row: usize, word: &[u8]) -> Verdict
     requires { ⌜ row < 41 ⌝ }
-    ensures { λ r. ⌜ ((s : List ℕ) → Judged s r (severityBy (rowAt row) (now (word .entry)) (unsignedBy 255 (now (word .entry))))) ⌝ }
+    ensures { λ r. ⌜ ((s : List ℕ) → Judged s r (severityBy (rowAt row) (now (word .entry)) (unsignedBy (largest 8) (now (word .entry))))) ⌝ }
 {
-    if let Number::Value(v) = ascii::unsigned(word, 255) {
+    if let Number::Value(v) = ascii::unsigned(word, LARGEST_8) {
         return Verdict::Done(text_plan(code_of(row), v, Origin::Absent));
     }
     match names::severity_code(word) {
@@ -97,7 +98,7 @@ fn expiry_plan(s: &[u8], from: usize, code: u64) -> Plan
     if s.len() <= equals {
         return text_plan(code, 0, name);
     }
-    match ascii::unsigned(&s[equals + 1..], 18446744073709551615) {
+    match ascii::unsigned(&s[equals + 1..], u64::MAX) {
         Number::Value(seconds) => text_plan(code, seconds, name),
         Number::Unreadable => text_plan(code, 0, name),
         Number::TooLarge => text_plan(code, 0, name),
@@ -165,7 +166,11 @@ pub fn read_single(s: &[u8]) -> Verdict
 {
     let past = s.len();
     if is_transform(s) {
-        return Verdict::Done(text_plan(32, 0, Origin::Copied { first: 2, past }));
+        return Verdict::Done(text_plan(
+            records::TRANSFORMATION,
+            0,
+            Origin::Copied { first: 2, past },
+        ));
     }
     let colon = ascii::first_of(s, b':');
     let row = row_of(&s[..colon]);

@@ -3,7 +3,7 @@ use mathlib.Core.Path.{_≡_, _∙_, sym}
 use denote.Ref.{now}
 use Rattle.ascii.specs.Numbers.{unsignedBy}
 use Rattle.names.specs.Severities.{severityCode}
-use Rattle.single_action.specs.Table.{rowAt}
+use Rattle.single_action.specs.Table.{largest, rowAt}
 use Rattle.single_action.specs.Actions.{lookupBy, severityBy}
 use Rattle.single_action.proofs.JudgedLaws.{done-plan, bad-row, number-plan, severity-word}
 use borrow.Author.Needs.{needs}
@@ -17,10 +17,10 @@ returns c =
     (done-plan s (number-plan s (rowAt (c .before .before .before .before .before .before .before .args .row) .code) (c .before .before .before .v .given .0 .0)))
 
 -- no number was read
-word : (c : tie.At-match-keys2) → let s = c .before .before .before .args in severityBy (rowAt (s .row)) (now (s .word)) (unsignedBy 255 (now (s .word))) ≡ lookupBy (rowAt (s .row)) (severityCode (now (s .word)))
+word : (c : tie.At-match-keys2) → let s = c .before .before .before .args in severityBy (rowAt (s .row)) (now (s .word)) (unsignedBy (largest 8) (now (s .word))) ≡ lookupBy (rowAt (s .row)) (severityCode (now (s .word)))
 word c =
     let s = c .before .before .before .args in
-    severity-word (rowAt (s .row)) (now (s .word)) (unsignedBy 255 (now (s .word))) (rw (c .before .unsigned .ensures) at (c .match .keys2))
+    severity-word (rowAt (s .row)) (now (s .word)) (unsignedBy (largest 8) (now (s .word))) (rw (c .before .unsigned .ensures) at (c .match .keys2))
 
 returns-2 : tie.Need-returns-2
 returns-2 c =
