@@ -6,6 +6,7 @@ use native.Mathlib.Omega.{arith}
 use lib.ListN.{length, length-append}
 use Rattle.lent.specs.Table.{tooLong, notAscii, shortBuffer, noRoom, named, noAction, noArgument, noVariable, unknownOperator, badCursor, Outcome, refuses, reads}
 use Rattle.lent.specs.Layout.{textsOf}
+use Rattle.records.specs.Codes.{setVarCode}
 use Rattle.single_action.specs.Setvar.{setvar}
 use Rattle.single_action.specs.Actions.{Action, actionText, Single, done, bad, unknown, setvarAction, single}
 use Rattle.single_action.proofs.SingleLaws.{Within, setvar-text, single-within}
@@ -74,4 +75,4 @@ actions-fit s = fits-more (actionsFrom 0 (pieces (normalised s))) (total (pieces
 -- the texts of a setvar alone
 pub alone-fits : (s : List ℕ) → length (texts (setvarAlone s)) ≤ length s + 3
 unfolding textsOf
-alone-fits s = omega (arith, setvar-text 22 s, length-append (actionText (setvarAction 22 (setvar s))) [])
+alone-fits s = omega (arith, setvar-text setVarCode s, length-append (actionText (setvarAction setVarCode (setvar s))) [])

@@ -1,18 +1,18 @@
 -- The code's constants are the table's columns: names in rows of 16 bytes, lengths, codes and numbered rules.
 use mathlib.Core.Path.{_≡_, _∙_, refl, sym, ap}
-use mathlib.Core.Bool.{Bool, true, false}
+use mathlib.Core.Bool.{Bool, true}
 use mathlib.Core.List.{List, [], _∷_, _++_, map}
 use Prim.Native.Nat.{ℕ, _+_, _*_, _-_, _<_, _≤_}
 use native.Mathlib.Omega.{arith}
-use lib.ListN.{length, take, drop, getD, replicate, take-append-drop, List·getD-eq-default}
+use lib.ListN.{length, take, drop, getD, replicate, List·getD-eq-default}
 use mir.Syntax.{w64}
 use mir.Val.{Fits}
 use lib.Dec.{leb}
 use borrow.Author.Tests.{leb-true}
-use Rattle.ascii.specs.Choice.{pick}
 use Rattle.ascii.specs.Text.{bytes}
 use Rattle.ascii.specs.Fold.{same}
-use Rattle.lent.specs.Buffers.{placed, stored}
+use Rattle.lent.specs.Buffers.{stored}
+use Rattle.lent.proofs.BufferLaws.{stored-none}
 use Rattle.names.proofs.Tests.{every, at}
 use Rattle.ascii.proofs.SameLaws.{same-true}
 use Rattle.names.proofs.TableLaws.{getD-map}
@@ -107,18 +107,6 @@ pub past-name : (k : ℕ) → 41 ≤ k → rowAt k .name ≡ []
 unfolding bytes
 past-name k h = ap (λ (r : Row). r .name) (List·getD-eq-default rows (row "" 0 plain) {n = k} (rw rows-count h))
 
--- nothing stored changes nothing
-pub stored-none : (old : List ℕ) (i : ℕ) → old ≡ stored old i []
-unfolding stored
-stored-none old i = go (leb (i + 0) (length old))
-  where
-    e : i + 0 ≡ i
-    e = omega arith
-
-    go : (t : Bool) → old ≡ pick t (placed old i []) old
-    go true = rw e (sym (take-append-drop i old))
-    go false = refl
-
 -- its name is stored, and nothing changes
 pub past-stored : (k : ℕ) → 41 ≤ k → (out : List ℕ) → (out ≡ stored out 0 (rowAt k .name)) × (0 ≡ length (rowAt k .name))
-past-stored k h out = rw (past-name k h) (stored-none out 0, refl)
+past-stored k h out = rw (past-name k h) (sym (stored-none out 0), refl)
