@@ -59,6 +59,7 @@ demand1 = record {
     matches = gives _;
     phase = gives _;
     grade = gives _;
+    is-text = gives _;
   };
   of-lexer = record {
     start = gives _;

@@ -46,6 +46,7 @@ pub use Rattle.reader.proofs.reader_of.Met.{met as reader-of}
 pub use Rattle.reader.proofs.reader_at.Met.{met as reader-at}
 pub use Rattle.reader.proofs.next_of.Met.{met as next-of}
 pub use Rattle.reader.proofs.first_token.Met.{met as first-token}
+pub use Rattle.records.proofs.is_text.Met.{met as is-text}
 pub use Rattle.single_action.proofs.read_single.Met.{met as read-single}
 pub use Rattle.single_action.proofs.read_setvar.Met.{met as read-setvar}
 pub use Rattle.single_action.proofs.put_name.Met.{met as put-name}

@@ -3,10 +3,10 @@
 -- Said here of every public function: its promise asks nothing of what goes in, something can always come out, and only one thing
 -- (`Fixed`; `Gives` where the promise is an equation with a definition). That the code keeps each promise, and so ends: proofs/Functions.antt.
 use mathlib.Core.Path.{_≡_}
-use mathlib.Core.Bool.{Bool}
+use mathlib.Core.Bool.{Bool, false}
 use mathlib.Core.List.{List}
 use Prim.Native.Nat.{ℕ}
-use lib.ListN.{length}
+use lib.ListN.{length, getD}
 use Rattle.ascii.specs.Classes.{white, operatorNameEnd, digit, letter}
 use Rattle.ascii.specs.Fold.{lower, upper, same, sameLowered}
 use Rattle.ascii.specs.Trim.{leadingWhite, trimStart, trimEnd, trimEnds, trimmedPart}
@@ -24,6 +24,8 @@ use Rattle.lexer.specs.Promises as Lexer
 use Rattle.lexer.specs.declared.Cursor.{Cursor}
 use Rattle.lexer.specs.declared.stepping.Step.{Step}
 use Rattle.lexer.specs.declared.writing.Answer as Tokens
+use Rattle.records.specs.Codes.{setVarCode}
+use Rattle.records.specs.Marks.{marksFor}
 use Rattle.single_action.specs.Table.{rowAt}
 use Rattle.single_action.specs.Setvar.{setvar}
 use Rattle.single_action.specs.Actions.{single, setvarAction}
@@ -93,7 +95,7 @@ pub record OfLent : Type 0 where
   pub finish : Fixed Filling (Left Bool) finish-promise
   pub refuse-piece : Gives {Out = Two (List ℕ) (List ℕ)} (λ (i : Two (Two (List ℕ) (List ℕ)) (List ℕ)). (stored (zeros (length (i .0 .0))) 0 (i .1), zeros (length (i .0 .1))))
 
--- Lookups, and tests on a code, a selection, an id or records: they answer on anything, and never by the table.
+-- Lookups, and tests on a code, a selection, an id, records or a word of one: they answer on anything, and never by the table.
 pub record OfNames : Type 0 where
   pub variable-code : Gives variableCode
   pub operator-code : Gives operatorCode
@@ -105,6 +107,7 @@ pub record OfNames : Type 0 where
   pub matches : Gives (λ (i : Two RuleIdSelector ℕ). matched (i .0) (i .1))
   pub phase : Gives (λ words. phaseOf (entries words))
   pub grade : Gives (λ words. grades (entries words))
+  pub is-text : Gives (λ (i : Two (Two ℕ ℕ) ℕ). getD (marksFor (i .0 .0) (i .0 .1)) (i .1) false)
 
 -- ---- the readers
 
@@ -122,7 +125,7 @@ pub record OfLexer : Type 1 where
 -- So these two are the exception: their promise says what a verdict means, and that some verdict comes is the code's theorem.
 pub record OfSingles : Type 0 where
   pub read-single : (s : List ℕ) (v w : Verdict) → Judged s v (single s) → Judged s w (single s) → verdictSingle s v ≡ verdictSingle s w
-  pub read-setvar : (s : List ℕ) (p q : Plan) → Planned s p (setvarAction 22 (setvar s)) → Planned s q (setvarAction 22 (setvar s)) → planAction s p ≡ planAction s q
+  pub read-setvar : (s : List ℕ) (p q : Plan) → Planned s p (setvarAction setVarCode (setvar s)) → Planned s q (setvarAction setVarCode (setvar s)) → planAction s p ≡ planAction s q
   pub put-name : Gives {Out = Two (List ℕ) ℕ} (λ (i : Two ℕ (List ℕ)). (stored (i .1) 0 (rowAt (i .0) .name), length (rowAt (i .0) .name)))
 
 pub record OfParsers : Type 0 where
