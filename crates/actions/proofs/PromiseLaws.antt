@@ -19,6 +19,7 @@ use Rattle.lent.proofs.StartLaws.{starts-is}
 use Rattle.lent.proofs.BufferLaws.{taken-first, each-fits}
 use Rattle.lent.proofs.EndLaws.{ended-told, ended-text, ended-records}
 use Rattle.lent.specs.Layout.{textsOf, recordsOf}
+use Rattle.records.specs.Codes.{setVarCode}
 use Rattle.single_action.specs.Setvar.{setvar}
 use Rattle.single_action.specs.Actions.{Action, actionText, setvarAction}
 use Rattle.single_action.specs.Plans.{planAction, Planned}
@@ -165,16 +166,16 @@ module _ (s text records : List ℕ) {g : Gate} (e : g ≡ gateOf s (length text
   alone-short f = let z = sym e ∙ f in record { answer = rw z; texts = rw z; words = rw z }
 
   -- the one action fits, and stands laid out
-  module _ (f : g ≡ Gate.Open) (plan : Plan) (p : Planned s plan (setvarAction 22 (setvar s))) where
+  module _ (f : g ≡ Gate.Open) (plan : Plan) (p : Planned s plan (setvarAction setVarCode (setvar s))) where
     pub alone-room : (length (actionText (planAction s plan)) ≤ length text) × (length (actionText (planAction s plan)) < spanBase)
     alone-room =
         let o = open-is s (length text) (length s + 3) .0 (sym e ∙ f) in
-        let h : length (actionText (planAction s plan)) ≤ length s + 3 = rw (p .means) (setvar-text 22 s) in
+        let h : length (actionText (planAction s plan)) ≤ length s + 3 = rw (p .means) (setvar-text setVarCode s) in
         (omega (arith, h, o .room), omega (arith, h, o .within))
 
     pub alone-read : {text₁ text′ records₁ records′ : List ℕ} {used : ℕ} {r : Answer} → Put (planAction s plan) 0 0 text text₁ records records₁ used
         → Ended used 1 text₁ text′ records₁ records′ r → SetvarAlone s text text′ records records′ r
     alone-read x y =
         let b = setvar-by s (length text) (length records) Gate.Open (sym e ∙ f) in
-        let m = finished-met (laid-alone (setvarAction 22 (setvar s)) (rw (p .means) at x)) (omega (arith, x .end, alone-room)) y in
+        let m = finished-met (laid-alone (setvarAction setVarCode (setvar s)) (rw (p .means) at x)) (omega (arith, x .end, alone-room)) y in
         record { answer = rw b (m .answer); texts = rw b (m .texts); words = rw b (m .words) }

@@ -160,7 +160,7 @@ pub fn parse_actions(
     }
 }
 
-// A setvar specification alone, which is not normalised: one record with code 22.
+// A setvar specification alone, which is not normalised: one record with the code of SetVar.
 pub fn parse_setvar(input: &[u8], text: &mut [u8], records: &mut [u64]) -> Answer
     ensures { λ r. ⌜ SetvarAlone (now (input .entry)) (now (text .entry)) (now (text .exit)) (now (records .entry)) (now (records .exit)) r ⌝ }
 {
