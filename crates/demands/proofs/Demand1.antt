@@ -4,7 +4,7 @@ use Rattle.lexer.specs.Cursors.{fresh}
 use Rattle.single_action.proofs.SaidLaws.{verdict-said, plan-said}
 use Rattle.demands.specs.Demand1.{Demand1}
 use Rattle.demands.proofs.FixedLaws.{gives, finish-fixed}
-use Rattle.demands.proofs.TokenCalls.{next-token-fixed, tokens-fixed, tokens-row}
+use Rattle.demands.proofs.TokenCalls.{step-in-fixed, next-token-fixed, tokens-fixed, tokens-row}
 use Rattle.demands.proofs.ActionCalls.{parse-actions-fixed, parse-setvar-fixed, parse-actions-row, parse-setvar-row}
 use Rattle.demands.proofs.VariableCalls.{read-targets-fixed, parse-variables-fixed, parse-update-targets-fixed, parse-variables-row, parse-update-targets-row}
 use Rattle.demands.proofs.OperatorCalls.{operator-in-fixed, parse-operator-fixed, operator-argument-fixed}
@@ -63,6 +63,7 @@ demand1 = record {
   };
   of-lexer = record {
     start = gives _;
+    step-in = step-in-fixed;
     next-token = next-token-fixed;
     tokens = tokens-fixed;
     reader-of = λ Ref. gives _;

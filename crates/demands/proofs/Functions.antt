@@ -40,6 +40,7 @@ pub use Rattle.names.proofs.variable_code.Met.{met as variable-code}
 pub use Rattle.spellings.proofs.operator_code.Met.{met as spelled-operator-code}
 pub use Rattle.spellings.proofs.variable_code.Met.{met as spelled-variable-code}
 pub use Rattle.lexer.proofs.next_token.Met.{met as next-token}
+pub use Rattle.lexer.proofs.step_in.Met.{met as step-in}
 pub use Rattle.lexer.proofs.start.Met.{met as start}
 pub use Rattle.lexer.proofs.tokens.Met.{met as tokens}
 pub use Rattle.reader.proofs.reader_of.Met.{met as reader-of}

@@ -4,7 +4,7 @@ use mathlib.Core.Bool.{Bool}
 use mathlib.Core.List.{List}
 use Rattle.lent.specs.Endings.{Finished}
 use Rattle.lexer.specs.declared.Cursor.{Cursor}
-use Rattle.lexer.specs.Promises.{NextToken, Tokens}
+use Rattle.lexer.specs.Promises.{StepIn, NextToken, Tokens}
 use Rattle.lexer.specs.declared.stepping.Step.{Step}
 use Rattle.lexer.specs.declared.writing.Answer as Lexer
 use Rattle.actions.specs.Promises.{ParseActions, SetvarAlone}
@@ -54,11 +54,14 @@ finish-promise i o = Finished (i .used) (i .count) (i .width) (i .text) (o .text
 
 -- ---- the readers
 
--- next_token, next_of and first_token: a text, a cursor and a buffer for the token's text.
+-- step_in, next_token, next_of and first_token: a text, a cursor and a buffer for the token's text.
 pub record Place : Type 0 where
   pub input : List ℕ
   pub from : Cursor
   pub buffer : List ℕ
+
+abbrev pub step-in-promise : Place → Wrote Step → Type 0
+step-in-promise i o = StepIn (i .input) (i .from) (i .buffer) (o .buffer) (o .answer)
 
 abbrev pub next-token-promise : Place → Wrote Step → Type 0
 next-token-promise i o = NextToken (i .input) (i .from) (i .buffer) (o .buffer) (o .answer)

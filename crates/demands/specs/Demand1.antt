@@ -46,7 +46,7 @@ use Rattle.rules.specs.Selectors.{matched}
 use Rattle.rules.specs.declared.selecting.RuleIdSelector.{RuleIdSelector}
 use Rattle.listing.specs.declared.Answer as Listing
 use Rattle.demands.specs.Fixed.{Fixed, Gives}
-use Rattle.demands.specs.Calls.{Lent, Left, Wrote, Filling, finish-promise, Place, Records, Refusal, next-token-promise, tokens-promise, parse-actions-promise, parse-setvar-promise, parse-variables-promise, parse-update-targets-promise, From, read-targets-promise, operator-in-promise, parse-operator-promise, operator-argument-promise, write-listing-promise, write-refusal-promise, list-text-promise}
+use Rattle.demands.specs.Calls.{Lent, Left, Wrote, Filling, finish-promise, Place, Records, Refusal, step-in-promise, next-token-promise, tokens-promise, parse-actions-promise, parse-setvar-promise, parse-variables-promise, parse-update-targets-promise, From, read-targets-promise, operator-in-promise, parse-operator-promise, operator-argument-promise, write-listing-promise, write-refusal-promise, list-text-promise}
 use Rattle.demands.specs.Rows.{Row}
 use Rattle.demands.specs.Library.{OfLibrary}
 
@@ -114,6 +114,7 @@ pub record OfNames : Type 0 where
 -- The lexer, and the reader that holds a reference to its text, of whatever kind.
 pub record OfLexer : Type 1 where
   pub start : Gives (λ (i : Unit {0}). fresh)
+  pub step-in : Fixed Place (Wrote Step) step-in-promise
   pub next-token : Fixed Place (Wrote Step) next-token-promise
   pub tokens : Fixed Lent (Left Tokens.Answer) tokens-promise
   pub reader-of : (Ref : Type 0) → Gives {Out = Two Ref Cursor} (λ (text : Ref). (text, fresh))

@@ -1,4 +1,4 @@
--- What next_token promises, in plain words: every number exactly when it is given, and what is given and written with it.
+-- What step_in and next_token promise, in plain words: every number exactly when it is given, and what is given and written with it.
 -- The idea: lent's OutcomeLaws has numbers 1 to 3, and the check of the cursor tells the others apart.
 use mathlib.Core.Path.{_≡_, _∙_, refl, ap}
 use mathlib.Core.Bool.{Bool, true, false}

@@ -1,12 +1,12 @@
 -- What the public calls promise, by document 01's table: the answer, and every byte of lent memory, on every path.
 use mathlib.Core.Path.{_≡_}
-use Prim.Native.Nat.{ℕ}
+use Prim.Native.Nat.{ℕ, _-_}
 use mathlib.Core.Bool.{Bool, true, false}
 use mathlib.Core.List.{List, [], _∷_, _++_}
 use lib.ListN.{length, drop}
 use lib.Dec.{ltb, leb, eqb}
 use Rattle.ascii.specs.Choice.{pick, bit}
-use Rattle.lent.specs.Sizes.{cursorMost, tokenWords, roomFor}
+use Rattle.lent.specs.Sizes.{limit, cursorMost, tokenWords, roomFor}
 use Rattle.lent.specs.Gates.{gateOf}
 use Rattle.lent.specs.Table.{Given, given, tooLong, notAscii, shortBuffer, noRoom, badCursor, refused, refusedText, Outcome, refuses, reads, pastGate, Filled, givenBy, textBy, recordsBy}
 use Rattle.lexer.specs.Cursors.{Cursor}
@@ -59,6 +59,15 @@ abbrev pub stepText : T.Step → List ℕ
 stepText (nothing c) = []
 stepText (token t e) = t .text
 
+-- What a call of step_in comes to, with n bytes of text lent: checks 1, 9 and 3, where only what is left behind the place is asked;
+-- then the token, whatever the bytes are.
+unfoldable pub stepOutcome : List ℕ → Cursor → ℕ → Outcome T.Step
+stepOutcome s c n =
+    pick (ltb limit (length s)) (refuses tooLong)
+    (pick (cursorRefused s c) (refuses badCursor)
+    (pick (ltb n (length s - c .place)) (refuses shortBuffer)
+    (reads (next (drop (c .place) s) c))))
+
 -- What a call of next_token comes to, with n bytes of text lent: checks 1, 2, 3 and 9, then the token.
 unfoldable pub nextOutcome : List ℕ → Cursor → ℕ → Outcome T.Step
 nextOutcome s c n =
@@ -72,6 +81,10 @@ nextGivenBy (reads x) = given 0 (stepValues x)
 abbrev pub nextTextBy : Outcome T.Step → List ℕ → List ℕ
 nextTextBy (refuses f) old = refusedText f old
 nextTextBy (reads x) old = stepText x ++ drop (length (stepText x)) old
+
+pub record StepIn (s : List ℕ) (c : Cursor) (old new : List ℕ) (r : Step) : Type 0 where
+  pub answer : stepGiven r ≡ nextGivenBy (stepOutcome s c (length old))
+  pub text : new ≡ nextTextBy (stepOutcome s c (length old)) old
 
 pub record NextToken (s : List ℕ) (c : Cursor) (old new : List ℕ) (r : Step) : Type 0 where
   pub answer : stepGiven r ≡ nextGivenBy (nextOutcome s c (length old))

@@ -3,7 +3,7 @@ ghost use mathlib.Core.Path.{_≡_};
 ghost use Prim.Native.Nat.{_+_, _≤_};
 ghost use lib.ListN.{length};
 ghost use Rattle.lexer.specs.Steps.{Within, Stepped, lexemeAt};
-ghost use Rattle.lexer.specs.Promises.{counted, cursorRefused, NextToken};
+ghost use Rattle.lexer.specs.Promises.{counted, cursorRefused, StepIn, NextToken};
 use crate::Class;
 use crate::Column;
 use crate::Cursor;
@@ -129,6 +129,26 @@ fn refuses_cursor(s: &[u8], c: Cursor) -> bool
     !is_counted(c.column.0)
 }
 
+// The next token from a cursor on, in any bytes, after the checks 1, 9 and 3, which read none: a text that was admitted once
+// is stepped through by it. As much text is asked as is left behind the cursor's place; what is written is as for `next_token`.
+pub fn step_in(input: &[u8], from: Cursor, text: &mut [u8]) -> Step
+    ensures { λ r. ⌜ StepIn (now (input .entry)) from (now (text .entry)) (now (text .exit)) r ⌝ }
+{
+    if lent::LIMIT < input.len() {
+        return Step::TooLong;
+    }
+    if refuses_cursor(input, from) {
+        return Step::BadCursor;
+    }
+    if text.len() < input.len() - from.place {
+        return Step::Short;
+    }
+    match find(input, from, text) {
+        Found::Token(t) => Step::Token(t),
+        Found::Nothing(c) => Step::Nothing(c),
+    }
+}
+
 // The next token from a cursor on, after the checks 1, 2, 3 and 9. Its text stands at the front of `text`,
 // and nothing beyond is touched; where there is no token, nothing is written.
 pub fn next_token(input: &[u8], from: Cursor, text: &mut [u8]) -> Step
@@ -138,14 +158,6 @@ pub fn next_token(input: &[u8], from: Cursor, text: &mut [u8]) -> Step
         Gate::TooLong => Step::TooLong,
         Gate::NotAscii(place) => Step::NotAscii(place),
         Gate::Short => Step::Short,
-        Gate::Open => {
-            if refuses_cursor(input, from) {
-                return Step::BadCursor;
-            }
-            match find(input, from, text) {
-                Found::Token(t) => Step::Token(t),
-                Found::Nothing(c) => Step::Nothing(c),
-            }
-        }
+        Gate::Open => step_in(input, from, text),
     }
 }
