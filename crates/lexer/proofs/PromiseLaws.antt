@@ -2,26 +2,28 @@
 -- The idea: lent's OutcomeLaws has numbers 1 to 3, and the check of the cursor tells the others apart.
 use mathlib.Core.Path.{_≡_, _∙_, refl, ap}
 use mathlib.Core.Bool.{Bool, true, false}
-use mathlib.Core.List.{List, _++_}
-use mathlib.Core.Logic.{_↔_}
-use Prim.Native.Nat.{ℕ, _≤_, _<_}
+use mathlib.Core.List.{List, [], _∷_, _++_}
+use mathlib.Core.Logic.{_↔_, inl, inr}
+use Prim.Native.Nat.{ℕ, _-_, _≤_, _<_}
 use native.Mathlib.Omega.{arith}
 use lib.ListN.{length, drop}
 use lib.Dec.{ltb, leb, eqb}
-use borrow.Author.Tests.{ltb-true, ltb-false, leb-true, leb-false, eqb-true, eqb-false}
+use borrow.Author.Tests.{lt-ltb, le-ltb, ltb-true, ltb-false, leb-true, leb-false, eqb-true, eqb-false}
 use Rattle.ascii.specs.Choice.{pick}
 use Rattle.lent.specs.Sizes.{limit, cursorMost}
 use Rattle.lent.specs.Gates.{gateOf}
-use Rattle.lent.specs.Table.{Given, given, badCursor, Outcome, refuses, reads, pastGate}
+use Rattle.lent.specs.Table.{Given, given, tooLong, shortBuffer, badCursor, Outcome, refuses, reads, pastGate}
 use Rattle.lent.specs.declared.gating.Gate.{Gate}
 use Rattle.lent.specs.declared.gating.Gate.the-variants.{Open, TooLong, NotAscii, Short}
 use Rattle.lent.proofs.HighLaws.{FirstAt}
-use Rattle.lent.proofs.GateLaws.{Opened, Shortened, Row}
+use Rattle.lent.proofs.GateLaws.{Opened, Shortened}
+use Rattle.lent.proofs.GateLaws as Gates
+use Rattle.lent.proofs.RowLaws.{Row, row, OneOf, Numbered, Exactly, absent, differ, exactly}
 use Rattle.lent.proofs.OutcomeLaws.{numberOf, Later, past-row, number-1, number-2, number-3, checked-later, number-refused, number-read}
 use Rattle.lexer.specs.Cursors.{Cursor}
 use Rattle.lexer.specs.Tokens.{next}
 use Rattle.lexer.specs.Tokens as T
-use Rattle.lexer.specs.Promises.{counted, cursorRefused, stepGiven, stepValues, stepText, nextOutcome, nextGivenBy, nextTextBy, NextToken}
+use Rattle.lexer.specs.Promises.{counted, cursorRefused, stepGiven, stepValues, stepText, stepOutcome, nextOutcome, nextGivenBy, nextTextBy, StepIn, NextToken}
 use Rattle.lexer.specs.Calls.{Counted, Uncounted, nought, above, Fit, Astray, far, off-line, off-column}
 use Rattle.lexer.specs.declared.stepping.Step.{Step}
 use Rattle.lexer.specs.declared.stepping.Step.the-variants as Step
@@ -71,15 +73,70 @@ module _ (s : List ℕ) (c : Cursor) where
   pub cursor-is : (t : Bool) → (cursorRefused s c ≡ t) ↔ CursorBy t
   cursor-is = told-is CursorBy never-both (cursorRefused s c) cursor-tells
 
+-- ---- a step in a text that was admitted
+
+next-number : (o : Outcome T.Step) → nextGivenBy o .number ≡ numberOf o
+next-number (refuses f) = refl
+next-number (reads x) = refl
+
+module _ {s : List ℕ} {c : Cursor} {old new : List ℕ} {r : Step} (x : StepIn s c old new r) where
+  -- the text is within the limit, the cursor fits it, and so much of it is left as P says
+  abbrev Left : (ℕ → Type 0) → Type 0
+  Left P = (length s ≤ limit) × Fit s c × P (length s - c .place)
+
+  -- Number 1: the text is over the limit. 9: it is not, and the cursor is one that it has not. 3: the cursor is one, and the text buffer is
+  -- shorter than what is left behind its place. 0: none of these.
+  abbrev pub stepRows : List Row
+  stepRows =
+      row 1 (limit < length s)
+      ∷ row 9 ((length s ≤ limit) × Astray s c)
+      ∷ row 3 (Left (λ n. length old < n))
+      ∷ row 0 (Left (λ n. n ≤ length old))
+      ∷ []
+
+  one-row : OneOf stepRows
+  unfolding OneOf
+  one-row = go (ltb limit (length s)) refl (cursorRefused s c) (cursor-tells s c) (ltb (length old) (length s - c .place)) refl
+    where
+      go : (t : Bool) → ltb limit (length s) ≡ t → (u : Bool) → CursorBy s c u → (v : Bool) → ltb (length old) (length s - c .place) ≡ v → OneOf stepRows
+      go true e u k v f = inl (ltb-true limit (length s) e)
+      go false e true k v f = inr (inl (ltb-false limit (length s) e, k))
+      go false e false k true f = inr (inr (inl (ltb-false limit (length s) e, k, ltb-true (length old) (length s - c .place) f)))
+      go false e false k false f = inr (inr (inr (inl (ltb-false limit (length s) e, k, ltb-false (length old) (length s - c .place) f))))
+
+  -- what the call comes to where nothing is refused
+  comes-to : Left (λ n. n ≤ length old) → stepOutcome s c (length old) ≡ reads (next (drop (c .place) s) c)
+  unfolding stepOutcome
+  comes-to p = rw (le-ltb limit (length s) (p .0), cursor-is s c false .1 (p .1), le-ltb (length old) (length s - c .place) (p .2))
+
+  by-outcome : (o : Outcome T.Step) → stepOutcome s c (length old) ≡ o → stepGiven r .number ≡ numberOf o
+  by-outcome o e = ap (λ (g : Given). g .number) (x .answer) ∙ next-number (stepOutcome s c (length old)) ∙ ap numberOf e
+
+  pub step-in-numbers : Exactly (stepGiven r .number) stepRows
+  unfolding Numbered absent differ stepOutcome
+  step-in-numbers =
+      exactly (stepGiven r .number) stepRows refl one-row (
+        λ h. by-outcome (refuses tooLong) (rw (lt-ltb limit (length s) h)),
+        (
+          λ p. by-outcome (refuses badCursor) (rw (le-ltb limit (length s) (p .0), cursor-is s c true .1 (p .1))),
+          (
+            λ p. by-outcome (refuses shortBuffer) (rw (le-ltb limit (length s) (p .0), cursor-is s c false .1 (p .1), lt-ltb (length old) (length s - c .place) (p .2))),
+            (λ p. by-outcome (reads (next (drop (c .place) s) c)) (comes-to p), tt),
+          ),
+        ),
+      )
+
+  -- Number 0 in full: the step at the cursor, whose text stands at the buffer's front, with nothing beyond touched.
+  pub step-in-reads : Left (λ n. n ≤ length old)
+      → (stepGiven r ≡ given 0 (stepValues (next (drop (c .place) s) c)))
+      × (new ≡ stepText (next (drop (c .place) s) c) ++ drop (length (stepText (next (drop (c .place) s) c))) old)
+  step-in-reads p = (x .answer ∙ ap nextGivenBy (comes-to p), x .text ∙ ap (λ (o : Outcome T.Step). nextTextBy o old) (comes-to p))
+
 -- ---- one token
 
 -- what next_token comes to past the gate
 abbrev nextPast : List ℕ → Cursor → Outcome T.Step
 nextPast s c = pick (cursorRefused s c) (refuses badCursor) (reads (next (drop (c .place) s) c))
-
-next-number : (o : Outcome T.Step) → nextGivenBy o .number ≡ numberOf o
-next-number (refuses f) = refl
-next-number (reads x) = refl
 
 module _ {s : List ℕ} {c : Cursor} {old new : List ℕ} {r : Step} (x : NextToken s c old new r) where
   number-is : stepGiven r .number ≡ numberOf (pastGate (gateOf s (length old) (length s)) (nextPast s c))
@@ -110,7 +167,7 @@ module _ {s : List ℕ} {c : Cursor} {old new : List ℕ} {r : Step} (x : NextTo
   next-token-0 = rw number-is (number-read badCursor (next (drop (c .place) s) c) (omega arith) s (length old) (length s) (cursorRefused s c) (cursor-is s c false))
 
   -- what is given back and written, by the gate's answer
-  by-gate : (g : Gate) → Row s (length old) (length s) g
+  by-gate : (g : Gate) → Gates.Row s (length old) (length s) g
       → (stepGiven r ≡ nextGivenBy (pastGate g (nextPast s c))) × (new ≡ nextTextBy (pastGate g (nextPast s c)) old)
   unfolding nextOutcome
   by-gate g h =
