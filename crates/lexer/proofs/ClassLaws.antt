@@ -3,8 +3,9 @@ use mathlib.Core.Path.{_≡_, _∙_, refl, sym, ap, subst}
 use mathlib.Core.Logic.{_⊎_, inl, inr, ⊎-elim}
 use mathlib.Core.Bool.{Bool, true, false}
 use mathlib.Core.List.{List, [], _∷_}
-use Prim.Native.Nat.{ℕ}
+use Prim.Native.Nat.{ℕ, zero, suc, _+_}
 use native.Mathlib.Omega.{arith}
+use lib.ListN.{drop, getD}
 use lib.Dec.{eqb}
 use types.Run.{OneOf}
 use denote.Enum.Declared.{tagOf}
@@ -13,6 +14,10 @@ use Rattle.ascii.specs.Choice.{pick}
 use Rattle.ascii.specs.Classes.{white, within}
 use Rattle.ascii.proofs.ByteLaws.{bounds}
 use Rattle.lexer.specs.Bytes.{Class, Feed, Return, Gap, Upright, Hash, Quote, Slash, Other, class}
+use Rattle.lexer.specs.Cursors.{Cursor}
+use Rattle.lexer.specs.Runs.{Does, ends, takes}
+use Rattle.lexer.specs.Rules.{lineEnd, before, beforeBy, word, wordBy, wordSlash}
+use Rattle.lexer.specs.Tokens.{Step, tokenBy, tokenAt}
 use Rattle.lexer.proofs.Class.{the-type}
 use Rattle.lexer.proofs.MoveLaws.{dark-flat}
 use Rattle.lexer.proofs.TestLaws.{either}
@@ -73,6 +78,33 @@ module _ (b : ℕ) where
   pub not-feed : white b ≡ false → b ≡ 10 → ⊥
   not-feed h = eqb-false b 10 (dark-flat b h)
 
+-- ---- what goes by a byte's class, so that nothing else need say how it is told
+
+-- what holds for each class holds of what the byte does in a word, and of the token that it starts
+pub word-by : (P : Does ℕ → Type 0) (b : ℕ) (r : List ℕ) → ((k : Class) → P (wordBy k b r)) → P (word 0 b r)
+unfolding word
+word-by P b r f = f (class b)
+
+pub token-by : (P : Step → Type 0) (b : ℕ) (r : List ℕ) (c : Cursor) → ((k : Class) → P (tokenBy k b r c)) → P (tokenAt (b ∷ r) c)
+unfolding tokenAt
+token-by P b r c f = f (class b)
+
+-- the class of the byte at a place of a text, and what it tells there
+abbrev pub classAt : List ℕ → ℕ → Class
+classAt s i = class (getD s i 0)
+
+module _ (s : List ℕ) (i : ℕ) (k : Class) (e : classAt s i ≡ k) where
+  pub told-at : Means k (getD s i 0)
+  told-at = told (getD s i 0) k e
+
+  pub before-at : before 0 (getD s i 0) (drop (i + 1) s) ≡ beforeBy k (drop (i + 1) s)
+  unfolding before
+  before-at = rw e
+
+  pub token-at : (c : Cursor) → tokenAt (getD s i 0 ∷ drop (i + 1) s) c ≡ tokenBy k (getD s i 0) (drop (i + 1) s) c
+  unfolding tokenAt
+  token-at c = rw e
+
 -- ---- an arm with several classes
 
 abbrev byTag : ℕ → Class
@@ -107,3 +139,30 @@ pub arm : (P : Class → Type 0) (vs : List Class) (k : Class) → OneOf (tags v
 arm P [] k h p = absurd h
 arm P (v ∷ []) k h p = subst P (sym (tag-inj k v h)) (p .0)
 arm P (v ∷ w ∷ vs) k h p = ⊎-elim (λ e. subst P (sym (tag-inj k v e)) (p .0)) (λ later. arm P (w ∷ vs) k later (p .1)) h
+
+-- ---- what a byte does to a word
+
+pub word-other : (b : ℕ) (r : List ℕ) → class b ≡ Other → word 0 b r ≡ takes (b ∷ []) 0
+unfolding word wordBy
+word-other b r e = rw e
+
+pub word-lone : (b : ℕ) (r : List ℕ) → class b ≡ Slash → lineEnd r ≡ 0 → word 0 b r ≡ takes (b ∷ []) 0
+unfolding word wordBy wordSlash
+word-lone b r e f = rw (e, f, told b Slash e)
+
+slash-cut : (k : ℕ) → (k ≡ 0 → ⊥) → wordSlash k ≡ takes [] k
+unfolding wordSlash
+slash-cut zero n = absurd (n refl)
+slash-cut (suc k) n = refl
+
+pub word-cut : (b : ℕ) (r : List ℕ) {k : ℕ} → class b ≡ Slash → k ≡ lineEnd r → (k ≡ 0 → ⊥) → word 0 b r ≡ takes [] k
+unfolding word wordBy
+word-cut b r {k} e f n = rw (e, ← f) (slash-cut k n)
+
+-- the classes that end it
+abbrev stops : List Class
+stops = Feed ∷ Return ∷ Gap ∷ Upright ∷ Hash ∷ Quote ∷ []
+
+pub word-stop : (b : ℕ) (r : List ℕ) (k : Class) → k ≡ class b → OneOf (tags stops) (tagOf the-type k) → word 0 b r ≡ ends
+unfolding word wordBy
+word-stop b r k e h = rw (← e) (arm (λ (k : Class). wordBy k b r ≡ ends) stops k h (refl, (refl, (refl, (refl, (refl, (refl, tt)))))))

@@ -2,29 +2,28 @@
 use mathlib.Core.Path.{_≡_, refl, sym, ap, ap₂, _∙_, subst}
 use mathlib.Core.List.{List, [], _∷_, _++_}
 use mathlib.Core.Bool.{Bool, true, false}
-use Prim.Native.Nat.{ℕ, suc, _+_, _-_, _≤_, _<_}
-use native.Mathlib.Numerals.{add-one}
+use Prim.Native.Nat.{ℕ, suc, _+_, _≤_, _<_}
 use native.Mathlib.Omega.{arith}
-use lib.ListN.{length, take, drop, getD, length-drop, drop-of-length-le}
+use lib.ListN.{length, drop, getD, drop-of-length-le}
 use lib.Seq.{drop-drop}
 use Rattle.ascii.specs.Choice.{pick}
 use Rattle.ascii.specs.Classes.{white}
 use Rattle.ascii.proofs.ListLaws.{next-byte}
-use Rattle.lexer.specs.Bytes.{Class, class, Feed, Hash, Quote, Other}
-use Rattle.lexer.specs.Cursors.{Cursor, cursor, moved, moves}
+use Rattle.lexer.specs.Bytes.{Class, Feed, Hash, Quote, Other}
+use Rattle.lexer.specs.Cursors.{Cursor, cursor}
 use Rattle.lexer.specs.Runs.{Does, takes, Spot, spot, run, text, took}
-use Rattle.lexer.specs.Rules.{before, comment, word, wordBy, quoted, plain}
+use Rattle.lexer.specs.Rules.{before, comment, word, quoted, plain}
 use Rattle.lexer.specs.Places.{feeds, since}
 use Rattle.lexer.specs.Tokens.{Kind, Token, next, tokenAt, tokenBy, nothing, made, wordKind, QuotedString, Comment, Newline}
 use Rattle.lexer.specs.Steps.{Within, part, pastBytes, Skipped, Ran, Wrote, Passes, Stepped, Ahead, lexemeAt}
 use Rattle.lexer.specs.declared.moving.Run.{Run}
 use Rattle.lexer.specs.declared.stepping.Found.{Found}
 use Rattle.lexer.specs.declared.stepping.Found.the-variants as Found
-use Rattle.lexer.proofs.MoveLaws.{moved-feed, dark-flat}
-use Rattle.lexer.proofs.RunLaws.{run-took, run-place, took-length, text-by, took-by}
+use Rattle.lexer.proofs.MoveLaws.{movedAt, feed-at, dark-flat}
+use Rattle.lexer.proofs.RunLaws.{run-took, run-place, text-by, took-by}
 use Rattle.lexer.proofs.WithinLaws.{within-past, past-place}
-use Rattle.lexer.proofs.PastLaws.{part-first, past-one, cut}
-use Rattle.lexer.proofs.ClassLaws.{told, other-dark}
+use Rattle.lexer.proofs.PastLaws.{part-first, past-one, run-here, cut}
+use Rattle.lexer.proofs.ClassLaws.{classAt, told-at, token-at, word-other, other-dark}
 
 -- ---- the byte that a token starts with
 
@@ -43,9 +42,8 @@ module _ (s : List ℕ) (c d : Cursor) (x : Within s c) (k : Skipped s c d) wher
   unfolding tokenAt
   next-none h = next-is ∙ rw (drop-of-length-le s h)
 
-  pub next-by : d .place < length s → next (drop (c .place) s) c ≡ tokenBy (class (getD s (d .place) 0)) (getD s (d .place) 0) (drop (d .place + 1) s) d
-  unfolding tokenAt
-  next-by h = next-is ∙ rw (next-byte s (d .place))
+  pub next-by : d .place < length s → next (drop (c .place) s) c ≡ tokenBy (classAt s (d .place)) (getD s (d .place) 0) (drop (d .place + 1) s) d
+  next-by h = next-is ∙ rw (next-byte s (d .place) h) (token-at s (d .place) _ refl d)
 
   -- ---- the two answers
 
@@ -62,30 +60,14 @@ module _ (s : List ℕ) (c d : Cursor) (x : Within s c) (k : Skipped s c d) wher
   ahead kind len to z h j e l =
       let o : d .place ≤ to = omega arith in
       let p : z .place ≡ to = ap (λ (a : Cursor). a .place) e ∙ past-place s d to o j in
-      let w = k .within in
       record {
-        within = subst (Within s) (sym e) (within-past s d to w o j);
+        within = subst (Within s) (sym e) (within-past s d to (k .within) o j);
         past = omega (arith, p, k .onward);
         first-low = omega (arith, p);
         text-low = omega (arith, p, k .onward);
-        lined = omega (arith, p, w .lined);
-        columned = omega (arith, p, w .columned);
       }
 
 -- ---- runs by numbers
-
--- the run behind a token's first byte ends at the cursor past all its bytes
-pub run-here : {M : Type 0} (does : M → ℕ → List ℕ → Does M) (m : M) (s : List ℕ) (d : Cursor) (to : ℕ) → d .place < length s →
-    to ≡ d .place + 1 + took does m (drop (d .place + 1) s) → run does m (drop (d .place + 1) s) (moved d (getD s (d .place) 0)) .here ≡ pastBytes s d to
-unfolding moves
-run-here does m s d to h e =
-    let l = drop (d .place + 1) s in
-    let b = getD s (d .place) 0 in
-    let j : to ≤ length s = omega (arith, took-length does m l, length-drop (d .place + 1) s) in
-    let n : took does m l ≡ to - (d .place + 1) = omega arith in
-    ap (λ (a : Spot). a .here) (run-took does m l (moved d b))
-    ∙ ap (λ (i : ℕ). moves (take i l) (moved d b)) n
-    ∙ sym (ap (λ (q : List ℕ). moves q d) (part-first s (d .place) to (omega arith) j))
 
 -- what a run behind the first byte counted, for the token
 pub passes : {M : Type 0} (does : M → ℕ → List ℕ → Does M) (m : M) (s : List ℕ) (d : Cursor) (r : Run) → d .place < length s → white (getD s (d .place) 0) ≡ false →
@@ -107,14 +89,13 @@ passes does m s d r h w x =
     }
 
 -- a word's run takes its first byte too
-pub word-first : (s : List ℕ) (i : ℕ) → i < length s → class (getD s i 0) ≡ Other → word 0 (getD s i 0) (drop (i + 1) s) ≡ takes (getD s i 0 ∷ []) 0
-unfolding word wordBy
-word-first s i h e = rw e
+pub word-first : (s : List ℕ) (i : ℕ) → i < length s → classAt s i ≡ Other → word 0 (getD s i 0) (drop (i + 1) s) ≡ takes (getD s i 0 ∷ []) 0
+word-first s i h e = word-other _ _ e
 
-pub word-took : (s : List ℕ) (i : ℕ) → i < length s → class (getD s i 0) ≡ Other → took word 0 (drop i s) ≡ suc (took word 0 (drop (i + 1) s))
+pub word-took : (s : List ℕ) (i : ℕ) → i < length s → classAt s i ≡ Other → took word 0 (drop i s) ≡ suc (took word 0 (drop (i + 1) s))
 word-took s i h e = ap (took word 0) (next-byte s i h) ∙ took-by word 0 _ _ _ (word-first s i h e)
 
-pub word-passes : (s : List ℕ) (d : Cursor) (r : Run) → d .place < length s → class (getD s (d .place) 0) ≡ Other → Ran word 0 s (d .place) r → Passes s d r
+pub word-passes : (s : List ℕ) (d : Cursor) (r : Run) → d .place < length s → classAt s (d .place) ≡ Other → Ran word 0 s (d .place) r → Passes s d r
 word-passes s d r h e x = record {
   some = omega (arith, x .past-is, word-took s (d .place) h e);
   inside = x .inside;
@@ -125,7 +106,7 @@ word-passes s d r h e x = record {
 
 -- ---- the token by its first byte's class
 
-module _ (s : List ℕ) (c d : Cursor) (x : Within s c) (k : Skipped s c d) (h : d .place < length s) (q : Class) (e : q ≡ class (getD s (d .place) 0)) where
+module _ (s : List ℕ) (c d : Cursor) (x : Within s c) (k : Skipped s c d) (h : d .place < length s) (q : Class) (e : q ≡ classAt s (d .place)) where
   abbrev b : ℕ
   b = getD s (d .place) 0
 
@@ -138,9 +119,8 @@ module _ (s : List ℕ) (c d : Cursor) (x : Within s c) (k : Skipped s c d) (h :
   pub found-newline : (old new : List ℕ) → q ≡ Feed → new ≡ old → Stepped s c old new (Found.Token (lexemeAt Newline d 0 (cursor (d .place + 1) (d .line .0 + 1) 1 true)))
   unfolding tokenBy
   found-newline old new f n =
-      let g : cursor (d .place + 1) (d .line .0 + 1) 1 true ≡ moved d b =
-      sym (ap (moved d) (told b Feed (sym e ∙ f)) ∙ moved-feed d ∙ rw (add-one (d .place), add-one (d .line .0))) in
-      found-made s c d x k Newline [] (spot (moved d b) r) 0 _ old new (by-class ∙ ap (λ (q : Class). tokenBy q b r d) f) refl g n
+      let g : cursor (d .place + 1) (d .line .0 + 1) 1 true ≡ movedAt s d = sym (feed-at s d (told-at s (d .place) Feed (sym e ∙ f))) in
+      found-made s c d x k Newline [] (spot (movedAt s d) r) 0 _ old new (by-class ∙ ap (λ (q : Class). tokenBy q b r d) f) refl g n
       (ahead s c d x k Newline 0 (d .place + 1) _ (omega arith) (omega arith) (g ∙ sym (past-one s d h)) (omega arith))
 
   pub found-stop : (old new : List ℕ) → tokenBy q b r d ≡ nothing d → new ≡ old → Stepped s c old new (Found.Nothing d)
@@ -151,7 +131,7 @@ module _ (s : List ℕ) (c d : Cursor) (x : Within s c) (k : Skipped s c d) (h :
     pub found-comment : q ≡ Hash → Ran comment 0 s (d .place + 1) a → new ≡ old → Stepped s c old new (Found.Token (lexemeAt Comment d 0 z))
     unfolding tokenBy
     found-comment f g n =
-        found-made s c d x k Comment [] (run comment 0 r (moved d b)) 0 z old new (by-class ∙ ap (λ (q : Class). tokenBy q b r d) f) refl
+        found-made s c d x k Comment [] (run comment 0 r (movedAt s d)) 0 z old new (by-class ∙ ap (λ (q : Class). tokenBy q b r d) f) refl
         (y ∙ sym (run-here comment 0 s d (a .past) h (g .past-is))) n
         (ahead s c d x k Comment 0 (a .past) z (omega (arith, g .past-is)) (g .inside) y (omega (arith, g .past-is)))
 
@@ -159,7 +139,7 @@ module _ (s : List ℕ) (c d : Cursor) (x : Within s c) (k : Skipped s c d) (h :
         Stepped s c old new (Found.Token (lexemeAt QuotedString d (a .len) z))
     unfolding tokenBy
     found-quoted f g w =
-        found-made s c d x k QuotedString (text (quoted b) plain r) (run (quoted b) plain r (moved d b)) (a .len) z old new
+        found-made s c d x k QuotedString (text (quoted b) plain r) (run (quoted b) plain r (movedAt s d)) (a .len) z old new
         (by-class ∙ ap (λ (q : Class). tokenBy q b r d) f) (w .length-is) (y ∙ sym (run-here (quoted b) plain s d (a .past) h (g .past-is))) (w .text-is)
         (ahead s c d x k QuotedString (a .len) (a .past) z (omega (arith, g .past-is)) (g .inside) y (omega (arith, w .short)))
 
@@ -171,9 +151,9 @@ module _ (s : List ℕ) (c d : Cursor) (x : Within s c) (k : Skipped s c d) (h :
         let i = sym e ∙ f in
         let t : text word 0 (drop (d .place) s) ≡ b ∷ text word 0 r = ap (text word 0) (next-byte s (d .place) h) ∙ text-by word 0 b r _ (word-first s (d .place) h i) in
         let n : a .past ≡ d .place + 1 + took word 0 r = omega (arith, g .past-is, word-took s (d .place) h i) in
-        let u : next (drop (c .place) s) c ≡ made kind (b ∷ text word 0 r) d (run word 0 r (moved d b)) =
+        let u : next (drop (c .place) s) c ≡ made kind (b ∷ text word 0 r) d (run word 0 r (movedAt s d)) =
         by-class ∙ ap (λ (q : Class). tokenBy q b r d) f
-        ∙ ap (λ (j : Kind). made j (b ∷ text word 0 r) d (run word 0 r (moved d b))) (ap (wordKind (d .mark)) (sym t) ∙ sym v) in
-        found-made s c d x k kind (b ∷ text word 0 r) (run word 0 r (moved d b)) (a .len) z old new u (w .length-is ∙ ap length t)
+        ∙ ap (λ (j : Kind). made j (b ∷ text word 0 r) d (run word 0 r (movedAt s d))) (ap (wordKind (d .mark)) (sym t) ∙ sym v) in
+        found-made s c d x k kind (b ∷ text word 0 r) (run word 0 r (movedAt s d)) (a .len) z old new u (w .length-is ∙ ap length t)
         (y ∙ sym (run-here word 0 s d (a .past) h n)) (w .text-is ∙ rw t)
         (ahead s c d x k kind (a .len) (a .past) z (omega (arith, n)) (g .inside) y (w .short))

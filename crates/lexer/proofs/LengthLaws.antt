@@ -1,15 +1,18 @@
 -- A word's text and a quoted text are no longer than the bytes that the run takes.
 -- A byte pays for its text; a backslash in quotes gives none itself, so that the byte behind it may give two.
-use Prim.Native.Nat.{ℕ, zero, suc, _+_, _≤_}
+use mathlib.Core.Path.{_≡_, ap, _∙_}
+use Prim.Native.Nat.{ℕ, zero, suc, _+_, _-_, _≤_}
 use native.Mathlib.Omega.{arith}
 use mathlib.Core.List.{List, [], _∷_}
-use lib.ListN.{length, length-append}
+use lib.ListN.{length, length-append, length-drop}
 use lib.Dec.{eqb}
-use Rattle.lexer.specs.Bytes.{Class, Feed, Return, Gap, Upright, Hash, Quote, Slash, Other, class}
-use Rattle.lexer.specs.Cursors.{Cursor, moved}
-use Rattle.lexer.specs.Runs.{Does, ends, closes, takes, onward, gives, run, text}
+use Rattle.lexer.specs.Bytes.{Class, Feed, Return, Gap, Upright, Hash, Quote, Slash, Other}
+use Rattle.lexer.specs.Cursors.{Cursor}
+use Rattle.lexer.specs.Runs.{Does, ends, closes, takes, gives, counts, Spot, run, text, took}
 use Rattle.lexer.specs.Rules.{lineEnd, word, wordBy, wordSlash, Mode, plain, escaped, afterCr, margin, quoted, quotedPlain, quotedMargin, unescaped}
 use Rattle.lexer.proofs.TestLaws.{either}
+use Rattle.lexer.proofs.RunLaws.{run-took, took-length}
+use Rattle.lexer.proofs.ClassLaws.{word-by}
 
 -- the text of one byte and what the mode after it may still owe, within what the mode before it owed and the byte
 abbrev pub Paid : {M : Type 0} → (M → ℕ) → ℕ → Does M → Type 0
@@ -18,17 +21,21 @@ Paid owes n closes = Unit {0}
 Paid owes n (takes t m) = length t + owes m ≤ suc n
 
 module _ {M : Type 0} (does : M → ℕ → List ℕ → Does M) (owes : M → ℕ) (paid : (m : M) (b : ℕ) (r : List ℕ) → Paid owes (owes m) (does m b r)) where
-  text-length : (m : M) (xs : List ℕ) (c : Cursor) → length (text does m xs) + length (run does m xs c .rest) ≤ owes m + length xs
-  unfolding text run
-  text-length m [] c = omega arith
-  text-length m (b ∷ r) c = go (does m b r) (paid m b r) (λ m. text-length m r (moved c b))
+  text-took : (m : M) (xs : List ℕ) → length (text does m xs) ≤ owes m + took does m xs
+  unfolding text took
+  text-took m [] = omega arith
+  text-took m (b ∷ r) = go (does m b r) (paid m b r) (λ m. text-took m r)
     where
-      go : (x : Does M) → Paid owes (owes m) x
-          → ((m : M) → length (text does m r) + length (run does m r (moved c b) .rest) ≤ owes m + length r)
-          → length (gives x (λ m. text does m r)) + length (onward x b r c (λ m. run does m r (moved c b)) .rest) ≤ owes m + suc (length r)
+      go : (x : Does M) → Paid owes (owes m) x → ((m : M) → length (text does m r) ≤ owes m + took does m r)
+          → length (gives x (λ m. text does m r)) ≤ owes m + counts x (λ m. took does m r)
       go ends p ih = omega arith
       go closes p ih = omega arith
       go (takes t m) p ih = omega (arith, ih m, length-append t (text does m r))
+
+  text-length : (m : M) (xs : List ℕ) (c : Cursor) → length (text does m xs) + length (run does m xs c .rest) ≤ owes m + length xs
+  text-length m xs c =
+      let e : length (run does m xs c .rest) ≡ length xs - took does m xs = ap (λ (a : Spot). length (a .rest)) (run-took does m xs c) ∙ length-drop (took does m xs) xs in
+      omega (arith, text-took m xs, took-length does m xs)
 
 -- ---- in a word
 
@@ -44,7 +51,7 @@ slash-paid (suc k) = omega arith
 word-paid : (k b : ℕ) (r : List ℕ) → Paid nought 0 (word k b r)
 unfolding word wordBy
 word-paid (suc k) b r = omega arith
-word-paid zero b r = go (class b)
+word-paid zero b r = word-by (Paid nought 0) b r go
   where
     go : (k : Class) → Paid nought 0 (wordBy k b r)
     go Feed = tt

@@ -80,6 +80,11 @@ unfolding feeds
 feeds-few [] = omega arith
 feeds-few (b ∷ r) = either (λ n. n + feeds r ≤ suc (length r)) (eqb b 10) (λ e. omega (arith, feeds-few r)) (λ e. omega (arith, feeds-few r))
 
+pub since-few : (n : ℕ) (p : List ℕ) → since n p ≤ n + length p
+unfolding since
+since-few n [] = omega arith
+since-few n (b ∷ r) = either (λ k. since k r ≤ n + suc (length r)) (eqb b 10) (λ e. omega (arith, since-few 0 r)) (λ e. omega (arith, since-few (suc n) r))
+
 -- the line feeds counted are no more than the bytes passed
 pub counted-few : {s : List ℕ} {from at feed last : ℕ} → Counted s from at feed last → feed ≤ at
 counted-few {s} {from} {at} x = omega (arith, x .feeds-are, feeds-few (part s from at), length-take (at - from) (drop from s))

@@ -1,17 +1,19 @@
 -- The cursor past a list of bytes, field by field: later code keeps places only, and makes the cursor at a run's end by these.
 -- All go by induction over the list, from what one byte does.
 use mathlib.Core.Path.{_≡_, refl, sym, ap, ap₂, _∙_}
-use Prim.Native.Nat.{ℕ, suc, _+_}
+use Prim.Native.Nat.{ℕ, suc, _+_, _≤_, _<_}
 use native.Mathlib.Nat.{add-suc}
+use native.Mathlib.Numerals.{add-one}
 use native.Mathlib.Omega.{arith}
 use mathlib.Core.Bool.{Bool, true, false}
 use mathlib.Core.List.{List, [], _∷_, _++_}
-use lib.ListN.{length}
+use lib.ListN.{length, getD}
 use lib.Dec.{eqb}
+use borrow.Author.Tests.{ne-eqb}
 use store.Seg.{eqb→≡}
 use Rattle.ascii.specs.Choice.{pick, and}
 use Rattle.ascii.specs.Classes.{white}
-use Rattle.lexer.specs.Cursors.{Cursor, line, column, cursor, moved, moves}
+use Rattle.lexer.specs.Cursors.{Cursor, line, column, cursor, fresh, moved, moves}
 use Rattle.lexer.specs.Places.{feeds, since}
 use Rattle.lexer.specs.Parts.{EndsLf, raise}
 
@@ -37,6 +39,10 @@ by-byte P c b f g = go (eqb b 10)
     go true = f
     go false = g
 
+-- past the byte at its place in a text
+abbrev pub movedAt : List ℕ → Cursor → Cursor
+movedAt s c = moved c (getD s (c .place) 0)
+
 pub moved-feed : (c : Cursor) → moved c 10 ≡ fed c
 unfolding moved
 moved-feed c = refl
@@ -50,6 +56,14 @@ moved-place c b = by-byte (λ x s. s .place ≡ suc (c .place)) c b refl refl
 
 pub moved-line : (c : Cursor) (b : ℕ) → moved c b .line .0 ≡ pick (eqb b 10) 1 0 + c .line .0
 moved-line c b = by-byte (λ x s. s .line .0 ≡ pick x 1 0 + c .line .0) c b (omega arith) (omega arith)
+
+-- past a byte at its place, field by field: a line feed, and another
+pub feed-at : (s : List ℕ) (c : Cursor) → getD s (c .place) 0 ≡ 10 → movedAt s c ≡ cursor (c .place + 1) (c .line .0 + 1) 1 true
+feed-at s c e = ap (moved c) e ∙ moved-feed c ∙ rw (add-one (c .place), add-one (c .line .0))
+
+pub flat-at : (s : List ℕ) (c : Cursor) (w : Bool) → white (getD s (c .place) 0) ≡ w → (getD s (c .place) 0 ≡ 10 → ⊥)
+    → movedAt s c ≡ cursor (c .place + 1) (c .line .0) (c .column .0 + 1) (and w (c .mark))
+flat-at s c w e n = moved-flat c _ (ne-eqb _ 10 n) ∙ rw (e, add-one (c .place), add-one (c .column .0))
 
 -- a byte moves a raised cursor as it moves the cursor
 pub moved-raise : (d l : ℕ) (c : Cursor) (b : ℕ) → moved (raise d l c) b ≡ raise d l (moved c b)
@@ -119,6 +133,15 @@ moves-column [] c n h = h
 moves-column (b ∷ p) c n h =
     moves-column p (moved c b) (pick (eqb b 10) 0 (suc n)) (by-byte (λ x s. s .column .0 ≡ suc (pick x 0 (suc n))) c b refl (ap suc h))
 
+-- line and column grow by one a byte at most
+abbrev pub Bounded : ℕ → Cursor → Type 0
+Bounded m c = (c .line .0 ≤ m + c .place) × (c .column .0 ≤ m + c .place)
+
+pub moves-bounded : (m : ℕ) → 0 < m → (p : List ℕ) (c : Cursor) → Bounded m c → Bounded m (moves p c)
+unfolding moves
+moves-bounded m h [] c x = x
+moves-bounded m h (b ∷ p) c x = moves-bounded m h p (moved c b) (by-byte (λ t d. Bounded m d) c b (omega arith) (omega arith))
+
 -- ---- the mark: the last byte that is no blank within a line decides it
 
 -- every byte is whitespace
@@ -173,3 +196,9 @@ unfolding moves feeds
 moves-feed b [] c h = rw h (moved-feed c ∙ ap₂ (λ (x y : ℕ). cursor x y 1 true) (omega arith) (omega arith))
 moves-feed b (d ∷ r) c h =
     moves-feed d r (moved c b) h ∙ ap₂ (λ (x y : ℕ). cursor x y 1 true) (omega (arith, moved-place c b)) (omega (arith, moved-line c b))
+
+-- from a text's start, it starts as many lines further on
+pub moves-fresh : (xs : List ℕ) → EndsLf xs → moves xs fresh ≡ raise (length xs) (feeds xs) fresh
+unfolding fresh
+moves-fresh [] h = unfold moves feeds in refl
+moves-fresh (b ∷ r) h = moves-feed b r fresh h

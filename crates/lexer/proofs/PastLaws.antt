@@ -5,18 +5,20 @@ use mathlib.Core.Bool.{Bool, true, false}
 use mathlib.Core.List.{List, [], _∷_, _++_, append-assoc}
 use Prim.Native.Nat.{ℕ, zero, suc, _+_, _-_, _≤_, _<_}
 use native.Mathlib.Omega.{arith}
-use lib.ListN.{length, take, drop, getD, length-append}
+use lib.ListN.{length, take, drop, getD, length-append, length-drop}
 use lib.Seq.{drop-at}
 use lib.Dec.{eqb}
 use borrow.Author.Tests.{eqb-true}
 use Rattle.ascii.specs.Choice.{pick}
 use Rattle.ascii.specs.Classes.{white}
 use Rattle.ascii.proofs.ListLaws.{next-byte}
-use Rattle.lexer.specs.Cursors.{Cursor, cursor, moved, moves}
+use Rattle.lexer.specs.Cursors.{Cursor, cursor, moves}
+use Rattle.lexer.specs.Runs.{Does, Spot, run, took}
 use Rattle.lexer.specs.Places.{feeds, since}
 use Rattle.lexer.specs.Steps.{part, pastBytes}
 use Rattle.lexer.specs.Steps as S
-use Rattle.lexer.proofs.MoveLaws.{cursor-is, moves-line, moves-flat-line, moves-flat-column, moves-fed-column, moves-mark-clear, moves-mark-set, feeds-append, flat-tail, Blank}
+use Rattle.lexer.proofs.MoveLaws.{cursor-is, movedAt, moves-line, moves-flat-line, moves-flat-column, moves-fed-column, moves-mark-clear, moves-mark-set, feeds-append, flat-tail, Blank}
+use Rattle.lexer.proofs.RunLaws.{run-took, took-length}
 use Rattle.lexer.proofs.WithinLaws.{part-length, past-place}
 use Rattle.lexer.proofs.LoopLaws.{part-none}
 
@@ -92,7 +94,7 @@ blank-part (suc n) s from h w =
     subst Blank (sym (take-first s from n l)) (w from (omega arith) (omega arith), blank-part n s (from + 1) (omega arith) (λ i p q. w i (omega arith) (omega arith)))
 
 -- past one byte
-pub past-one : (s : List ℕ) (d : Cursor) → d .place < length s → pastBytes s d (d .place + 1) ≡ moved d (getD s (d .place) 0)
+pub past-one : (s : List ℕ) (d : Cursor) → d .place < length s → pastBytes s d (d .place + 1) ≡ movedAt s d
 unfolding moves
 past-one s d h =
     ap (λ (l : List ℕ). moves l d) (part-first s (d .place) (d .place + 1) (omega arith) (omega arith) ∙ ap (λ (l : List ℕ). getD s (d .place) 0 ∷ l) (part-none s (d .place + 1)))
@@ -154,3 +156,17 @@ module _ (s : List ℕ) (c : Cursor) (to : ℕ) (h : c .place < to) (k : to ≤ 
         cursor-is (pastBytes s c to) (past-place s c to l k) (moves-line _ c)
         (ap (λ (l : List ℕ). moves l c .column .0) (x .list) ∙ moves-fed-column (x .front) (x .back) c (x .flat) ∙ omega (arith, long))
         (ap (λ (l : List ℕ). moves l c .mark) (x .list) ∙ mark-is mark b)
+
+-- ---- a run behind a first byte
+
+-- the run behind a token's first byte ends at the cursor past all its bytes
+pub run-here : {M : Type 0} (does : M → ℕ → List ℕ → Does M) (m : M) (s : List ℕ) (d : Cursor) (to : ℕ) → d .place < length s →
+    to ≡ d .place + 1 + took does m (drop (d .place + 1) s) → run does m (drop (d .place + 1) s) (movedAt s d) .here ≡ pastBytes s d to
+unfolding moves
+run-here does m s d to h e =
+    let l = drop (d .place + 1) s in
+    let j : to ≤ length s = omega (arith, took-length does m l, length-drop (d .place + 1) s) in
+    let n : took does m l ≡ to - (d .place + 1) = omega arith in
+    ap (λ (a : Spot). a .here) (run-took does m l (movedAt s d))
+    ∙ ap (λ (i : ℕ). moves (take i l) (movedAt s d)) n
+    ∙ sym (ap (λ (q : List ℕ). moves q d) (part-first s (d .place) to (omega arith) j))

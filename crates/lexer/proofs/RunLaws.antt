@@ -3,7 +3,7 @@
 -- in which `go` takes the three things that a byte can do.
 use mathlib.Core.Path.{_≡_, refl, sym, ap, _∙_}
 use mathlib.Core.Logic.{_⊎_, inl, inr}
-use Prim.Native.Nat.{ℕ, suc, _+_, _≤_}
+use Prim.Native.Nat.{ℕ, suc, _+_, _-_, _≤_}
 use native.Mathlib.Omega.{arith}
 use mathlib.Core.List.{List, [], _∷_, _++_, append-assoc}
 use lib.ListN.{length, take, drop, length-append, take-append-drop}
@@ -11,6 +11,7 @@ use lib.Seq.{drop-at, length-take-le}
 use Rattle.lexer.specs.Cursors.{Cursor, moved, moves}
 use Rattle.lexer.specs.Runs.{Does, ends, closes, takes, Spot, spot, onward, gives, counts, run, text, took}
 use Rattle.lexer.specs.Parts.{EndsLf, raise}
+use Rattle.lexer.specs.Steps.{pastBytes}
 use Rattle.lexer.proofs.MoveLaws.{moves-append, moves-place, moved-raise}
 
 -- ---- bytes passed over
@@ -116,6 +117,12 @@ module _ {M : Type 0} (does : M → ℕ → List ℕ → Does M) where
   pub run-passed : (m : M) (xs : List ℕ) (c : Cursor) → Passed xs c (run does m xs c)
   run-passed m xs c =
       rw (run-took m xs c) (record { part = take (took does m xs) xs; list = sym (take-append-drop (took does m xs) xs); cursor = refl })
+
+  -- in a whole text, it is past the bytes from the cursor's place on that the run takes
+  pub run-past : (m : M) (s : List ℕ) (c : Cursor) (to : ℕ) → to ≡ c .place + took does m (drop (c .place) s) → run does m (drop (c .place) s) c .here ≡ pastBytes s c to
+  run-past m s c to e =
+      let n : took does m (drop (c .place) s) ≡ to - c .place = omega arith in
+      ap (λ (a : Spot). a .here) (run-took m (drop (c .place) s) c) ∙ ap (λ (i : ℕ). moves (take i (drop (c .place) s)) c) n
 
   pub run-place : (m : M) (xs : List ℕ) (c : Cursor) → run does m xs c .here .place ≡ c .place + took does m xs
   run-place m xs c =

@@ -1,13 +1,12 @@
--- A span of bytes that a run takes one by one in the same mode is taken at once: where the run goes on, its text, its count.
+-- A span of bytes that a run takes one by one in the same mode is taken at once: its text, its count.
 -- Later code finds such a span's end and copies it, where the table itself is asked only for the byte that ended it.
 use mathlib.Core.Path.{_≡_, refl, sym, ap, _∙_}
 use Prim.Native.Nat.{ℕ, _+_}
 use native.Mathlib.Omega.{arith}
 use mathlib.Core.List.{List, [], _∷_, _++_, append-assoc}
 use lib.ListN.{length}
-use Rattle.lexer.specs.Cursors.{Cursor, moved, moves}
-use Rattle.lexer.specs.Runs.{Does, takes, run, text, took}
-use Rattle.lexer.proofs.RunLaws.{run-by, text-by, took-by}
+use Rattle.lexer.specs.Runs.{Does, takes, text, took}
+use Rattle.lexer.proofs.RunLaws.{text-by, took-by}
 
 -- the texts f of the bytes, one behind another
 unfoldable pub spelled : (ℕ → List ℕ) → List ℕ → List ℕ
@@ -25,11 +24,6 @@ module _ {M : Type 0} (does : M → ℕ → List ℕ → Does M) (f : ℕ → Li
   abbrev pub Span : List ℕ → List ℕ → Type 0
   Span [] q = Unit {0}
   Span (b ∷ p) q = (does m b (p ++ q) ≡ takes (f b) m) × Span p q
-
-  pub run-span : (p q : List ℕ) (c : Cursor) → Span p q → run does m (p ++ q) c ≡ run does m q (moves p c)
-  unfolding moves
-  run-span [] q c h = refl
-  run-span (b ∷ p) q c h = run-by does m b (p ++ q) (takes (f b) m) (h .0) c ∙ run-span p q (moved c b) (h .1)
 
   pub text-span : (p q : List ℕ) → Span p q → text does m (p ++ q) ≡ spelled f p ++ text does m q
   unfolding spelled

@@ -1,6 +1,7 @@
 -- Where reading stops: at the text's end, or at a vertical tab or a form feed.
 -- Before a token nothing is left that could be passed over, and every other byte starts a token.
 use mathlib.Core.Path.{_≡_, refl, sym, ap, _∙_, subst}
+use mathlib.Core.Logic.{inl, inr}
 use Prim.Native.Nat.{ℕ, zero, suc}
 use native.Mathlib.Omega.{arith}
 use mathlib.Core.Bool.{true}
@@ -14,11 +15,12 @@ use Rattle.lexer.specs.Cursors.{Cursor, fresh, moved, moves}
 use Rattle.lexer.specs.Runs.{Spot, spot, onward, run}
 use Rattle.lexer.specs.Rules.{lineEnd, before, beforeBy}
 use Rattle.lexer.specs.Tokens.{Step, nothing, token, tokenBy, tokenAt, next, tokens, reading}
-use Rattle.lexer.specs.Places.{Halts, Stopped}
-use Rattle.lexer.proofs.TestLaws.{either}
+use Rattle.lexer.specs.Places.{feeds, since, Halts, Stopped}
+use Rattle.lexer.proofs.MoveLaws.{moves-line, moves-column}
 use Rattle.lexer.proofs.RunLaws.{Passed, passed-trans, passed-place, passed-length, run-passed}
 use Rattle.lexer.proofs.NextLaws.{taken-over}
 use Rattle.lexer.proofs.TokenLaws.{by-tokens}
+use Rattle.lexer.proofs.ClassLaws.{Means, told}
 
 -- ---- what stands behind the blanks
 
@@ -57,24 +59,9 @@ before-start zero (b ∷ r) c = go (class b) refl (λ k. before-start k r (moved
 -- ---- no token
 
 -- the only class at which no token starts
-abbrev HaltBy : Class → Type 0
-HaltBy Feed = ⊥
-HaltBy Return = ⊥
-HaltBy Gap = ⊥
-HaltBy Upright = Unit {0}
-HaltBy Hash = ⊥
-HaltBy Quote = ⊥
-HaltBy Slash = ⊥
-HaltBy Other = ⊥
-
-halt-byte : (b : ℕ) → HaltBy (class b) → or (eqb b 11) (eqb b 12) ≡ true
-unfolding class
-halt-byte b =
-    let P : Class → Type 0 = λ k. HaltBy k → or (eqb b 11) (eqb b 12) ≡ true in
-    either P (eqb b 10) (λ e h. absurd h) (λ e. either P (eqb b 13) (λ e h. absurd h) (λ e. either P (eqb b 32) (λ e h. absurd h)
-    (λ e. either P (eqb b 9) (λ e h. absurd h) (λ e. either P (eqb b 11) (λ e h. rw e) (λ f. either P (eqb b 12) (λ e h. rw (f, e))
-    (λ e. either P (eqb b 35) (λ e h. absurd h) (λ e. either P (eqb b 34) (λ e h. absurd h) (λ e. either P (eqb b 39) (λ e h. absurd h)
-    (λ e. either P (eqb b 92) (λ e h. absurd h) (λ e h. absurd h))))))))))
+halt-byte : (b : ℕ) → Means Upright b → or (eqb b 11) (eqb b 12) ≡ true
+halt-byte b (inl e) = rw e
+halt-byte b (inr e) = rw e
 
 abbrev Ends : List ℕ → Cursor → Step → Type 0
 Ends xs c (nothing s) = (s ≡ c) × Halts xs
@@ -89,7 +76,7 @@ tokenAt-ends (b ∷ r) c h = go (class b) refl h
     go Feed e h = tt
     go Return e h = absurd h
     go Gap e h = absurd h
-    go Upright e h = (refl, halt-byte b (rw e tt))
+    go Upright e h = (refl, halt-byte b (told b Upright e))
     go Hash e h = tt
     go Quote e h = tt
     go Slash e h = absurd h
@@ -127,3 +114,12 @@ stops xs =
       cursor = h .over .cursor ∙ ap (λ (l : List ℕ). moves l fresh) (sym (ap (take (s .place)) (h .over .list) ∙ take-at p (h .rest) (s .place) n));
       there = subst Halts (sym (ap (drop (s .place)) (h .over .list) ∙ drop-at p (h .rest) (s .place) n)) (h .there);
     }
+
+-- its line and column, as a token's
+pub stop-line : (xs : List ℕ) → reading xs .stop .line .0 ≡ suc (feeds (take (reading xs .stop .place) xs))
+unfolding fresh
+stop-line xs = omega (arith, ap (λ (c : Cursor). c .line .0) (stops xs .cursor), moves-line (take (reading xs .stop .place) xs) fresh)
+
+pub stop-column : (xs : List ℕ) → reading xs .stop .column .0 ≡ suc (since 0 (take (reading xs .stop .place) xs))
+unfolding fresh
+stop-column xs = ap (λ (c : Cursor). c .column .0) (stops xs .cursor) ∙ moves-column (take (reading xs .stop .place) xs) fresh 0 refl

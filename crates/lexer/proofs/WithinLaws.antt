@@ -1,30 +1,17 @@
 -- A cursor stays within its text and its bounds: line and column grow by one a byte at most.
 use mathlib.Core.Path.{_≡_, sym, ap, _∙_, subst}
-use mathlib.Core.List.{List, [], _∷_}
-use Prim.Native.Nat.{ℕ, _+_, _-_, _≤_, _<_}
+use mathlib.Core.List.{List}
+use Prim.Native.Nat.{ℕ, _+_, _-_, _≤_}
 use native.Mathlib.Omega.{arith}
-use lib.ListN.{length, take, drop, length-drop}
+use lib.ListN.{length, drop, length-drop}
 use lib.Seq.{length-take-le}
 use Rattle.lent.specs.Sizes.{limit, cursorMost}
-use Rattle.lexer.specs.Cursors.{Cursor, moved, moves, fresh}
-use Rattle.lexer.specs.Runs.{Spot, run, took}
+use Rattle.lexer.specs.Cursors.{Cursor, fresh}
+use Rattle.lexer.specs.Runs.{run, took}
 use Rattle.lexer.specs.Rules.{before}
 use Rattle.lexer.specs.Steps.{Within, part, pastBytes, Skipped}
-use Rattle.lexer.proofs.MoveLaws.{by-byte, moves-place}
-use Rattle.lexer.proofs.RunLaws.{run-took, run-place, took-length}
-
--- ---- the bounds
-
-abbrev Bounded : ℕ → Cursor → Type 0
-Bounded m c = (c .line .0 ≤ m + c .place) × (c .column .0 ≤ m + c .place)
-
-moved-bounded : (m : ℕ) → 0 < m → (c : Cursor) (b : ℕ) → Bounded m c → Bounded m (moved c b)
-moved-bounded m h c b x = by-byte (λ t d. Bounded m d) c b (omega arith) (omega arith)
-
-moves-bounded : (m : ℕ) → 0 < m → (p : List ℕ) (c : Cursor) → Bounded m c → Bounded m (moves p c)
-unfolding moves
-moves-bounded m h [] c x = x
-moves-bounded m h (b ∷ p) c x = moves-bounded m h p (moved c b) (moved-bounded m h c b x)
+use Rattle.lexer.proofs.MoveLaws.{moves-place, moves-bounded}
+use Rattle.lexer.proofs.RunLaws.{run-past, run-place, took-length}
 
 -- ---- parts of a text
 
@@ -51,7 +38,5 @@ skipped s c r x e =
     let k = took before 0 (drop (c .place) s) in
     let p : r .place ≡ c .place + k = ap (λ (d : Cursor). d .place) e ∙ run-place before 0 (drop (c .place) s) c in
     let l : c .place + k ≤ length s = omega (arith, took-length before 0 (drop (c .place) s), length-drop (c .place) s, x .inside) in
-    let n : k ≡ r .place - c .place = omega arith in
-    let m : r ≡ pastBytes s c (r .place) =
-    e ∙ ap (λ (d : Spot). d .here) (run-took before 0 (drop (c .place) s) c) ∙ ap (λ (i : ℕ). moves (take i (drop (c .place) s)) c) n in
+    let m : r ≡ pastBytes s c (r .place) = e ∙ run-past before 0 s c (r .place) p in
     record { stop-is = e; moved-is = m; onward = omega arith; within = subst (Within s) (sym m) (within-past s c (r .place) x (omega arith) (omega arith)) }

@@ -96,8 +96,6 @@ pub record Ahead (s : List ℕ) (c : Cursor) (t : Lexeme) : Type 0 where
   pub past : c .place < t .next .place
   pub first-low : t .first ≤ t .next .place
   pub text-low : c .place + t .len ≤ t .next .place
-  pub lined : t .line .0 ≤ cursorMost + t .next .place
-  pub columned : t .column .0 ≤ cursorMost + t .next .place
 
 abbrev pub Onward : List ℕ → Cursor → Found → Type 0
 Onward s c (Found.Token t) = Ahead s c t

@@ -9,7 +9,6 @@ use lib.Dec.{eqb}
 use borrow.Author.Tests.{lt-leb}
 use Rattle.lent.specs.Gates.{firstHigh}
 use Rattle.lent.proofs.HighLaws.{Low}
-use Rattle.lexer.specs.Bytes.{class}
 use Rattle.lexer.specs.declared.Class.{Class}
 use Rattle.lexer.specs.declared.Class.the-variants.{Feed, Return, Gap, Upright, Hash, Quote, Slash, Other}
 use Rattle.lexer.specs.declared.quotes.Mode.{Mode}
@@ -22,6 +21,7 @@ use Rattle.lexer.specs.Tokens.{Token, tokenBy, tokenAt, next, tokens, reading}
 use Rattle.lexer.specs.Places.{All, nil, cons}
 use Rattle.lexer.proofs.TestLaws.{either}
 use Rattle.lexer.proofs.RunLaws.{run-passed}
+use Rattle.lexer.proofs.ClassLaws.{word-by, token-by}
 use Rattle.lexer.proofs.NextLaws.{Of, taken-over}
 use Rattle.lexer.proofs.TokenLaws.{by-tokens}
 
@@ -75,7 +75,7 @@ slash-fine (suc k) = tt
 word-fine : (k b : ℕ) (r : List ℕ) → b < 128 → Gives (word k b r)
 unfolding word wordBy
 word-fine (suc k) b r h = tt
-word-fine zero b r h = go (class b)
+word-fine zero b r h = word-by Gives b r go
   where
     go : (k : Class) → Gives (wordBy k b r)
     go Feed = tt
@@ -125,9 +125,8 @@ tokenBy-worded Slash b r c h a = tt
 tokenBy-worded Other b r c h a = (h, text-ascii word word-fine 0 r a)
 
 tokenAt-worded : (xs : List ℕ) (c : Cursor) → Ascii xs → Of (λ t e. Worded t) (tokenAt xs c)
-unfolding tokenAt
-tokenAt-worded [] c a = tt
-tokenAt-worded (b ∷ r) c a = tokenBy-worded (class b) b r c (a .0) (a .1)
+tokenAt-worded [] c a = unfold tokenAt in tt
+tokenAt-worded (b ∷ r) c a = token-by (Of (λ t e. Worded t)) b r c (λ k. tokenBy-worded k b r c (a .0) (a .1))
 
 next-worded : (xs : List ℕ) (c : Cursor) → Ascii xs → Of (λ t e. Worded t) (next xs c)
 unfolding next

@@ -7,13 +7,13 @@ use native.Mathlib.Omega.{arith}
 use borrow.Author.Needs.{needs}
 use denote.Ref.{now}
 use mathlib.Core.List.{[], _∷_}
-use lib.ListN.{length, drop, getD}
-use Rattle.lexer.specs.Bytes.{class, Feed, Return, Gap, Upright, Hash, Quote, Slash, Other}
+use lib.ListN.{length, drop}
+use Rattle.lexer.specs.Bytes.{Feed, Return, Gap, Upright, Hash, Quote, Slash, Other}
 use Rattle.lexer.specs.Cursors.{cursor}
 use Rattle.lexer.specs.Rules.{beforeBy, lineEnd}
 use Rattle.lexer.specs.Steps.{Skipped}
 use Rattle.lexer.proofs.BlankLaws.{Skipping, skip-gap, skip-return, skip-slash, skip-end, skip-stop, skip-past}
-use Rattle.lexer.proofs.ClassLaws.{arm}
+use Rattle.lexer.proofs.ClassLaws.{classAt, arm}
 use Rattle.lexer.proofs.LineEndLaws.{Ending, ending, line-end-fits}
 
 abbrev Inv-loop : tie.InvT-loop
@@ -39,7 +39,7 @@ loop-again c =
     let s = (now (c .before .before .before .before .before .before .args .s)) in
     let l = c .before .before .before .before .loop in
     let d = cursor (l .place) (l .line) (l .column) (l .mark) in
-    arm (λ k. class (getD s (l .place) 0) ≡ k → Skipping s (c .before .before .before .before .before .before .args .c) 0 (cursor (l .place + 1) (l .line) (l .column + 1) (l .mark))) (Gap ∷ Return ∷ []) _ (c .match .keys1)
+    arm (λ k. classAt s (l .place) ≡ k → Skipping s (c .before .before .before .before .before .before .args .c) 0 (cursor (l .place + 1) (l .line) (l .column + 1) (l .mark))) (Gap ∷ Return ∷ []) _ (c .match .keys1)
     (λ e. skip-gap s _ d (l .inv) (c .before .before .before .loop-test .left) e, (λ e. skip-return s _ d (l .inv) (c .before .before .before .loop-test .left) e, tt))
     (sym (c .before .class-of .ensures))
 
@@ -50,7 +50,7 @@ line-end-requires : tie.Need-line-end-requires Inv-loop μ-loop
 line-end-requires c κs = omega (arith, c .before .before .before .before .loop-test)
 
 -- the byte is a backslash
-is-slash : (c : tie.After-line-end Inv-loop μ-loop) → class (getD (now (c .before .before .before .before .before .before .before .before .args .s)) (c .before .before .before .before .before .before .loop .place) 0) ≡ Slash
+is-slash : (c : tie.After-line-end Inv-loop μ-loop) → classAt (now (c .before .before .before .before .before .before .before .before .args .s)) (c .before .before .before .before .before .before .loop .place) ≡ Slash
 is-slash c = sym (c .before .before .before .class-of .ensures) ∙ c .before .enum-told .given .1
 
 -- its line end is inside the text
@@ -104,7 +104,7 @@ returns-2 c =
     let d = cursor (l .place) (l .line) (l .column) (l .mark) in
     let stops = skip-stop s _ d (l .inv) (c .before .before .before .loop-test .left) in
     let w = c .before .before .before .before .before .before .pre in
-    arm (λ k. class (getD s (l .place) 0) ≡ k → Skipped s (c .before .before .before .before .before .before .args .c) d) (Feed ∷ Upright ∷ Hash ∷ Quote ∷ Other ∷ []) _ (c .match .keys3)
+    arm (λ k. classAt s (l .place) ≡ k → Skipped s (c .before .before .before .before .before .before .args .c) d) (Feed ∷ Upright ∷ Hash ∷ Quote ∷ Other ∷ []) _ (c .match .keys3)
     (λ e. stops Feed e (λ r. refl) w, (λ e. stops Upright e (λ r. refl) w, (λ e. stops Hash e (λ r. refl) w, (λ e. stops Quote e (λ r. refl) w, (λ e. stops Other e (λ r. refl) w, tt)))))
     (sym (c .before .class-of .ensures))
 

@@ -2,56 +2,27 @@
 -- is passed byte by byte, the line end's bytes being owed.
 use mathlib.Core.Path.{_≡_, _∙_, refl, sym}
 use mathlib.Core.List.{List, [], _∷_}
-use Prim.Native.Nat.{ℕ, zero, suc, _+_, _-_, _≤_, _<_}
+use Prim.Native.Nat.{ℕ, suc, _+_, _-_, _≤_, _<_}
 use native.Mathlib.Omega.{arith}
 use borrow.Author.Needs.{needs}
-use types.Run.{OneOf}
-use denote.Enum.Declared.{tagOf}
 use denote.Ref.{now}
 use lib.ListN.{length, drop, getD, set}
 use Rattle.lent.proofs.BufferLaws.{written-none}
-use Rattle.lexer.specs.Bytes.{Class, Feed, Return, Gap, Upright, Hash, Quote, Slash, Other, class}
-use Rattle.lexer.specs.Runs.{ends, takes, text, took}
-use Rattle.lexer.specs.Rules.{lineEnd, word, wordBy, wordSlash}
+use Rattle.lexer.specs.Bytes.{Slash}
+use Rattle.lexer.specs.Runs.{takes, text, took}
+use Rattle.lexer.specs.Rules.{lineEnd, word}
 use Rattle.lexer.specs.Steps.{Ran, Wrote}
 use Rattle.lexer.specs.declared.moving.Run.{Run}
-use Rattle.lexer.proofs.Class.{the-type}
-use Rattle.lexer.proofs.ClassLaws.{told, slash-dark, other-dark, not-feed, tags, arm}
+use Rattle.lexer.proofs.ClassLaws.{classAt, slash-dark, other-dark, not-feed, word-other, word-lone, word-cut, word-stop}
 use Rattle.lexer.proofs.LineEndLaws.{line-end-fits, Ending, ending, ending-counted, ending-going, ending-writing}
 use Rattle.lexer.proofs.LoopLaws.{Counted, counted-none, counted-flat, Going, going-on, going-stop, going-end, Writing, writing-none, writing-one, text-stop, text-end, ran, wrote}
 use Rattle.lexer.proofs.words.read_word.Statement.{statement}
 use Rattle.lexer.proofs.words.read_word.Tie as tie
 
--- ---- what a byte does to a word
-
-word-other : (b : ℕ) (r : List ℕ) → class b ≡ Other → word 0 b r ≡ takes (b ∷ []) 0
-unfolding word wordBy
-word-other b r e = rw e
-
-word-lone : (b : ℕ) (r : List ℕ) → class b ≡ Slash → lineEnd r ≡ 0 → word 0 b r ≡ takes (b ∷ []) 0
-unfolding word wordBy wordSlash
-word-lone b r e f = rw (e, f, told b Slash e)
-
-slash-cut : (k : ℕ) → (k ≡ 0 → ⊥) → wordSlash k ≡ takes [] k
-unfolding wordSlash
-slash-cut zero n = absurd (n refl)
-slash-cut (suc k) n = refl
-
-word-cut : (b : ℕ) (r : List ℕ) {k : ℕ} → class b ≡ Slash → k ≡ lineEnd r → (k ≡ 0 → ⊥) → word 0 b r ≡ takes [] k
-unfolding word wordBy
-word-cut b r {k} e f n = rw (e, ← f) (slash-cut k n)
-
+-- the bytes owed give nothing
 word-owes : (k b : ℕ) (r : List ℕ) → word (suc k) b r ≡ takes [] k
 unfolding word
 word-owes k b r = refl
-
--- the classes of the last arm
-abbrev stops : List Class
-stops = Feed ∷ Return ∷ Gap ∷ Upright ∷ Hash ∷ Quote ∷ []
-
-word-stop : (b : ℕ) (r : List ℕ) (k : Class) → k ≡ class b → OneOf (tags stops) (tagOf the-type k) → word 0 b r ≡ ends
-unfolding word wordBy
-word-stop b r k e h = rw (← e) (arm (λ (k : Class). wordBy k b r ≡ ends) stops k h (refl, (refl, (refl, (refl, (refl, (refl, tt)))))))
 
 -- ---- the invariant
 
@@ -84,7 +55,7 @@ module _ {s : List ℕ} {from : ℕ} {old new : List ℕ} {at n feeds last : ℕ
   }
 
   -- a backslash with its line end
-  cut : {owed : ℕ} → class (getD s at 0) ≡ Slash → owed ≡ lineEnd (drop (at + 1) s) → (owed ≡ 0 → ⊥)
+  cut : {owed : ℕ} → classAt s at ≡ Slash → owed ≡ lineEnd (drop (at + 1) s) → (owed ≡ 0 → ⊥)
       → Inv s from old new (at + (1 + owed)) n (feeds + 1) (at + (1 + owed))
   cut {owed} e f g =
       let j : at + (1 + owed) ≡ at + 1 + owed = omega arith in
