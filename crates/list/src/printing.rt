@@ -1,4 +1,4 @@
-// A text's line, with room for all that a text within the limit holds.
+// A text's line, with room for all that a text within the program's limit holds.
 ghost use Prim.Native.Nat.{_≤_};
 ghost use lib.ListN.{length};
 ghost use Rattle.listing.specs.Listings.{lineMost};
@@ -10,8 +10,8 @@ pub fn line_of(input: &[u8], out: &mut [u8]) -> usize
     requires { ⌜ lineMost ≤ length (now out) ⌝ }
     ensures { λ r. ⌜ Prints (now (input .entry)) (now (out .exit)) r ⌝ }
 {
-    let mut text = [0u8; 16384];
-    let mut records = [0u64; 81920];
+    let mut text = [0u8; listing::LIST_LIMIT];
+    let mut records = [0u64; listing::LIST_RECORDS];
     match listing::list_text(input, &mut text, &mut records, out) {
         Answer::Written(n) => n,
         Answer::NoRoom(n) => n,

@@ -1,33 +1,32 @@
 -- How long a listing gets: an element takes at most 29 bytes with its comma and six for each byte of its text,
 -- and a text has no more tokens, and no longer texts, than bytes.
-use mathlib.Core.Path.{_≡_, refl, ap}
 use mathlib.Core.Bool.{Bool, true, false}
 use mathlib.Core.List.{List, [], _∷_, _++_}
 use Prim.Native.Nat.{ℕ, zero, suc, _+_, _*_, _/_, _%_, _≤_, _<_}
 use native.Mathlib.Omega.{arith}
 use lib.ListN.{length, take, length-append, length-take}
-use lib.Dec.{eqb, ltb}
+use lib.Dec.{ltb}
 use borrow.Author.Tests.{lt-ltb}
 use Rattle.ascii.specs.Choice.{pick}
-use Rattle.lent.specs.Sizes.{limit}
 use Rattle.lexer.specs.declared.Kind.{Kind}
 use Rattle.lexer.specs.declared.Line.{Line}
 use Rattle.lexer.specs.declared.Column.{Column}
-use Rattle.lexer.specs.declared.Cursor.{Cursor}
-use Rattle.lexer.specs.Cursors.{fresh, moves}
 use Rattle.lexer.specs.Tokens.{Token, reading}
-use Rattle.lexer.specs.Places.{since, Placed, All, nil, cons, total}
-use Rattle.lexer.proofs.LoopLaws.{feeds-few}
-use Rattle.lexer.proofs.MoveLaws.{moves-line, moves-column}
+use Rattle.lexer.specs.Places.{Placed, All, nil, cons, total}
+use Rattle.lexer.proofs.LoopLaws.{feeds-few, since-few}
 use Rattle.lexer.proofs.PlaceLaws.{all-map, places, texts-fit}
-use Rattle.lexer.proofs.StopLaws.{stops}
+use Rattle.lexer.proofs.StopLaws.{stop-line, stop-column}
 use Rattle.listing.specs.Json.{onto, decimal, trail, joined}
-use Rattle.listing.specs.Listings.{End, Early, rowOf, element, elements, stopAt, stopOf, listing}
+use Rattle.listing.specs.Listings.{End, Early, rowOf, element, elements, stopAt, stopOf, listing, listLimit}
 use Rattle.listing.specs.Steps.{pair, stopTail}
 use Rattle.listing.proofs.ElementLaws.{row-length, early-length, joined-stopped}
 use Rattle.listing.proofs.MadeLaws.{count-fits}
 
 -- ---- numbers of five digits
+
+-- the lines and columns of a text that the program takes are below it
+abbrev pub fiveDigits : ℕ
+fiveDigits = 100000
 
 -- one digit more, for ten times the bound
 digit-more : (bound k : ℕ) → ((j n : ℕ) (r : List ℕ) → n < bound → length (onto j n r) ≤ k + length r)
@@ -45,27 +44,27 @@ unfolding onto
 one zero n r h = omega arith
 one (suc j) n r h = rw (lt-ltb n 10 h) (omega arith)
 
-five : (j n : ℕ) (r : List ℕ) → n < 100000 → length (onto j n r) ≤ 5 + length r
+five : (j n : ℕ) (r : List ℕ) → n < fiveDigits → length (onto j n r) ≤ 5 + length r
 five j n r h =
     digit-more 10000 4 (λ j n r h. digit-more 1000 3 (λ j n r h. digit-more 100 2 (λ j n r h. digit-more 10 1 one j n r (omega arith)) j n r (omega arith)) j n r (omega arith)) j n r (omega arith)
 
-decimal-short : (n : ℕ) → n < 100000 → length (decimal n) ≤ 5
+decimal-short : (n : ℕ) → n < fiveDigits → length (decimal n) ≤ 5
 unfolding decimal
 decimal-short n h = omega (arith, five 20 n [] h)
 
-pair-short : (a b : ℕ) → a < 100000 → b < 100000 → length (pair a b) ≤ 11
+pair-short : (a b : ℕ) → a < fiveDigits → b < fiveDigits → length (pair a b) ≤ 11
 pair-short a b h k = omega (arith, length-append (decimal a) (44 ∷ decimal b), decimal-short a h, decimal-short b k)
 
 -- ---- an element
 
-row-short : (k : Kind) (l c : ℕ) (t : List ℕ) → l < 100000 → c < 100000 → length (rowOf k l c t) ≤ 6 * length t + 28
+row-short : (k : Kind) (l c : ℕ) (t : List ℕ) → l < fiveDigits → c < fiveDigits → length (rowOf k l c t) ≤ 6 * length t + 28
 row-short k l c t h g = omega (arith, row-length k l c t 11 (pair-short l c h g))
 
 -- ---- all of them
 
 pub record Near (t : Token) : Type 0 where
-  pub lined : t .line .0 < 100000
-  pub columned : t .column .0 < 100000
+  pub lined : t .line .0 < fiveDigits
+  pub columned : t .column .0 < fiveDigits
 
 trail-short : {ts : List Token} → All Near ts → length (trail (elements ts)) ≤ 29 * length ts + 6 * total ts
 unfolding trail elements total
@@ -78,7 +77,7 @@ unfolding joined trail
 joined-short [] = omega arith
 joined-short (x ∷ r) = omega arith
 
-tail-short : (n place len : ℕ) (line : Line) (column : Column) → line .0 < 100000 → column .0 < 100000 → length (stopTail n (stopAt place len line column)) ≤ 24
+tail-short : (n place len : ℕ) (line : Line) (column : Column) → line .0 < fiveDigits → column .0 < fiveDigits → length (stopTail n (stopAt place len line column)) ≤ 24
 unfolding stopAt
 tail-short n place len line column h k = go (ltb place len)
   where
@@ -88,17 +87,8 @@ tail-short n place len line column h k = go (ltb place len)
 
 -- ---- the lines and columns of a reading
 
-since-few : (n : ℕ) (p : List ℕ) → since n p ≤ n + length p
-unfolding since
-since-few n [] = omega arith
-since-few n (b ∷ r) = go (eqb b 10) (since-few 0 r) (since-few (suc n) r)
-  where
-    go : (t : Bool) → since 0 r ≤ 0 + length r → since (suc n) r ≤ suc n + length r → since (pick t 0 (suc n)) r ≤ n + suc (length r)
-    go true x y = omega arith
-    go false x y = omega arith
-
-module _ (s : List ℕ) (h : length s ≤ limit) where
-  front : (n : ℕ) → length (take n s) ≤ limit
+module _ (s : List ℕ) (h : length s ≤ listLimit) where
+  front : (n : ℕ) → length (take n s) ≤ listLimit
   front n = rw length-take (omega arith)
 
   pub near : (t : Token) → Placed s t → Near t
@@ -107,19 +97,11 @@ module _ (s : List ℕ) (h : length s ≤ limit) where
     columned = rw (p .columned) (omega (arith, since-few 0 (take (t .first) s), front (t .first)));
   }
 
-  pub stop-lined : reading s .stop .line .0 < 100000
-  unfolding fresh
-  stop-lined =
-      let p = take (reading s .stop .place) s in
-      let e : reading s .stop .line .0 ≡ moves p fresh .line .0 = ap (λ (c : Cursor). c .line .0) (stops s .cursor) in
-      omega (arith, e, moves-line p fresh, feeds-few p, front (reading s .stop .place))
+  pub stop-lined : reading s .stop .line .0 < fiveDigits
+  stop-lined = let n = reading s .stop .place in omega (arith, stop-line s, feeds-few (take n s), front n)
 
-  pub stop-columned : reading s .stop .column .0 < 100000
-  unfolding fresh
-  stop-columned =
-      let p = take (reading s .stop .place) s in
-      let e : reading s .stop .column .0 ≡ moves p fresh .column .0 = ap (λ (c : Cursor). c .column .0) (stops s .cursor) in
-      omega (arith, e, moves-column p fresh 0 refl, since-few 0 p, front (reading s .stop .place))
+  pub stop-columned : reading s .stop .column .0 < fiveDigits
+  stop-columned = let n = reading s .stop .place in omega (arith, stop-column s, since-few 0 (take n s), front n)
 
   -- The bound: 35 bytes of listing for a byte of text, and 26 more.
   pub listing-short : length (listing (reading s .tokens) (stopOf s)) ≤ 35 * length s + 26

@@ -1,4 +1,5 @@
 // The answers for action lists and for a setvar alone.
+use crate::sizes;
 use crate::words::print_number;
 use crate::words::print_records;
 use crate::words::print_refusal;
@@ -34,7 +35,7 @@ fn print_answer(answer: Answer, text: &[u8], records: &[u64]) {
             print_records(records, count, lent::ACTION_WORDS);
             print_text(text, used);
         }
-        Answer::TooLong => print_refusal(1, 16384),
+        Answer::TooLong => print_refusal(1, lent::LIMIT),
         Answer::NotAscii(place) => print_refusal(2, place),
         Answer::Short => print_refusal(3, 0),
         Answer::UnknownAction { piece, name } => print_refused(5, piece, name, text),
@@ -45,9 +46,9 @@ fn print_answer(answer: Answer, text: &[u8], records: &[u64]) {
 
 // The scratch buffer comes last, without the zeros at its end.
 pub fn print_actions(input: &[u8]) {
-    let mut text = [0u8; 16384];
-    let mut scratch = [0u8; 16384];
-    let mut records = [0u64; 32768];
+    let mut text = [0u8; sizes::TEXT];
+    let mut scratch = [0u8; sizes::TEXT];
+    let mut records = [0u64; sizes::ACTIONS];
     let answer = actions::parse_actions(input, &mut text, &mut scratch, &mut records);
     print_answer(answer, &text, &records);
     io::write_all(1, b" ");
@@ -55,8 +56,8 @@ pub fn print_actions(input: &[u8]) {
 }
 
 pub fn print_setvar(input: &[u8]) {
-    let mut text = [0u8; 16387];
-    let mut records = [0u64; 6];
+    let mut text = [0u8; sizes::SETVAR];
+    let mut records = [0u64; lent::ACTION_WORDS];
     let answer = actions::parse_setvar(input, &mut text, &mut records);
     print_answer(answer, &text, &records);
 }

@@ -1,5 +1,6 @@
 // The lexer's answers: a whole text, and one step.
 use crate::hexes;
+use crate::sizes;
 use crate::words::print_number;
 use crate::words::print_records;
 use crate::words::print_refusal;
@@ -14,8 +15,8 @@ use lexer::Step;
 
 // Records needed, where the buffer of this program is too small for them.
 pub fn print_tokens(input: &[u8]) {
-    let mut text = [0u8; 16384];
-    let mut records = [0u64; 20480];
+    let mut text = [0u8; sizes::TEXT];
+    let mut records = [0u64; sizes::RECORDS];
     match lexer::tokens(input, &mut text, &mut records) {
         Answer::Read {
             count,
@@ -33,7 +34,7 @@ pub fn print_tokens(input: &[u8]) {
             print_records(&records, count, lent::TOKEN_WORDS);
             print_text(&text, used);
         }
-        Answer::TooLong => print_refusal(1, 16384),
+        Answer::TooLong => print_refusal(1, lent::LIMIT),
         Answer::NotAscii(place) => print_refusal(2, place),
         Answer::Short => print_refusal(3, 0),
         Answer::NoRoom(needed) => print_refusal(4, needed),
@@ -82,7 +83,7 @@ pub fn print_step(body: &[u8]) {
         column: Column(hexes::word(&body[16..24]) as usize),
         mark: body[24] == 1,
     };
-    let mut text = [0u8; 16384];
+    let mut text = [0u8; sizes::TEXT];
     match lexer::next_token(&body[25..], from, &mut text) {
         Step::Token(t) => {
             let next = t.next;
@@ -99,7 +100,7 @@ pub fn print_step(body: &[u8]) {
             print_cursor(c);
             io::write_all(1, b"-");
         }
-        Step::TooLong => print_refusal(1, 16384),
+        Step::TooLong => print_refusal(1, lent::LIMIT),
         Step::NotAscii(place) => print_refusal(2, place),
         Step::Short => print_refusal(3, 0),
         Step::BadCursor => print_refusal(9, 0),

@@ -14,9 +14,9 @@ fn print_line(out: &[u8], n: usize) {
 }
 
 pub fn print_listing(input: &[u8]) {
-    let mut text = [0u8; 16384];
-    let mut records = [0u64; 81920];
-    let mut out = [0u8; 573472];
+    let mut text = [0u8; listing::LIST_LIMIT];
+    let mut records = [0u64; listing::LIST_RECORDS];
+    let mut out = [0u8; listing::LIST_LINE];
     match listing::list_text(input, &mut text, &mut records, &mut out) {
         Answer::Written(n) => print_line(&out, n),
         Answer::NoRoom(_) => {}

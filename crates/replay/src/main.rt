@@ -10,6 +10,7 @@ mod matching;
 mod operating;
 mod phasing;
 mod selecting;
+mod sizes;
 mod targeting;
 mod words;
 
@@ -17,14 +18,14 @@ use lines::Line;
 
 // One question and its answer; whether there was one.
 fn answer_one() -> bool {
-    let mut line = [0u8; 65536];
+    let mut line = [0u8; sizes::LINE];
     let Line::Of(n) = lines::read_line(&mut line) else {
         return false;
     };
     if n < 2 {
         return false;
     }
-    let mut body = [0u8; 32768];
+    let mut body = [0u8; sizes::BODY];
     let len = hexes::decode(&line[2..n], &mut body);
     answers::answer(line[0], &body[..len]);
     true

@@ -18,7 +18,7 @@ pub fn print_operator(input: &[u8]) {
             print_number(name);
             print_text(argument, argument.len());
         }
-        Answer::TooLong => print_refusal(1, 16384),
+        Answer::TooLong => print_refusal(1, lent::LIMIT),
         Answer::NotAscii(place) => print_refusal(2, place),
         Answer::Unknown { place, len } => {
             print_number(8);

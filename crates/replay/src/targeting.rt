@@ -1,4 +1,5 @@
 // The answers of the two parsers of lists, each with buffers of its own.
+use crate::sizes;
 use crate::words::print_number;
 use crate::words::print_records;
 use crate::words::print_refusal;
@@ -14,7 +15,7 @@ fn print_answer(answer: Answer, text: &[u8], records: &[u64]) {
             print_records(records, count, lent::VARIABLE_WORDS);
             print_text(text, used);
         }
-        Answer::TooLong => print_refusal(1, 16384),
+        Answer::TooLong => print_refusal(1, lent::LIMIT),
         Answer::NotAscii(place) => print_refusal(2, place),
         Answer::Short => print_refusal(3, 0),
         Answer::Unknown { piece, name } => {
@@ -28,15 +29,15 @@ fn print_answer(answer: Answer, text: &[u8], records: &[u64]) {
 }
 
 pub fn print_variables(input: &[u8]) {
-    let mut text = [0u8; 16384];
-    let mut records = [0u64; 20480];
+    let mut text = [0u8; sizes::TEXT];
+    let mut records = [0u64; sizes::RECORDS];
     let answer = variables::parse_variables(input, &mut text, &mut records);
     print_answer(answer, &text, &records);
 }
 
 pub fn print_update(input: &[u8]) {
-    let mut text = [0u8; 16384];
-    let mut records = [0u64; 20480];
+    let mut text = [0u8; sizes::TEXT];
+    let mut records = [0u64; sizes::RECORDS];
     let answer = variables::parse_update_targets(input, &mut text, &mut records);
     print_answer(answer, &text, &records);
 }
