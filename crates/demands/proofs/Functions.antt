@@ -37,8 +37,6 @@ pub use Rattle.names.proofs.severity_code.Met.{met as severity-code}
 pub use Rattle.names.proofs.is_collection.Met.{met as is-collection}
 pub use Rattle.names.proofs.is_implemented.Met.{met as is-implemented}
 pub use Rattle.names.proofs.variable_code.Met.{met as variable-code}
-pub use Rattle.spellings.proofs.operator_code.Met.{met as spelled-operator-code}
-pub use Rattle.spellings.proofs.variable_code.Met.{met as spelled-variable-code}
 pub use Rattle.lexer.proofs.next_token.Met.{met as next-token}
 pub use Rattle.lexer.proofs.step_in.Met.{met as step-in}
 pub use Rattle.lexer.proofs.start.Met.{met as start}

@@ -8,3 +8,4 @@ pub mod FlagLaws
 pub mod VariableLaws
 pub mod OperatorLaws
 pub mod SeverityLaws
+pub mod RunLaws

@@ -5,3 +5,4 @@ pub mod Variables
 pub mod Run
 pub mod Operators
 pub mod Severities
+pub mod Runs

@@ -2,11 +2,14 @@
 mod comparing;
 mod folding;
 mod halving;
+mod matching;
 mod operator_names;
+mod operator_runs;
 mod packing;
 mod severities;
 mod shelving;
 mod variable_names;
+mod variable_runs;
 mod widening;
 
 pub use operator_names::operator_code;

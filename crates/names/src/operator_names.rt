@@ -1,5 +1,6 @@
 // The operator names (operator.rs): 39 rows of 20 bytes in the enum's order, so that a row's number is the code.
 use crate::Lookup;
+use crate::operator_runs::operator_code_hint;
 use crate::shelving::lowered_shelf_of;
 ghost use mathlib.Core.Path.{_≡_};
 ghost use Rattle.names.specs.Operators.{operatorCode, requiresArgument};
@@ -92,8 +93,8 @@ const LENGTHS: [u8; 39] = [
 // A flag for each operator, 1 or 0.
 const NEEDS_ARGUMENT: [u8; 39] = *b"111111111111111110000111111111110111001";
 
-// A name longer than a row is turned away at once.
-pub fn operator_code(name: &[u8]) -> Lookup
+// The search by row, for a name in any letters. A name longer than a row is turned away at once.
+fn by_rows(name: &[u8]) -> Lookup
     ensures { λ r. ⌜ r ≡ operatorCode (now (name .entry)) ⌝ }
 {
     if 20 < name.len() {
@@ -104,6 +105,19 @@ pub fn operator_code(name: &[u8]) -> Lookup
         Lookup::Code(place as u64)
     } else {
         Lookup::Unknown
+    }
+}
+
+// A name as rules write it is found among the few of its length; any other, or one of no operator, by row.
+pub fn operator_code(name: &[u8]) -> Lookup
+    ensures { λ r. ⌜ r ≡ operatorCode (now (name .entry)) ⌝ }
+{
+    if 20 < name.len() {
+        return by_rows(name);
+    }
+    match operator_code_hint(name) {
+        Lookup::Code(code) => Lookup::Code(code),
+        Lookup::Unknown => by_rows(name),
     }
 }
 

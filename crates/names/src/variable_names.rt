@@ -5,6 +5,8 @@ use crate::halving::place_of;
 use crate::packing::CODES;
 use crate::packing::NAMES;
 use crate::packing::STARTS;
+use crate::variable_runs::commonest;
+use crate::variable_runs::variable_code_hint;
 use crate::widening::wide;
 ghost use mathlib.Core.Path.{_≡_};
 ghost use Rattle.names.specs.Variables.{variableCode, isCollection, isImplemented};
@@ -16,8 +18,8 @@ const COLLECTIONS: [u8; 92] =
 const IMPLEMENTED: [u8; 92] =
     *b"11111111111111111111110101101100111100000001111000000000100010000000000000000011000000111110";
 
-// A name longer than the longest, 27 bytes, is turned away before the buffer.
-pub fn variable_code(name: &[u8]) -> Lookup
+// The search by halves, for a name in any letters. A name longer than the longest, 27 bytes, is turned away before the buffer.
+fn by_halves(name: &[u8]) -> Lookup
     ensures { λ r. ⌜ r ≡ variableCode (now (name .entry)) ⌝ }
 {
     let n = name.len();
@@ -31,6 +33,29 @@ pub fn variable_code(name: &[u8]) -> Lookup
         Lookup::Code(wide(CODES[place]))
     } else {
         Lookup::Unknown
+    }
+}
+
+// A name in other letters than capitals, or of no variable, is left to the search by halves; one longer than all, at once.
+fn by_length(name: &[u8]) -> Lookup
+    ensures { λ r. ⌜ r ≡ variableCode (now (name .entry)) ⌝ }
+{
+    if 27 < name.len() {
+        return by_halves(name);
+    }
+    match variable_code_hint(name) {
+        Lookup::Code(code) => Lookup::Code(code),
+        Lookup::Unknown => by_halves(name),
+    }
+}
+
+// The few names that rules have most often are asked for first.
+pub fn variable_code(name: &[u8]) -> Lookup
+    ensures { λ r. ⌜ r ≡ variableCode (now (name .entry)) ⌝ }
+{
+    match commonest(name) {
+        Lookup::Code(code) => Lookup::Code(code),
+        Lookup::Unknown => by_length(name),
     }
 }
 

@@ -22,7 +22,7 @@ pub fn operator_in(s: &[u8]) -> Answer
     }
     let first = f.first;
     let past = f.past;
-    match spellings::operator_code(&s[first..past]) {
+    match names::operator_code(&s[first..past]) {
         Lookup::Code(name) => Answer::Parsed {
             negated: f.negated,
             name,

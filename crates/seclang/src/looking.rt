@@ -24,8 +24,8 @@ pub extern "C" fn seclang_lookup(table: u64, name: &[u8]) -> u64
     ensures { λ r. ⌜ r ≡ codeOf (lookupIn table (now (name .entry))) ⌝ }
 {
     match table {
-        0 => code_or_none(spellings::variable_code(name)),
-        1 => code_or_none(spellings::operator_code(name)),
+        0 => code_or_none(names::variable_code(name)),
+        1 => code_or_none(names::operator_code(name)),
         2 => code_or_none(names::severity_code(name)),
         _ => u64::MAX,
     }

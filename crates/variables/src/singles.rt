@@ -90,7 +90,7 @@ fn named(p: &[u8], first: usize, counts: bool) -> Reading
     ensures { λ r. ⌜ Singles (now (p .entry)) (splitSingle (atColon (drop first (now (p .entry)))) counts) r ⌝ }
 {
     let colon = first + ascii::first_of(&p[first..], b':');
-    match spellings::variable_code(&p[first..colon]) {
+    match names::variable_code(&p[first..colon]) {
         Lookup::Unknown => Reading::Unknown {
             begin: first,
             end: colon,
@@ -120,7 +120,7 @@ fn marked(p: &[u8], exclusions: Exclusions) -> Reading
         Exclusions::AsWritten => Reading::Exclusion,
         Exclusions::LookedUp => {
             let end = 1 + ascii::first_of(&p[1..], b':');
-            match spellings::variable_code(&p[1..end]) {
+            match names::variable_code(&p[1..end]) {
                 Lookup::Code(_) => Reading::Exclusion,
                 Lookup::Unknown => Reading::Unknown { begin: 1, end },
             }

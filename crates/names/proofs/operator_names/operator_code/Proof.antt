@@ -1,44 +1,21 @@
--- The rows and lengths are those of the definition's table.
-use mathlib.Core.Path.{sym}
+-- A hint is the answer; with none, the search behind it gives the answer.
 use borrow.Author.Needs.{needs}
-use denote.Ref.{now}
-use Rattle.ascii.specs.Text.{bytes}
-use Rattle.ascii.specs.Fold.{lower, lowered}
-use Rattle.names.specs.Shelves.{shelved}
-use Rattle.names.specs.Operators.{operators, operatorCode}
-use Rattle.names.proofs.ShelfLaws.{shelf-none}
-use Rattle.names.proofs.FoldingLaws.{folded-longer}
-use Rattle.names.proofs.OperatorLaws.{operator-found, operator-long}
+use Rattle.names.proofs.RunLaws.{hint-is}
 use Rattle.names.proofs.operator_names.operator_code.Statement.{statement}
 use Rattle.names.proofs.operator_names.operator_code.Tie as tie
 
-returns : tie.Need-returns
-unfolding operatorCode
-returns c =
-    let s = c .before .before .args in
-    sym (operator-long (lowered (now (s .name))) (folded-longer lower 20 (now (s .name)) (c .if1 .taken)))
-
 returns-2 : tie.Need-returns-2
-unfolding operatorCode operators bytes shelved
-returns-2 c =
-    let s = c .before .before .before .before .before .before .args in
-    let f = c .before .lowered-shelf-of in
-    sym (operator-found (lowered (now (s .name))) (f .result) (f .ensures) (c .if2 .taken))
-
-returns-3 : tie.Need-returns-3
-unfolding operatorCode operators bytes shelved
-returns-3 c =
-    let s = c .before .before .before .before .before .before .args in
-    let f = c .before .lowered-shelf-of in
-    sym (shelf-none operators (lowered (now (s .name))) (f .result) (f .ensures) (c .if2 .left))
+returns-2 c = hint-is (c .before .before .before .operator-code-hint .ensures) (c .before .code .given .1)
 
 pub operator-code-spec : {M : Type 1} → statement M
 operator-code-spec =
     tie.close
     (tie.spec
-    returns
+    (λ c κs. search needs)
+    (λ c. search needs)
+    (λ c κs. search needs)
     (λ c. search needs)
     (λ c. search needs)
     (λ c κs. search needs)
     returns-2
-    returns-3)
+    (λ c. search needs))
