@@ -1,16 +1,20 @@
 -- What a loop over the parts of a run comes to, and what is found there.
 use mathlib.Core.Path.{_≡_, _∙_, refl, sym, ap}
-use mathlib.Core.Bool.{true, false}
+use mathlib.Core.Bool.{Bool, true, false}
 use mathlib.Core.List.{List, [], _∷_}
 use Prim.Native.Nat.{ℕ, _+_, _<_, _≤_}
 use native.Mathlib.Omega.{arith}
+use borrow.Author.Needs.{needs}
 use lib.ListN.{length, take, drop, getD, length-drop, drop-of-length-le}
 use lib.Seq.{drop-drop, take-all}
 use Rattle.ascii.specs.Choice.{pick}
-use Rattle.ascii.specs.Fold.{same}
+use Rattle.ascii.specs.Text.{bytes}
+use Rattle.ascii.specs.Fold.{lower, upper, same}
 use Rattle.ascii.proofs.ListLaws.{next-byte}
 use Rattle.ascii.proofs.SameLaws.{same-false}
 use Rattle.names.specs.Tables.{find, answered}
+use Rattle.names.specs.Variables.{variables, variableCode}
+use Rattle.names.specs.Operators.{operators, operatorCode}
 use Rattle.names.specs.declared.Lookup.{Lookup}
 use Rattle.names.specs.declared.Lookup.the-variants.{Code, Unknown}
 use Rattle.names.proofs.TableLaws.{carried}
@@ -60,3 +64,27 @@ hint answer n {run} {codes} {name} {r} x e t = go r (x .first)
 
 pub hint-is : {answer r : Lookup} {c : ℕ} → Hinted answer r → r ≡ Code c → Code c ≡ answer
 hint-is h e = sym (rw e at h)
+
+pub ruleset hints = (hint-is, needs)
+
+-- ---- the two tables: one computed test says that each name of a run has its code, and a ruleset is what proves an arm
+
+unfoldable pub variable-run : ℕ → List ℕ → List ℕ → Bool
+unfolding answered cut variableCode find variables same bytes upper
+variable-run n run codes = answered variableCode (cut n run codes)
+
+pub of-variables : {run codes name : List ℕ} {r : Lookup} (n : ℕ) → InRun run codes name r → length name ≡ n → variable-run n run codes ≡ true → Hinted (variableCode name) r
+unfolding variable-run
+of-variables n x e t = hint variableCode n x e t
+
+pub ruleset variable-runs = (of-variables, needs)
+
+unfoldable pub operator-run : ℕ → List ℕ → List ℕ → Bool
+unfolding answered cut operatorCode find operators same bytes lower
+operator-run n run codes = answered operatorCode (cut n run codes)
+
+pub of-operators : {run codes name : List ℕ} {r : Lookup} (n : ℕ) → InRun run codes name r → length name ≡ n → operator-run n run codes ≡ true → Hinted (operatorCode name) r
+unfolding operator-run
+of-operators n x e t = hint operatorCode n x e t
+
+pub ruleset operator-runs = (of-operators, needs)

@@ -5,9 +5,9 @@ use mathlib.Core.List.{List, [], _∷_, map}
 use Prim.Native.Nat.{ℕ, zero, suc, _+_, _<_, zero-le, suc-le-suc}
 use native.Mathlib.Nat.{not-suc-le-zero, le-of-suc-le-suc, lt-irrefl, lt-of-le-of-lt, add-zero, suc-add, add-suc}
 use lib.ListN.{length, getD}
-use lib.Dec.{eqb, leb}
+use lib.Dec.{leb}
 use borrow.Author.Tests.{eqb-true, leb-true}
-use Rattle.ascii.specs.Choice.{pick, and}
+use Rattle.ascii.specs.Choice.{pick}
 use Rattle.ascii.specs.Fold.{same}
 use Rattle.names.specs.declared.Lookup.{Lookup}
 use Rattle.names.specs.declared.Lookup.the-variants.{Code, Unknown}

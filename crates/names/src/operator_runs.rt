@@ -5,8 +5,8 @@ ghost use Rattle.names.specs.Runs.{Hinted};
 use crate::Lookup;
 use crate::matching::code_in;
 
-// Two letters to five.
-fn of_two_to_five(name: &[u8]) -> Lookup
+// Two letters to eleven.
+fn of_two_to_eleven(name: &[u8]) -> Lookup
     ensures { λ r. ⌜ Hinted (operatorCode (now (name .entry))) r ⌝ }
 {
     match name.len() {
@@ -14,15 +14,6 @@ fn of_two_to_five(name: &[u8]) -> Lookup
         3 => code_in(name, b"pmfrbl", &[3, 31]),
         4 => code_in(name, b"rsub", &[38]),
         5 => code_in(name, b"streq", &[4]),
-        _ => Lookup::Unknown,
-    }
-}
-
-// Six to eight.
-fn of_six_to_eight(name: &[u8]) -> Lookup
-    ensures { λ r. ⌜ Hinted (operatorCode (now (name .entry))) r ⌝ }
-{
-    match name.len() {
         6 => code_in(name, b"within", &[9]),
         7 => code_in(name, b"ipmatchnomatchipMatchnoMatch", &[28, 36, 28, 36]),
         8 => code_in(
@@ -30,15 +21,6 @@ fn of_six_to_eight(name: &[u8]) -> Lookup
             b"containsendswithstrmatchverifyccipmatchfendsWithipMatchFverifyCC",
             &[5, 8, 10, 25, 30, 8, 30, 25],
         ),
-        _ => Lookup::Unknown,
-    }
-}
-
-// Nine and ten.
-fn of_nine_and_ten(name: &[u8]) -> Lookup
-    ensures { λ r. ⌜ Hinted (operatorCode (now (name .entry))) r ⌝ }
-{
-    match name.len() {
         9 => code_in(
             name,
             b"detectxssverifyssnverifycpfgeolookupgsblookupfuzzyhashdetectXSSfuzzyHashgeoLookupgsbLookupverifyCPFverifySSN",
@@ -49,35 +31,26 @@ fn of_nine_and_ten(name: &[u8]) -> Lookup
             b"pmfromfilebeginswithdetectsqlibeginsWithdetectSQLipmFromFile",
             &[2, 7, 17, 7, 17, 2],
         ),
-        _ => Lookup::Unknown,
-    }
-}
-
-// Eleven to fourteen.
-fn of_eleven_to_fourteen(name: &[u8]) -> Lookup
-    ensures { λ r. ⌜ Hinted (operatorCode (now (name .entry))) r ⌝ }
-{
-    match name.len() {
         11 => code_in(
             name,
             b"validatedtdinspectfileinspectFilevalidateDTD",
             &[23, 34, 34, 23],
         ),
+        _ => Lookup::Unknown,
+    }
+}
+
+// Twelve to twenty.
+fn of_twelve_and_more(name: &[u8]) -> Lookup
+    ensures { λ r. ⌜ Hinted (operatorCode (now (name .entry))) r ⌝ }
+{
+    match name.len() {
         12 => code_in(
             name,
             b"containswordvalidatehashcontainsWordvalidateHash",
             &[6, 22, 6, 22],
         ),
         14 => code_in(name, b"validateschemavalidateSchema", &[24, 24]),
-        _ => Lookup::Unknown,
-    }
-}
-
-// Fifteen to twenty.
-fn of_fifteen_to_twenty(name: &[u8]) -> Lookup
-    ensures { λ r. ⌜ Hinted (operatorCode (now (name .entry))) r ⌝ }
-{
-    match name.len() {
         15 => code_in(name, b"ipmatchfromfileipMatchFromFile", &[29, 29]),
         17 => code_in(name, b"validatebyterangevalidateByteRange", &[21, 21]),
         18 => code_in(name, b"unconditionalmatchunconditionalMatch", &[37, 37]),
@@ -91,18 +64,8 @@ fn of_fifteen_to_twenty(name: &[u8]) -> Lookup
 pub fn operator_code_hint(name: &[u8]) -> Lookup
     ensures { λ r. ⌜ Hinted (operatorCode (now (name .entry))) r ⌝ }
 {
-    let n = name.len();
-    if n <= 5 {
-        return of_two_to_five(name);
+    if name.len() <= 11 {
+        return of_two_to_eleven(name);
     }
-    if n <= 8 {
-        return of_six_to_eight(name);
-    }
-    if n <= 10 {
-        return of_nine_and_ten(name);
-    }
-    if n <= 14 {
-        return of_eleven_to_fourteen(name);
-    }
-    of_fifteen_to_twenty(name)
+    of_twelve_and_more(name)
 }

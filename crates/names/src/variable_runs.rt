@@ -5,8 +5,8 @@ ghost use Rattle.names.specs.Runs.{Hinted};
 use crate::Lookup;
 use crate::matching::code_in;
 
-// Two letters to five.
-fn of_two_to_five(name: &[u8]) -> Lookup
+// Two letters to eleven.
+fn of_two_to_eleven(name: &[u8]) -> Lookup
     ensures { λ r. ⌜ Hinted (variableCode (now (name .entry))) r ⌝ }
 {
     match name.len() {
@@ -14,15 +14,6 @@ fn of_two_to_five(name: &[u8]) -> Lookup
         3 => code_in(name, b"XMLENVGEO", &[79, 37, 42]),
         4 => code_in(name, b"ARGSUSERTIME", &[0, 41, 47]),
         5 => code_in(name, b"FILES", &[56]),
-        _ => Lookup::Unknown,
-    }
-}
-
-// Six to nine.
-fn of_six_to_nine(name: &[u8]) -> Lookup
-    ensures { λ r. ⌜ Hinted (variableCode (now (name .entry))) r ⌝ }
-{
-    match name.len() {
         6 => code_in(name, b"GLOBAL", &[39]),
         7 => code_in(name, b"SESSION", &[36]),
         8 => code_in(
@@ -35,35 +26,26 @@ fn of_six_to_nine(name: &[u8]) -> Lookup
             b"ARGS_POSTTIME_HOURTIME_WDAYTIME_YEARUNIQUE_IDAUTH_TYPE",
             &[2, 50, 53, 55, 61, 85],
         ),
-        _ => Lookup::Unknown,
-    }
-}
-
-// Ten to twelve.
-fn of_ten_to_twelve(name: &[u8]) -> Lookup
-    ensures { λ r. ⌜ Hinted (variableCode (now (name .entry))) r ⌝ }
-{
-    match name.len() {
         10 => code_in(name, b"ARGS_NAMESTIME_EPOCH", &[3, 48]),
         11 => code_in(
             name,
             b"REQUEST_URIREMOTE_ADDRREMOTE_PORTREMOTE_HOSTREMOTE_USERSERVER_ADDRSERVER_PORTSERVER_NAMEMATCHED_VARFILES_SIZESFILES_NAMESSTATUS_LINE",
             &[7, 28, 29, 30, 31, 32, 33, 34, 43, 57, 60, 82],
         ),
+        _ => Lookup::Unknown,
+    }
+}
+
+// Twelve to seventeen.
+fn of_twelve_to_seventeen(name: &[u8]) -> Lookup
+    ensures { λ r. ⌜ Hinted (variableCode (now (name .entry))) r ⌝ }
+{
+    match name.len() {
         12 => code_in(
             name,
             b"REQUEST_LINEREQUEST_BODYQUERY_STRINGMATCHED_VARSFULL_REQUEST",
             &[11, 18, 20, 44, 83],
         ),
-        _ => Lookup::Unknown,
-    }
-}
-
-// Thirteen to fifteen.
-fn of_thirteen_to_fifteen(name: &[u8]) -> Lookup
-    ensures { λ r. ⌜ Hinted (variableCode (now (name .entry))) r ⌝ }
-{
-    match name.len() {
         13 => code_in(name, b"RESPONSE_BODYREQBODY_ERROR", &[25, 87]),
         14 => code_in(
             name,
@@ -75,15 +57,6 @@ fn of_thirteen_to_fifteen(name: &[u8]) -> Lookup
             b"REQUEST_HEADERSREQUEST_COOKIESARGS_POST_NAMESREQUEST_URI_RAWRESPONSE_STATUS",
             &[14, 16, 5, 8, 21],
         ),
-        _ => Lookup::Unknown,
-    }
-}
-
-// Sixteen to nineteen.
-fn of_sixteen_to_nineteen(name: &[u8]) -> Lookup
-    ensures { λ r. ⌜ Hinted (variableCode (now (name .entry))) r ⌝ }
-{
-    match name.len() {
         16 => code_in(
             name,
             b"REQUEST_FILENAMEREQUEST_BASENAMEREQUEST_PROTOCOLRESPONSE_HEADERSMATCHED_VAR_NAMEHIGHEST_SEVERITY",
@@ -94,21 +67,21 @@ fn of_sixteen_to_nineteen(name: &[u8]) -> Lookup
             b"RESPONSE_PROTOCOLREQBODY_PROCESSORREQBODY_ERROR_MSG",
             &[22, 86, 88],
         ),
+        _ => Lookup::Unknown,
+    }
+}
+
+// Eighteen to twenty-seven.
+fn of_eighteen_and_more(name: &[u8]) -> Lookup
+    ensures { λ r. ⌜ Hinted (variableCode (now (name .entry))) r ⌝ }
+{
+    match name.len() {
         18 => code_in(name, b"ARGS_COMBINED_SIZEMATCHED_VARS_NAMES", &[6, 46]),
         19 => code_in(
             name,
             b"REQUEST_BODY_LENGTHFILES_COMBINED_SIZEFULL_REQUEST_LENGTH",
             &[19, 59, 84],
         ),
-        _ => Lookup::Unknown,
-    }
-}
-
-// Twenty-one and more.
-fn of_twenty_and_more(name: &[u8]) -> Lookup
-    ensures { λ r. ⌜ Hinted (variableCode (now (name .entry))) r ⌝ }
-{
-    match name.len() {
         21 => code_in(
             name,
             b"REQUEST_COOKIES_NAMESREQUEST_HEADERS_NAMESRESPONSE_CONTENT_TYPE",
@@ -134,22 +107,13 @@ pub fn variable_code_hint(name: &[u8]) -> Lookup
     ensures { λ r. ⌜ Hinted (variableCode (now (name .entry))) r ⌝ }
 {
     let n = name.len();
-    if n <= 5 {
-        return of_two_to_five(name);
+    if n <= 11 {
+        return of_two_to_eleven(name);
     }
-    if n <= 9 {
-        return of_six_to_nine(name);
+    if n <= 17 {
+        return of_twelve_to_seventeen(name);
     }
-    if n <= 12 {
-        return of_ten_to_twelve(name);
-    }
-    if n <= 15 {
-        return of_thirteen_to_fifteen(name);
-    }
-    if n <= 19 {
-        return of_sixteen_to_nineteen(name);
-    }
-    of_twenty_and_more(name)
+    of_eighteen_and_more(name)
 }
 
 // The names that rules have most often. Where a length has one of them alone, it is one or two wide comparisons.

@@ -53,24 +53,18 @@ cast-past c =
 
 sub-compare : tie.Need-sub-compare Inv-loop μ-loop
 sub-compare c =
-    let s = c .before .before .before .before .before .before .before .args in
     let l = c .before .before .before .loop in
-    let m = l .lo + (l .hi - l .lo) / 2 in
-    c .before .before .before .before .before .before .before .pre .forward m (omega arith)
+    c .before .before .before .before .before .before .before .pre .forward (l .lo + (l .hi - l .lo) / 2) (omega arith)
 
 part-compare-start : tie.Need-part-compare-start Inv-loop μ-loop
 part-compare-start c =
-    let s = c .before .before .before .before .before .before .before .args in
     let l = c .before .before .before .loop in
-    let m = l .lo + (l .hi - l .lo) / 2 in
-    c .before .before .before .before .before .before .before .pre .forward m (omega arith)
+    c .before .before .before .before .before .before .before .pre .forward (l .lo + (l .hi - l .lo) / 2) (omega arith)
 
 part-compare-end : tie.Need-part-compare-end Inv-loop μ-loop
 part-compare-end c =
-    let s = c .before .before .before .before .before .before .before .args in
     let l = c .before .before .before .loop in
-    let m = l .lo + (l .hi - l .lo) / 2 in
-    c .before .before .before .before .before .before .before .pre .within m (omega arith)
+    c .before .before .before .before .before .before .before .pre .within (l .lo + (l .hi - l .lo) / 2) (omega arith)
 
 loop-less : tie.Need-loop-less Inv-loop μ-loop
 loop-less c = omega arith
@@ -78,10 +72,8 @@ loop-less c = omega arith
 loop-again : tie.Need-loop-again Inv-loop μ-loop
 unfolding partAt
 loop-again c =
-    let s = c .before .before .before .before .before .before .before .before .before .before .before .args in
     let l = c .before .before .before .before .before .before .before .loop in
-    let m = l .lo + (l .hi - l .lo) / 2 in
-    lower (now (s .names)) (now (s .starts)) (c .before .before .before .before .before .before .before .before .before .before .before .pre) (l .inv) m (omega arith) (omega arith)
+    lower _ _ (c .before .before .before .before .before .before .before .before .before .before .before .pre) (l .inv) (l .lo + (l .hi - l .lo) / 2) (omega arith) (omega arith)
     (sym (c .before .before .compare .ensures) ∙ c .enum-told .given .1)
 
 returns : tie.Need-returns Inv-loop μ-loop
@@ -101,10 +93,8 @@ loop-less-2 c = omega arith
 loop-again-2 : tie.Need-loop-again-2 Inv-loop μ-loop
 unfolding partAt
 loop-again-2 c =
-    let s = c .before .before .before .before .before .before .before .before .before .before .before .args in
     let l = c .before .before .before .before .before .before .before .loop in
-    let m = l .lo + (l .hi - l .lo) / 2 in
-    upper (now (s .names)) (now (s .starts)) (c .before .before .before .before .before .before .before .before .before .before .before .pre) (l .inv) m (omega arith) (omega arith)
+    upper _ _ (c .before .before .before .before .before .before .before .before .before .before .before .pre) (l .inv) (l .lo + (l .hi - l .lo) / 2) (omega arith) (omega arith)
     (sym (c .before .before .compare .ensures) ∙ c .enum-told3 .given .1)
 
 returns-2 : tie.Need-returns-2 Inv-loop μ-loop

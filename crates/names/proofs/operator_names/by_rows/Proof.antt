@@ -20,17 +20,11 @@ returns c =
 
 returns-2 : tie.Need-returns-2
 unfolding operatorCode operators bytes shelved
-returns-2 c =
-    let s = c .before .before .before .before .before .before .args in
-    let f = c .before .lowered-shelf-of in
-    sym (operator-found (lowered (now (s .name))) (f .result) (f .ensures) (c .if2 .taken))
+returns-2 c = sym (operator-found _ _ (c .before .lowered-shelf-of .ensures) (c .if2 .taken))
 
 returns-3 : tie.Need-returns-3
 unfolding operatorCode operators bytes shelved
-returns-3 c =
-    let s = c .before .before .before .before .before .before .args in
-    let f = c .before .lowered-shelf-of in
-    sym (shelf-none operators (lowered (now (s .name))) (f .result) (f .ensures) (c .if2 .left))
+returns-3 c = sym (shelf-none operators _ _ (c .before .lowered-shelf-of .ensures) (c .if2 .left))
 
 pub by-rows-spec : {M : Type 1} → statement M
 by-rows-spec =

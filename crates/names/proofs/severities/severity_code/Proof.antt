@@ -22,16 +22,11 @@ returns c =
 returns-2 : tie.Need-returns-2
 unfolding severityCode severities bytes shelved
 returns-2 c =
-    let s = c .before .before .before .before .before .before .before .args in
-    let f = c .before .before .lowered-shelf-of in
-    ap Code (c .wide .ensures) ∙ sym (severity-found (lowered (now (s .word))) (f .result) (f .ensures) (c .before .if2 .taken))
+    ap Code (c .wide .ensures) ∙ sym (severity-found _ _ (c .before .before .lowered-shelf-of .ensures) (c .before .if2 .taken))
 
 returns-3 : tie.Need-returns-3
 unfolding severityCode severities bytes shelved
-returns-3 c =
-    let s = c .before .before .before .before .before .before .args in
-    let f = c .before .lowered-shelf-of in
-    sym (shelf-none severities (lowered (now (s .word))) (f .result) (f .ensures) (c .if2 .left))
+returns-3 c = sym (shelf-none severities _ _ (c .before .lowered-shelf-of .ensures) (c .if2 .left))
 
 pub severity-code-spec : {M : Type 1} → statement M
 severity-code-spec =

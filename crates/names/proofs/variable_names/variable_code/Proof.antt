@@ -1,13 +1,10 @@
 -- A hint is the answer; with none, the search behind it gives the answer.
 use borrow.Author.Needs.{needs}
-use Rattle.names.proofs.RunLaws.{hint-is}
+use Rattle.names.proofs.RunLaws.{hints}
 use Rattle.names.proofs.variable_names.variable_code.Statement.{statement}
 use Rattle.names.proofs.variable_names.variable_code.Tie as tie
-
-returns : tie.Need-returns
-returns c = hint-is (c .before .before .before .commonest .ensures) (c .before .code .given .1)
 
 pub variable-code-spec : {M : Type 1} → statement M
 variable-code-spec =
     tie.close
-    (tie.spec (λ c κs. search needs) (λ c. search needs) (λ c. search needs) (λ c κs. search needs) returns (λ c. search needs))
+    (tie.spec (λ c κs. search needs) (λ c. search needs) (λ c. search needs) (λ c κs. search needs) (λ c. search hints) (λ c. search needs))
