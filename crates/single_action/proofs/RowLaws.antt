@@ -4,6 +4,7 @@ use mathlib.Core.Bool.{Bool, true, false}
 use mathlib.Core.List.{List, [], _∷_}
 use Prim.Native.Nat.{ℕ, _≤_, _<_}
 use native.Mathlib.Omega.{arith}
+use borrow.Author.Needs.{needs}
 use lib.ListN.{length, length-map}
 use lib.Dec.{eqb, leb}
 use borrow.Author.Tests.{eqb-true, le-leb}
@@ -21,17 +22,22 @@ sought k = lowered (rowAt k .name)
 
 -- ---- one name after another
 
-module _ (name : List ℕ) (k : ℕ) (lit : List ℕ) (e : sought k ≡ lit) where
-  -- it is the name
-  pub hit : (ks : List ℕ) → k < 41 → same (lowered name) lit ≡ true → Among ks name k
-  hit ks h t = record { within = omega arith; there = λ _. e ∙ sym (same-true (lowered name) lit t); none = λ g. absurd (omega arith) }
+-- it is the name
+pub hit : {ks name lit : List ℕ} {k : ℕ} {r : Bool} → r ≡ true → r ≡ same (lowered name) lit → sought k ≡ lit → k < 41 → Among ks name k
+hit {ks} {name} {lit} t s e h = record {
+  within = omega arith;
+  there = λ _. e ∙ sym (same-true (lowered name) lit (sym s ∙ t));
+  none = λ g. absurd (omega arith);
+}
 
-  -- it is not
-  pub other : same (lowered name) lit ≡ false → sought k ≡ lowered name → ⊥
-  other t f = same-not (lowered name) lit t (sym f ∙ e)
+pub ruleset hits = (hit, needs)
 
-pub none-among : (ks name : List ℕ) → NoneOf ks name → Among ks name 41
-none-among ks name n = record { within = omega arith; there = λ h. absurd (omega arith); none = λ _. n }
+-- it is not
+pub other : (name : List ℕ) (k : ℕ) {r : Bool} → r ≡ same (lowered name) (sought k) → r ≡ false → sought k ≡ lowered name → ⊥
+other name k s t f = same-not (lowered name) (sought k) (sym s ∙ t) (sym f)
+
+pub none-among : {ks name : List ℕ} → NoneOf ks name → Among ks name 41
+none-among n = record { within = omega arith; there = λ h. absurd (omega arith); none = λ _. n }
 
 never-both : (t : Bool) → pick t false true ≡ true → t ≡ true → ⊥
 never-both true e f = never cc
