@@ -3,8 +3,8 @@
 -- The idea: an input that the gate lets pass leaves only the definitions; the crates' own laws have the numbers.
 use mathlib.Core.Path.{_≡_, _∙_, refl, ap}
 use mathlib.Core.Bool.{Bool, true, false}
-use mathlib.Core.List.{List}
-use mathlib.Core.Logic.{_↔_, Iff·trans, inl, inr}
+use mathlib.Core.List.{List, [], _∷_}
+use mathlib.Core.Logic.{inl, inr}
 use Prim.Native.Nat.{ℕ, _+_, _≤_, _<_, min}
 use native.Mathlib.Omega.{arith}
 use lib.ListN.{length}
@@ -15,7 +15,8 @@ use Rattle.lent.specs.Table.{Given, Outcome, refuses, reads, Filled, givenBy, t
 use Rattle.lent.specs.declared.gating.Gate.{Gate}
 use Rattle.lent.specs.declared.gating.Gate.the-variants.{Open}
 use Rattle.lent.proofs.GateLaws.{Opened, row-gate}
-use Rattle.lent.proofs.OutcomeLaws.{numberOf, past-row}
+use Rattle.lent.proofs.OutcomeLaws.{numberOf, given-number, past-row}
+use Rattle.lent.proofs.RowLaws.{Row, row, OneOf, Numbered, Exactly, absent, differ, behind, gated, exactly-gated}
 use Rattle.lexer.specs.Promises as Lexer
 use Rattle.lexer.proofs.ReadLaws.{tokens-0, tokens-1, tokens-2, tokens-3, tokens-4}
 use Rattle.lexer.proofs.PromiseLaws.{next-token-0, next-token-1, next-token-2, next-token-3, next-token-9, next-token-reads}
@@ -23,7 +24,6 @@ use Rattle.actions.specs.Lists.{actionsOf}
 use Rattle.actions.specs.Promises as Actions
 use Rattle.actions.specs.declared.Answer as Listed
 use Rattle.actions.proofs.NumberLaws.{parse-actions-numbers}
-use Rattle.actions.proofs.OutcomeLaws.{alone-1, alone-2, alone-3, alone-past}
 use Rattle.variables.specs.Parts as Variable
 use Rattle.variables.specs.Variables.{asWritten, lookedUp, readAll}
 use Rattle.variables.specs.Promises as Variables
@@ -90,53 +90,41 @@ equal = record {
 
 -- ---- each number exactly when
 
-given-number : (o : Outcome Filled) → givenBy o .number ≡ numberOf o
-given-number (refuses f) = refl
-given-number (reads x) = refl
-
--- one record: it fits, or it does not
-module _ (s : List ℕ) (m : ℕ) where
+-- one record: it does not fit, or it does
+module _ (s : List ℕ) (n m : ℕ) where
   abbrev alone : Outcome Filled
   alone = Actions.roomed m (reads (Actions.setvarAlone s))
 
-  full : roomFor actionWords m < 1 → numberOf alone ≡ 4
-  full h = rw (lt-ltb (roomFor actionWords m) 1 h)
+  abbrev rows : List Row
+  rows = row 4 (roomFor actionWords m < 1) ∷ row 0 (1 ≤ roomFor actionWords m) ∷ []
 
-  fits : 1 ≤ roomFor actionWords m → numberOf alone ≡ 0
-  fits h = rw (le-ltb (roomFor actionWords m) 1 h)
-
-  is-full : (numberOf alone ≡ 4) ↔ (roomFor actionWords m < 1)
-  is-full = (λ e. go (ltb (roomFor actionWords m) 1) refl e, full)
+  one : OneOf rows
+  unfolding OneOf
+  one = go (ltb (roomFor actionWords m) 1) refl
     where
-      go : (b : Bool) → ltb (roomFor actionWords m) 1 ≡ b → numberOf alone ≡ 4 → roomFor actionWords m < 1
-      go true t e = ltb-true (roomFor actionWords m) 1 t
-      go false t e = absurd (omega (arith, e, fits (ltb-false (roomFor actionWords m) 1 t)))
+      go : (b : Bool) → ltb (roomFor actionWords m) 1 ≡ b → OneOf rows
+      go true e = inl (ltb-true (roomFor actionWords m) 1 e)
+      go false e = inr (inl (ltb-false (roomFor actionWords m) 1 e))
 
-  is-fit : (numberOf alone ≡ 0) ↔ (1 ≤ roomFor actionWords m)
-  is-fit = (λ e. go (ltb (roomFor actionWords m) 1) refl e, fits)
-    where
-      go : (b : Bool) → ltb (roomFor actionWords m) 1 ≡ b → numberOf alone ≡ 0 → 1 ≤ roomFor actionWords m
-      go true t e = absurd (omega (arith, e, full (ltb-true (roomFor actionWords m) 1 t)))
-      go false t e = ltb-false (roomFor actionWords m) 1 t
+  numbered : Numbered (numberOf alone) rows
+  unfolding Numbered
+  numbered = (λ h. rw (lt-ltb (roomFor actionWords m) 1 h), (λ h. rw (le-ltb (roomFor actionWords m) 1 h), tt))
 
--- both sides of a pair of facts, the second in other words
-second : {A B C : Type 0} → B ↔ C → (A × B) ↔ (A × C)
-second w = (λ p. (p .0, w .0 (p .1)), λ p. (p .0, w .1 (p .1)))
+  alone-exact : Exactly (numberOf (Actions.setvarOutcome s n m)) (gated s n (length s + 3) rows)
+  unfolding Actions.setvarOutcome differ absent behind
+  alone-exact = exactly-gated s n (length s + 3) alone rows refl one numbered
 
 setvar-exact : (i : Lent) (o : Left Listed.Answer) → parse-setvar-promise i o
     → SetvarExact (i .input) (length (i .text)) (length (i .records)) (Actions.answerGiven (o .answer) .number)
+unfolding Exactly behind
 setvar-exact i o x =
     let s = i .input in
     let n = length (i .text) in
     let m = length (i .records) in
     let e : Actions.answerGiven (o .answer) .number ≡ numberOf (Actions.setvarOutcome s n m) =
     ap (λ (g : Given). g .number) (x .answer) ∙ given-number (Actions.setvarOutcome s n m) in
-    rw e
-    (record {
-      gate = record { one = alone-1 s n m; two = alone-2 s n m; three = alone-3 s n m };
-      four = Iff·trans (alone-past s n m 4 (inr (omega arith))) (second (is-full s m));
-      zero = Iff·trans (alone-past s n m 0 (inl refl)) (second (is-fit s m));
-    })
+    let k = alone-exact s n m in
+    rw e (record { gate = record { one = k .0; two = k .1 .0; three = k .1 .1 .0 }; four = k .1 .1 .1 .0; zero = k .1 .1 .1 .1 .0 })
 
 targets-exact : (x : Exclusions) (s text text′ records records′ : List ℕ) (r : Read.Answer) → Targets.Numbers x s text text′ records records′ r
     → TargetsExact x s (length text) (length records) (Variables.answerGiven r .number)
