@@ -67,7 +67,9 @@ fn print_lexeme(t: Lexeme) {
     print_number(t.line.0 as u64);
     print_number(t.column.0 as u64);
     if first <= past {
-        print_number((first as u64 % 65536) * 65536 + (past - first) as u64 % 65536);
+        print_number(
+            (first as u64 % sizes::SPAN) * sizes::SPAN + (past - first) as u64 % sizes::SPAN,
+        );
     }
     print_number(t.len as u64);
 }

@@ -9,6 +9,9 @@ pub const RECORDS: usize = 20480;
 
 pub const ACTIONS: usize = 32768;
 
+// A span word's base in the stored answers.
+pub const SPAN: u64 = 65536;
+
 // A question's bytes, and its line, in which each is two digits.
 pub const BODY: usize = 2 * lent::LIMIT;
 
