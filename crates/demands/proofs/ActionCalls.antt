@@ -1,4 +1,4 @@
--- The promises of parse_actions and parse_setvar are total, have no second answer, and keep to document 01's table.
+-- The promises of parse_actions and parse_setvar, of normalise and read_actions are total and have no second answer; the first two keep to document 01's table.
 -- The idea: a list is refused at a piece with 5 or 6 or not at all, and past it only for its room, so that there is an answer for each.
 use mathlib.Core.Path.{refl, ap₂}
 use mathlib.Core.Bool.{Bool, true, false}
@@ -17,11 +17,14 @@ use Rattle.actions.specs.Lists.{actionThen, singleThen, actionsFrom, actionsOf}
 use Rattle.actions.specs.Promises as A
 use Rattle.actions.specs.declared.Answer.{Answer}
 use Rattle.actions.specs.declared.Answer.the-variants as Answer
+use Rattle.actions.specs.declared.Reached.{Reached}
+use Rattle.actions.specs.declared.normalising.Normal.{Normal}
 use Rattle.actions.proofs.GivenLaws.{parse-actions-once, setvar-once}
+use Rattle.ascii.proofs.OneAnswer.{one-answer}
 use Rattle.demands.specs.Fixed.{Fixed}
-use Rattle.demands.specs.Calls.{Lent, Left, parse-actions-promise, parse-setvar-promise}
+use Rattle.demands.specs.Calls.{Lent, Left, Wrote, parse-actions-promise, normalise-promise, read-actions-promise, parse-setvar-promise}
 use Rattle.demands.specs.Rows.{Row}
-use Rattle.demands.proofs.FixedLaws.{left-same}
+use Rattle.demands.proofs.FixedLaws.{left-same, wrote-same}
 use Rattle.demands.proofs.RowLaws.{row-of}
 use Rattle.demands.proofs.AnswerLaws.{Answered, Gated, past-gate}
 
@@ -86,6 +89,20 @@ parse-actions-fixed = record {
 pub parse-actions-row : (i : Lent × List ℕ) (o : Left Answer × List ℕ) → parse-actions-promise i o
     → Row (A.answerGiven (o .0 .answer)) (i .0 .text) (o .0 .text) (i .0 .records) (o .0 .records)
 parse-actions-row i o x = row-of (listOutcome i) (list-answered i .filling) (x .answer) (x .texts) (x .words)
+
+-- ---- between a gate and an ending
+
+pub normalise-fixed : Fixed (List ℕ × List ℕ) (Wrote Normal) normalise-promise
+normalise-fixed = record {
+  total = λ i. (record { answer = _; buffer = _ }, record { answer = refl; text = refl });
+  once = λ i o p x y. wrote-same o p (one-answer (x .answer) (y .answer), one-answer (x .text) (y .text));
+}
+
+pub read-actions-fixed : Fixed (Lent × (ℕ × ℕ)) (Left Reached) read-actions-promise
+read-actions-fixed = record {
+  total = λ i. (record { answer = _; text = _; records = _ }, record { answer = refl; texts = refl; words = refl });
+  once = λ i o p x y. left-same o p (one-answer (x .answer) (y .answer), one-answer (x .texts) (y .texts), one-answer (x .words) (y .words));
+}
 
 -- ---- a setvar alone
 

@@ -5,7 +5,7 @@ use Rattle.single_action.proofs.SaidLaws.{verdict-said, plan-said}
 use Rattle.demands.specs.Demand1.{Demand1}
 use Rattle.demands.proofs.FixedLaws.{gives, finish-fixed}
 use Rattle.demands.proofs.TokenCalls.{step-in-fixed, next-token-fixed, tokens-fixed, tokens-row}
-use Rattle.demands.proofs.ActionCalls.{parse-actions-fixed, parse-setvar-fixed, parse-actions-row, parse-setvar-row}
+use Rattle.demands.proofs.ActionCalls.{parse-actions-fixed, normalise-fixed, read-actions-fixed, parse-setvar-fixed, parse-actions-row, parse-setvar-row}
 use Rattle.demands.proofs.VariableCalls.{read-targets-fixed, parse-variables-fixed, parse-update-targets-fixed, parse-variables-row, parse-update-targets-row}
 use Rattle.demands.proofs.OperatorCalls.{operator-in-fixed, parse-operator-fixed, operator-argument-fixed}
 use Rattle.demands.proofs.Library.{of-library}
@@ -77,6 +77,8 @@ demand1 = record {
   of-singles = record { read-single = λ s v w. verdict-said; read-setvar = λ s p q. plan-said; put-name = gives _ };
   of-parsers = record {
     parse-actions = parse-actions-fixed;
+    normalise = normalise-fixed;
+    read-actions = read-actions-fixed;
     parse-setvar = parse-setvar-fixed;
     parse-variables = parse-variables-fixed;
     parse-update-targets = parse-update-targets-fixed;

@@ -49,8 +49,10 @@ pub use Rattle.records.proofs.is_text.Met.{met as is-text}
 pub use Rattle.single_action.proofs.read_single.Met.{met as read-single}
 pub use Rattle.single_action.proofs.read_setvar.Met.{met as read-setvar}
 pub use Rattle.single_action.proofs.put_name.Met.{met as put-name}
+pub use Rattle.actions.proofs.normalise.Met.{met as normalise}
 pub use Rattle.actions.proofs.parse_actions.Met.{met as parse-actions}
 pub use Rattle.actions.proofs.parse_setvar.Met.{met as parse-setvar}
+pub use Rattle.actions.proofs.read_actions.Met.{met as read-actions}
 pub use Rattle.variables.proofs.parse_update_targets.Met.{met as parse-update-targets}
 pub use Rattle.variables.proofs.parse_variables.Met.{met as parse-variables}
 pub use Rattle.variables.proofs.read_targets.Met.{met as read-targets}

@@ -8,7 +8,10 @@ use Rattle.lexer.specs.Promises.{StepIn, NextToken, Tokens}
 use Rattle.lexer.specs.declared.stepping.Step.{Step}
 use Rattle.lexer.specs.declared.writing.Answer as Lexer
 use Rattle.actions.specs.Promises.{ParseActions, SetvarAlone}
+use Rattle.actions.specs.Cores.{Normalise, ReadActions}
 use Rattle.actions.specs.declared.Answer as Actions
+use Rattle.actions.specs.declared.Reached as Acted
+use Rattle.actions.specs.declared.normalising.Normal.{Normal}
 use Rattle.variables.specs.Promises.{ParseVariables, ParseUpdateTargets}
 use Rattle.variables.specs.Cores.{ReadTargets}
 use Rattle.variables.specs.declared.Answer as Variables
@@ -73,6 +76,15 @@ tokens-promise i o = Tokens (i .input) (i .text) (o .text) (i .records) (o .reco
 abbrev pub parse-actions-promise : Lent × List ℕ → Left Actions.Answer × List ℕ → Type 0
 parse-actions-promise i o =
     ParseActions (i .0 .input) (i .0 .text) (o .0 .text) (i .1) (o .1) (i .0 .records) (o .0 .records) (o .0 .answer)
+
+-- normalise: a text, and the buffer that takes it normalised.
+abbrev pub normalise-promise : List ℕ × List ℕ → Wrote Normal → Type 0
+normalise-promise i o = Normalise (i .0) (i .1) (o .buffer) (o .answer)
+
+-- read_actions: a normalised text, and the offset and the count of records that it starts at.
+abbrev pub read-actions-promise : Lent × (ℕ × ℕ) → Left Acted.Reached → Type 0
+read-actions-promise i o =
+    ReadActions (i .0 .input) (i .1 .0) (i .1 .1) (i .0 .text) (o .text) (i .0 .records) (o .records) (o .answer)
 
 abbrev pub parse-setvar-promise : Lent → Left Actions.Answer → Type 0
 parse-setvar-promise i o = SetvarAlone (i .input) (i .text) (o .text) (i .records) (o .records) (o .answer)

@@ -34,6 +34,8 @@ use Rattle.single_action.specs.declared.plans.Plan.{Plan}
 use Rattle.single_action.specs.declared.plans.Verdict.{Verdict}
 use Rattle.actions.specs.Promises as Actions
 use Rattle.actions.specs.declared.Answer as Listed
+use Rattle.actions.specs.declared.Reached as Acted
+use Rattle.actions.specs.declared.normalising.Normal.{Normal}
 use Rattle.xml.specs.Xml.{xmlTarget}
 use Rattle.variables.specs.Promises as Variables
 use Rattle.variables.specs.declared.Answer as Targets
@@ -46,7 +48,7 @@ use Rattle.rules.specs.Selectors.{matched}
 use Rattle.rules.specs.declared.selecting.RuleIdSelector.{RuleIdSelector}
 use Rattle.listing.specs.declared.Answer as Listing
 use Rattle.demands.specs.Fixed.{Fixed, Gives}
-use Rattle.demands.specs.Calls.{Lent, Left, Wrote, Filling, finish-promise, Place, Records, Refusal, step-in-promise, next-token-promise, tokens-promise, parse-actions-promise, parse-setvar-promise, parse-variables-promise, parse-update-targets-promise, From, read-targets-promise, operator-in-promise, parse-operator-promise, operator-argument-promise, write-listing-promise, write-refusal-promise, list-text-promise}
+use Rattle.demands.specs.Calls.{Lent, Left, Wrote, Filling, finish-promise, Place, Records, Refusal, step-in-promise, next-token-promise, tokens-promise, parse-actions-promise, normalise-promise, read-actions-promise, parse-setvar-promise, parse-variables-promise, parse-update-targets-promise, From, read-targets-promise, operator-in-promise, parse-operator-promise, operator-argument-promise, write-listing-promise, write-refusal-promise, list-text-promise}
 use Rattle.demands.specs.Rows.{Row}
 use Rattle.demands.specs.Library.{OfLibrary}
 
@@ -131,6 +133,8 @@ pub record OfSingles : Type 0 where
 
 pub record OfParsers : Type 0 where
   pub parse-actions : Fixed (Lent × List ℕ) (Left Listed.Answer × List ℕ) parse-actions-promise
+  pub normalise : Fixed (List ℕ × List ℕ) (Wrote Normal) normalise-promise
+  pub read-actions : Fixed (Lent × (ℕ × ℕ)) (Left Acted.Reached) read-actions-promise
   pub parse-setvar : Fixed Lent (Left Listed.Answer) parse-setvar-promise
   pub parse-variables : Fixed Lent (Left Targets.Answer) parse-variables-promise
   pub parse-update-targets : Fixed Lent (Left Targets.Answer) parse-update-targets-promise
