@@ -8,8 +8,9 @@ use Prim.Native.Nat.{ℕ, _≤_, _<_}
 use native.Mathlib.Omega.{arith}
 use lib.ListN.{length}
 use lib.Dec.{eqb}
-use borrow.Author.Tests.{eqb-true, eqb-false, eq-eqb}
+use borrow.Author.Tests.{eqb-false}
 use Rattle.ascii.specs.Choice.{pick, and, bit}
+use Rattle.ascii.proofs.SameLaws.{and-left, and-right}
 use Rattle.lent.specs.Sizes.{limit}
 use Rattle.lent.specs.Gates.{gateOf}
 use Rattle.lent.specs.Table.{Outcome, pastGate}
@@ -73,14 +74,10 @@ none-of n k (r ∷ rs) d g e = go (eqb k (r .number)) refl d (λ d. none-of n k 
     go true z d rest = absurd (omega (arith, ap bit d))
     go false z d rest = ((λ q. absurd (eqb-false k (r .number) z (sym e ∙ q)), g .0), rest d)
 
-both : (a b : Bool) → and a b ≡ true → (a ≡ true) × (b ≡ true)
-both true b e = (refl, e)
-both false b e = absurd (omega (arith, ap bit e))
-
 pub exactly : (n : ℕ) (rs : List Row) → differ rs ≡ true → OneOf rs → Numbered n rs → Exactly n rs
 unfolding OneOf Numbered Exactly differ
 exactly n [] d o g = tt
-exactly n (r ∷ rs) d o g = let q = both (absent (r .number) rs) (differ rs) d in go (q .0) (λ o. exactly n rs (q .1) o (g .1)) o
+exactly n (r ∷ rs) d o g = go (and-left (absent (r .number) rs) (differ rs) d) (λ o. exactly n rs (and-right (absent (r .number) rs) (differ rs) d) o (g .1)) o
   where
     go : absent (r .number) rs ≡ true → (OneOf rs → Exactly n rs) → r .fact ⊎ OneOf rs → ((n ≡ r .number) ↔ r .fact) × Exactly n rs
     go d rest (inl f) = ((λ e. f, g .0), none-of n (r .number) rs d (g .1) (g .0 f))

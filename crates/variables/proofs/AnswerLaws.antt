@@ -1,7 +1,7 @@
 -- From a list read at 0 and 0 to what the parsers promise: one law for each way out.
 use mathlib.Core.Path.{_≡_, _∙_, refl, sym, ap, ap₂, subst}
 use mathlib.Core.Bool.{Bool, true, false}
-use mathlib.Core.List.{List, [], _∷_, _++_}
+use mathlib.Core.List.{List, [], _∷_}
 use Prim.Native.Nat.{ℕ, _+_, _*_, _≤_}
 use native.Mathlib.Omega.{arith}
 use native.Mathlib.Nat.{zero-add, zero-mul}
@@ -9,11 +9,11 @@ use lib.ListN.{length, take, getD, length-append}
 use lib.Dec.{ltb}
 use Rattle.ascii.specs.Choice.{pick}
 use Rattle.lent.specs.Sizes.{variableWords, roomFor}
-use Rattle.lent.specs.Buffers.{stored, storedEach, joined}
+use Rattle.lent.specs.Buffers.{stored, joined}
 use Rattle.lent.specs.Gates.{gateOf}
 use Rattle.lent.specs.Endings.{starts, Finished}
 use Rattle.lent.specs.Layout.{textsOf, recordsOf, wordsOf}
-use Rattle.lent.specs.Table.{Given, given, refused as refusedBy, noRoom, unknownVariable, Outcome, refuses, reads, Filled, givenBy}
+use Rattle.lent.specs.Table.{Given, given, refused as refusedBy, noRoom, unknownVariable, refuses, reads, givenBy}
 use Rattle.lent.specs.declared.gating.Gate.{Gate}
 use Rattle.lent.specs.declared.gating.Gate.the-variants as Gate
 use Rattle.lent.proofs.BufferLaws.{stored-length, taken-first, each-length, each-fits, joined-append}

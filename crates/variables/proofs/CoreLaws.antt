@@ -18,7 +18,7 @@ use Rattle.lent.proofs.LayoutLaws.{texts-joined}
 use Rattle.lent.proofs.EndLaws.{refused-text}
 use Rattle.lent.proofs.StartLaws.{starts-is}
 use Rattle.variables.specs.Parts.{pieces}
-use Rattle.variables.specs.Variables.{Variable, Targets, targets, refused, readAll}
+use Rattle.variables.specs.Variables.{Variable, targets, refused, readAll}
 use Rattle.variables.specs.Layout.{variableRecord, exclusionRecord, chosenText, itself, selectionTexts, texts}
 use Rattle.variables.specs.Steps.{part, excludingOf, excludedOf, AllRead, Stopped, Added, AllOrNone, keptCount, keptOf, hanging, targetsOf}
 use Rattle.variables.specs.Cores.{recordsFrom, ReadTargets}

@@ -1,8 +1,8 @@
 -- A list's texts and records are within its own length, by its definition: what is read from a place on never goes further than the list is long.
 -- The idea: a piece's text is a part of it, and every piece has a byte.
-use mathlib.Core.Path.{_≡_, _∙_, refl, sym, ap, subst}
+use mathlib.Core.Path.{_≡_, refl, sym, subst}
 use mathlib.Core.Bool.{Bool, true, false}
-use mathlib.Core.List.{List, [], _∷_, _++_}
+use mathlib.Core.List.{List, [], _∷_}
 use Prim.Native.Nat.{ℕ, suc, _+_, _-_, _≤_}
 use native.Mathlib.Omega.{arith}
 use lib.ListN.{length, take, drop, length-append, length-drop, length-take}
@@ -19,7 +19,7 @@ use Rattle.names.specs.Variables.{variableCode}
 use Rattle.names.specs.declared.Lookup.{Lookup}
 use Rattle.names.specs.declared.Lookup.the-variants.{Code, Unknown}
 use Rattle.variables.specs.Parts.{onto, cut, kept, filled, pieces}
-use Rattle.variables.specs.Variables.{atColon, frontOf, Selection, none, key, regex, isRegex, selection, Single, variable, unknown, named, splitSingle, single, Targets, targets, refused, withVariable, withExclusion, ifKnown, asWritten, lookedUp, piece, readAll}
+use Rattle.variables.specs.Variables.{atColon, frontOf, Selection, none, key, regex, isRegex, selection, Single, variable, unknown, named, splitSingle, single, Targets, targets, refused, withVariable, withExclusion, ifKnown, piece, readAll}
 use Rattle.variables.specs.Layout.{selectionText, itself, selectionTexts, texts}
 use Rattle.variables.specs.Steps.{excludingOf, hanging, targetsOf}
 use Rattle.variables.specs.declared.singles.Exclusions.{Exclusions}

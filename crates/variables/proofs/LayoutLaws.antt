@@ -6,7 +6,7 @@ use native.Mathlib.Omega.{arith}
 use lib.ListN.{length, length-append}
 use Rattle.lent.specs.Sizes.{variableWords}
 use Rattle.lent.specs.Buffers.{stored, storedEach, joined}
-use Rattle.lent.specs.Layout.{textsOf, eachText, recordsOf, wordsOf}
+use Rattle.lent.specs.Layout.{textsOf, eachText, recordsOf}
 use Rattle.lent.proofs.BufferLaws.{each-more, each-length}
 use Rattle.lent.proofs.LayoutLaws.{texts-more, each-text-more, texts-joined, records-more, records-joined, words-length, count-more}
 use Rattle.variables.specs.Steps.{Wrote}

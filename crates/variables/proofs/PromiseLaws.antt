@@ -21,10 +21,10 @@ use Rattle.lent.proofs.OutcomeLaws.{numberOf, given-number, past-row}
 use Rattle.lent.proofs.RowLaws as Rows
 use Rattle.lent.proofs.RowLaws.{row, OneOf, Numbered, Exactly, absent, differ, behind, gated, exactly-gated}
 use Rattle.variables.specs.Parts.{pieces}
-use Rattle.variables.specs.Variables.{Variable, Targets}
+use Rattle.variables.specs.Variables.{Variable}
 use Rattle.variables.specs.Layout.{texts, wordsFrom}
 use Rattle.variables.specs.Promises.{answerGiven, laidOut, roomed, updated, Meets, ParseVariables, ParseUpdateTargets}
-use Rattle.variables.specs.Steps.{excludedOf, keptCount, keptOf, hanging, readOutcome, outcomeOf}
+use Rattle.variables.specs.Steps.{excludedOf, keptCount, keptOf, readOutcome, outcomeOf}
 use Rattle.variables.specs.Calls.{AllMeant, Missing, unmarkedOf, needed}
 use Rattle.variables.specs.declared.Answer.{Answer}
 use Rattle.variables.specs.declared.Answer.the-variants as Answer

@@ -1,10 +1,5 @@
 -- Cleared, and then stored.
 use borrow.Author.Needs.{needs}
-use mathlib.Core.Path.{_∙_, ap}
-use mathlib.Core.List.{List}
-use Prim.Native.Nat.{ℕ}
-use denote.Ref.{now}
-use Rattle.lent.specs.Buffers.{stored}
 use Rattle.lent.proofs.ending.refuse_piece.Statement.{statement}
 use Rattle.lent.proofs.ending.refuse_piece.Tie as tie
 
