@@ -1,3 +1,4 @@
+pub mod TestLaws
 pub mod ByteLaws
 pub mod ListLaws
 pub mod FoldLaws

@@ -15,7 +15,8 @@ use Rattle.lexer.specs.Rules.{before, beforeBy, word, wordBy, comment}
 use Rattle.lexer.specs.Tokens.{Token, Step, nothing, token, tokenBy, tokenAt, next, Reading, put, tokens}
 use Rattle.lexer.specs.Places.{feeds}
 use Rattle.lexer.specs.Parts.{among, Plain, ALine, feed, byte, EndsLf, Closer}
-use Rattle.lexer.proofs.TestLaws.{either, or-false}
+use Rattle.ascii.proofs.TestLaws.{or-false}
+use Rattle.lexer.proofs.TestLaws.{either}
 use Rattle.lexer.proofs.NextLaws.{Taken, taken-place}
 use Rattle.lexer.proofs.TokenLaws.{by-tokens, lastOf, Shut, shut-later}
 

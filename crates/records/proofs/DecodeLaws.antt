@@ -16,7 +16,7 @@ use Rattle.records.specs.Layout.{slotWord, slotEnd, actionRecord, wordsF
 use Rattle.records.specs.Codes.{shapeOf, knownBy, hasA, hasB, hasC}
 use Rattle.records.specs.Marks.{marksFor, marksOf, known, onto, spansBy, spansOf, spanEnd, endMost, inside, insideAll, cut}
 use Rattle.records.specs.Decoding.{Decoded, shows, slotBy, actionIn, decoded, decodedAll, allShown, stands, short, formed, shortTexts, encodable}
-use Rattle.records.proofs.TestLaws.{apart, both, joins}
+use Rattle.ascii.proofs.TestLaws.{apart, both, joins}
 
 -- a text that stands at its place is cut out again
 pub cut-back : (text front t back : List ℕ) (o : ℕ) → length t < spanBase → text ≡ front ++ (t ++ back) → length front ≡ o

@@ -1,4 +1,3 @@
-pub mod TestLaws
 pub mod LayoutLaws
 pub mod DecodeLaws
 pub mod ShapeLaws

@@ -7,7 +7,7 @@ use Prim.Native.Nat.{ℕ, _≤_}
 use lib.Dec.{eqb, leb}
 use borrow.Author.Tests.{eqb-true, eqb-false, le-leb, leb-true}
 use Rattle.ascii.specs.Choice.{pick, and}
-use Rattle.records.proofs.TestLaws.{both, joins}
+use Rattle.ascii.proofs.TestLaws.{both, joins}
 use Rattle.rules.specs.Entries.{Entry, idCode, phaseCode, severityCode, maturityCode, accuracyCode}
 use Rattle.rules.specs.Grades.{between, fine, allFine, ids, grades, Every, none, more, Passes}
 

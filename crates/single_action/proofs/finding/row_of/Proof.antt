@@ -1,5 +1,5 @@
-use borrow.Author.Needs.{needs}
 -- The rows of a name's length cover all rows that it can be.
+use borrow.Author.Needs.{needs}
 use mathlib.Core.Path.{refl}
 use native.Mathlib.Omega.{arith}
 use denote.Ref.{now}
