@@ -6,7 +6,7 @@ use mathlib.Core.List.{List}
 use Prim.Native.Nat.{ℕ}
 use native.Mathlib.Omega.{arith}
 use lib.ListN.{length}
-use Rattle.ascii.specs.Choice.{pick, bit}
+use Rattle.ascii.specs.Choice.{bit}
 use Rattle.lent.specs.Endings.{starts}
 use Rattle.lent.specs.Table.{tooLong, notAscii, shortBuffer, noRoom, named, noAction, noArgument, noVariable, unknownOperator, badCursor, unknownAction, badArgument, Outcome, refuses, reads}
 use Rattle.single_action.specs.Actions.{Action}

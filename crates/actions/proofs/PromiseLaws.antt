@@ -1,5 +1,5 @@
 -- From what is written to what parse_actions and parse_setvar promise: one law for each way out.
-use mathlib.Core.Path.{_≡_, refl, sym, ap, _∙_}
+use mathlib.Core.Path.{_≡_, sym, ap, _∙_}
 use mathlib.Core.Bool.{Bool, true, false}
 use mathlib.Core.List.{List, [], _∷_, append-nil}
 use Prim.Native.Nat.{ℕ, _+_, _*_, _≤_, _<_, min}
@@ -30,7 +30,7 @@ use Rattle.actions.specs.Lists.{actionsOf}
 use Rattle.actions.specs.Layout.{recordsFrom, wordsFrom, texts}
 use Rattle.actions.specs.Steps.{Put}
 use Rattle.actions.specs.Listing.{Laid, ReadAll, Stopped, Ended}
-use Rattle.actions.specs.Promises.{answerGiven, laidOut, roomed, actionsGate, actionsOutcome, setvarAlone, setvarOutcome, ParseActions, SetvarAlone}
+use Rattle.actions.specs.Promises.{answerGiven, laidOut, roomed, actionsGate, actionsOutcome, setvarOutcome, ParseActions, SetvarAlone}
 use Rattle.actions.specs.declared.Answer.{Answer}
 use Rattle.actions.specs.declared.Answer.the-variants as Answer
 use Rattle.actions.proofs.NormalLaws.{normalised-length}
