@@ -13,8 +13,8 @@ use borrow.Author.Tests.{ltb-true, ltb-false, lt-ltb, le-ltb}
 use Rattle.ascii.specs.Choice.{pick}
 use Rattle.ascii.specs.Classes.{white}
 use Rattle.ascii.specs.Fold.{lower, lowered}
-use Rattle.ascii.specs.Trim.{leadingWhite, trimEnds, trimmedPart}
-use Rattle.ascii.proofs.TrimLaws.{ends-are, ends-fit}
+use Rattle.ascii.specs.Trim.{trimEnds}
+use Rattle.ascii.proofs.TrimLaws.{ends-fit}
 use Rattle.lent.specs.Sizes.{spanBase, actionWords}
 use Rattle.lent.specs.Endings.{starts}
 use Rattle.lent.proofs.StartLaws.{Started, starts-is}
@@ -28,7 +28,6 @@ use Rattle.single_action.specs.Actions.{Action, actionText, Single, done, bad, 
 use Rattle.single_action.specs.Plans.{cut, planAction, Judged}
 use Rattle.single_action.specs.declared.plans.Plan.{Plan}
 use Rattle.single_action.specs.declared.plans.Verdict.the-variants.{Done, Bad, Unknown}
-use Rattle.single_action.proofs.CutLaws.{cut-take, cut-drop}
 use Rattle.single_action.proofs.SingleLaws.{Within, single-within}
 use Rattle.actions.specs.Pieces.{outside, keep, pieces, partLength}
 use Rattle.actions.specs.Lists.{singleThen, actionsFrom}
@@ -48,19 +47,6 @@ behind s end = pick (ltb end (length s)) (pieces (drop (end + 1) s)) []
 module _ (s : List ℕ) (from end : ℕ) (inside : from ≤ length s) (end-is : end ≡ from + partLength outside (drop from s)) where
   pub end-inside : (from ≤ end) × (end ≤ length s)
   end-inside = (omega arith, omega (arith, end-is, part-fits outside (drop from s), length-drop from s))
-
-  -- its trimmed text by its own places, as ascii's `trimmed` gives them within the part
-  pub piece-places : let x = trimmedPart (cut s from end) in cut s (from + x .first) (from + x .past) ≡ trimEnds (cut s from end)
-  piece-places =
-      let t = cut s from end in
-      let k = leadingWhite t in
-      let n = length (trimEnds t) in
-      let h : k + n ≤ end - from = omega (arith, ends-fit white t, length-take (end - from) (drop from s)) in
-      let j : from + (k + n) ≡ from + k + n = omega arith in
-      ap (cut s (from + k)) j
-      ∙ sym (cut-take s (from + k) end (end-inside .1) n (omega (arith, h, end-inside)))
-      ∙ ap (take n) (sym (cut-drop s from end (end-inside .1) k (omega (arith, h, end-inside))))
-      ∙ ends-are white t
 
   -- the part that starts at `from` is a piece or nothing, and the others stand behind it
   pub pieces-at : pieces (drop from s) ≡ keep (trimEnds (cut s from end)) (behind s end)

@@ -3,6 +3,7 @@ pub mod PieceLaws
 pub mod LengthLaws
 pub mod LayoutLaws
 pub mod GivenLaws
+pub mod PlaceLaws
 pub mod LoopLaws
 pub mod OutcomeLaws
 pub mod NormalLoop

@@ -1,5 +1,6 @@
 pub mod Normal
 pub mod Pieces
+pub mod Places
 pub mod Lists
 pub mod Layout
 pub mod Promises
