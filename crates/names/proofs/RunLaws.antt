@@ -67,7 +67,7 @@ hint-is h e = sym (rw e at h)
 
 pub ruleset hints = (hint-is, needs)
 
--- ---- the two tables: one computed test says that each name of a run has its code, and a ruleset is what proves an arm
+-- ---- the two tables: one computed test says that each name of a run has its code
 
 unfoldable pub variable-run : ℕ → List ℕ → List ℕ → Bool
 unfolding answered cut variableCode find variables same bytes upper
@@ -77,8 +77,6 @@ pub of-variables : {run codes name : List ℕ} {r : Lookup} (n : ℕ) → InRun 
 unfolding variable-run
 of-variables n x e t = hint variableCode n x e t
 
-pub ruleset variable-runs = (of-variables, needs)
-
 unfoldable pub operator-run : ℕ → List ℕ → List ℕ → Bool
 unfolding answered cut operatorCode find operators same bytes lower
 operator-run n run codes = answered operatorCode (cut n run codes)
@@ -86,5 +84,3 @@ operator-run n run codes = answered operatorCode (cut n run codes)
 pub of-operators : {run codes name : List ℕ} {r : Lookup} (n : ℕ) → InRun run codes name r → length name ≡ n → operator-run n run codes ≡ true → Hinted (operatorCode name) r
 unfolding operator-run
 of-operators n x e t = hint operatorCode n x e t
-
-pub ruleset operator-runs = (of-operators, needs)
