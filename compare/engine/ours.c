@@ -118,7 +118,9 @@ bool ours_actions(struct text list, FILE *said)
         fputs(i == 0 ? ": " : ", ", said);
         tell_action(records + i * 6, said);
     }
-    fprintf(said, "; phase %" PRIu64, seclang_phase(records, (size_t)count * 6));
+    size_t words = (size_t)count * 6;
+    fprintf(said, "; phase %" PRIu64, seclang_phase(records, words));
+    fputs(seclang_grade(records, words) ? "" : ", no grade", said);
     return true;
 }
 
