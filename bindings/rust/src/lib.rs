@@ -1,0 +1,57 @@
+//! Readers of SecRule packages (web application firewall rules) for Rust hosts, over `libseclang`, in which each function is proved
+//! to meet its contract.
+//!
+//! The functions here take any bytes, size what the library is lent, and give Rust types back: [`Token`], [`Action`], [`Variable`],
+//! [`Operator`], or a [`Refusal`]. [`raw`] has the library's own functions over lent buffers.
+//!
+//! ```
+//! use seclang::{Action, OperatorName, TokenKind, VariableName};
+//!
+//! let package = "SecRule ARGS|!ARGS:token \"@rx (?i)union\" \"id:7,phase:1,deny,msg:'a, b'\"\n";
+//! let arguments: Vec<String> = seclang::tokens(package)?.list.into_iter().filter_map(|token| match token.kind {
+//!     TokenKind::Word(text) | TokenKind::QuotedString(text) => Some(text),
+//!     _ => None,
+//! }).collect();
+//! let [variables, operator, actions] = &arguments[..] else { panic!("three arguments") };
+//!
+//! let targets = seclang::parse_variables(variables)?;
+//! assert_eq!(targets.variables[0].name, VariableName::Args);
+//! assert_eq!(targets.exclusions, ["ARGS:token"]);
+//!
+//! let operator = seclang::parse_operator(operator)?;
+//! assert_eq!((operator.name, operator.argument), (OperatorName::Rx, "(?i)union"));
+//!
+//! let actions = seclang::parse_actions(actions)?;
+//! assert_eq!(actions[0], Action::Id(7));
+//! assert_eq!(actions[3], Action::Msg("a, b".to_string()));
+//! assert_eq!(seclang::phase(&actions), 1);
+//! # Ok::<(), seclang::Refusal>(())
+//! ```
+//!
+//! # Panics
+//!
+//! Nothing here panics with the library that this crate was made for. A number or a code that it does not know is another
+//! library's, and the call that met it panics.
+#![deny(missing_docs, unsafe_code)]
+
+mod actions;
+mod codes;
+mod lent;
+mod operators;
+#[allow(unsafe_code)]
+pub mod raw;
+mod refusals;
+mod rules;
+mod tokens;
+mod variables;
+
+pub use actions::{parse_actions, parse_setvar, Action, SetVar, SetVarValue};
+pub use codes::{severity, ActionCode, OperatorName, ValueKind, VariableName};
+pub use operators::{parse_operator, Operator};
+pub use refusals::Refusal;
+pub use rules::{grade, phase, RuleIdSelector};
+pub use tokens::{list_text, next_token, tokens, Cursor, Step, Stop, Token, TokenKind, Tokens};
+pub use variables::{parse_update_targets, parse_variables, Selection, Targets, Variable, XmlTarget};
+
+/// The longest input that is read, in bytes.
+pub const LIMIT: usize = 16_384;

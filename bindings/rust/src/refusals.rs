@@ -1,0 +1,98 @@
+//! What is refused, by the library's numbers.
+
+use crate::lent::{another, said, size, Values};
+use std::fmt;
+
+/// Why an input was not read. The crate sizes what it lends, so that the numbers for short buffers, 3 and 4, do not come.
+#[derive(Clone, Debug, PartialEq, Eq, Hash)]
+#[non_exhaustive]
+pub enum Refusal {
+    /// 1: the input is over [`LIMIT`](crate::LIMIT) bytes.
+    TooLong,
+    /// 2: a byte is 128 or more.
+    NotAscii {
+        /// Where the first such byte stands, from 0.
+        place: usize,
+    },
+    /// 5: there is no such action.
+    UnknownAction {
+        /// Which non-empty piece of the list it is, from 0.
+        piece: usize,
+        /// Its name in small letters.
+        name: String,
+    },
+    /// 6: an action's argument is missing or bad.
+    BadArgument {
+        /// Which non-empty piece of the list it is, from 0.
+        piece: usize,
+        /// The action's name.
+        action: String,
+    },
+    /// 7: there is no such variable.
+    UnknownVariable {
+        /// Which non-empty piece of the list it is, from 0.
+        piece: usize,
+        /// Its name as written.
+        name: String,
+    },
+    /// 8: there is no such operator.
+    UnknownOperator {
+        /// Where its name stands in the input, from 0.
+        place: usize,
+        /// Its name as written.
+        name: String,
+    },
+    /// 9: a cursor past the end, or one whose line or column is 0 or above 16,385.
+    BadCursor,
+}
+
+impl Refusal {
+    /// A refusal's number, and the values and the text that come with it.
+    pub(crate) fn of(number: u64, values: &Values, text: &[u8]) -> Self {
+        let at = size(values[0]);
+        let name = || said(&text[..size(values[1])]);
+        match number {
+            1 => Refusal::TooLong,
+            2 => Refusal::NotAscii { place: at },
+            5 => Refusal::UnknownAction { piece: at, name: name() },
+            6 => Refusal::BadArgument { piece: at, action: name() },
+            7 => Refusal::UnknownVariable { piece: at, name: name() },
+            8 => Refusal::UnknownOperator { place: at, name: name() },
+            9 => Refusal::BadCursor,
+            _ => another("the number", number),
+        }
+    }
+
+    /// The library's number for it.
+    ///
+    /// ```
+    /// assert_eq!(seclang::parse_actions("deny,bogus").unwrap_err().number(), 5);
+    /// ```
+    pub fn number(&self) -> u64 {
+        match self {
+            Refusal::TooLong => 1,
+            Refusal::NotAscii { .. } => 2,
+            Refusal::UnknownAction { .. } => 5,
+            Refusal::BadArgument { .. } => 6,
+            Refusal::UnknownVariable { .. } => 7,
+            Refusal::UnknownOperator { .. } => 8,
+            Refusal::BadCursor => 9,
+        }
+    }
+}
+
+impl fmt::Display for Refusal {
+    fn fmt(&self, out: &mut fmt::Formatter<'_>) -> fmt::Result {
+        match self {
+            Refusal::TooLong => write!(out, "the input is over {} bytes", crate::LIMIT),
+            Refusal::NotAscii { place } => write!(out, "the byte at place {place} is not ASCII"),
+            Refusal::UnknownAction { piece, name } => write!(out, "unknown action '{name}' in piece {piece}"),
+            Refusal::BadArgument { piece, action } => write!(out, "missing or bad argument of '{action}' in piece {piece}"),
+            Refusal::UnknownVariable { piece, name } => write!(out, "unknown variable '{name}' in piece {piece}"),
+            Refusal::UnknownOperator { place, name } => write!(out, "unknown operator '{name}' at place {place}"),
+            Refusal::BadCursor => write!(out, "the cursor is no place of the input"),
+        }
+    }
+}
+
+impl std::error::Error for Refusal {}

@@ -1,0 +1,56 @@
+//! What a rule's actions come to, and selectors of rules by id.
+
+use crate::actions::WIDTH;
+use crate::{raw, Action};
+
+/// Records with what grade and phase look at: codes and numbers.
+fn records(actions: &[Action]) -> Vec<u64> {
+    let words = |action: &Action| -> [u64; WIDTH] { [action.code().code(), action.number(), 0, 0, 0, 0] };
+    actions.iter().flat_map(words).collect()
+}
+
+/// A rule's phase: the first that its actions name, else 2.
+///
+/// ```
+/// assert_eq!(seclang::phase(&seclang::parse_actions("id:7,phase:4")?), 4);
+/// assert_eq!(seclang::phase(&[]), 2);
+/// # Ok::<(), seclang::Refusal>(())
+/// ```
+pub fn phase(actions: &[Action]) -> u64 {
+    raw::phase(&records(actions))
+}
+
+/// The house grade: at most one id, which is not 0, and phases, severities, maturities and accuracies within their bounds.
+///
+/// ```
+/// assert!(seclang::grade(&seclang::parse_actions("id:7,phase:2")?));
+/// assert!(!seclang::grade(&seclang::parse_actions("id:7,phase:0")?));
+/// # Ok::<(), seclang::Refusal>(())
+/// ```
+pub fn grade(actions: &[Action]) -> bool {
+    raw::grade(&records(actions))
+}
+
+/// Which rules are meant, by their ids.
+#[derive(Clone, Copy, Debug, PartialEq, Eq, Hash)]
+pub enum RuleIdSelector {
+    /// This one.
+    Single(u64),
+    /// From the first to the second, both included.
+    Range(u64, u64),
+}
+
+impl RuleIdSelector {
+    /// Whether it takes an id.
+    ///
+    /// ```
+    /// use seclang::RuleIdSelector;
+    /// assert!(RuleIdSelector::Range(10, 20).matches(20));
+    /// ```
+    pub fn matches(self, id: u64) -> bool {
+        match self {
+            RuleIdSelector::Single(start) => raw::matches(false, start, 0, id),
+            RuleIdSelector::Range(start, end) => raw::matches(true, start, end, id),
+        }
+    }
+}

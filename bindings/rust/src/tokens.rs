@@ -1,0 +1,172 @@
+//! The tokens of a text, its listing, and one step from a cursor.
+
+use crate::lent::{another, filled, said, size, span, Values};
+use crate::{raw, Refusal, LIMIT};
+use std::ops::Range;
+
+/// What a token is, with its text: quotation marks and escapes are gone.
+#[derive(Clone, Debug, PartialEq, Eq, Hash)]
+pub enum TokenKind {
+    /// A word at the start of a line that begins with `sec`, or is `include`, in any letter case.
+    Directive(String),
+    /// Any other word.
+    Word(String),
+    /// A text in quotation marks.
+    QuotedString(String),
+    /// A comment, with the line feed at its end.
+    Comment,
+    /// A line feed.
+    Newline,
+}
+
+/// A token and where it stands.
+#[derive(Clone, Debug, PartialEq, Eq, Hash)]
+pub struct Token {
+    /// What it is, with its text.
+    pub kind: TokenKind,
+    /// The line of its first byte, from 1.
+    pub line: usize,
+    /// The column of its first byte, from 1, in bytes.
+    pub column: usize,
+    /// The bytes of the input that were read for it.
+    pub bytes: Range<usize>,
+}
+
+impl Token {
+    fn of(kind: u64, line: u64, column: u64, bytes: Range<usize>, text: String) -> Self {
+        let kind = match kind {
+            1 => TokenKind::Directive(text),
+            2 => TokenKind::Word(text),
+            3 => TokenKind::QuotedString(text),
+            4 => TokenKind::Comment,
+            5 => TokenKind::Newline,
+            _ => another("a token of the kind", kind),
+        };
+        Token { kind, line: size(line), column: size(column), bytes }
+    }
+
+    /// Its text, which a comment and a line feed have not.
+    pub fn text(&self) -> &str {
+        match &self.kind {
+            TokenKind::Directive(text) | TokenKind::Word(text) | TokenKind::QuotedString(text) => text,
+            TokenKind::Comment | TokenKind::Newline => "",
+        }
+    }
+}
+
+/// Where the reading of a text came to its end.
+#[derive(Clone, Copy, Debug, PartialEq, Eq, Hash)]
+pub struct Stop {
+    /// The place in the input: its length, where all was read.
+    pub place: usize,
+    /// The line, from 1.
+    pub line: usize,
+    /// The column, from 1.
+    pub column: usize,
+}
+
+/// The tokens of a text.
+#[derive(Clone, Debug, PartialEq, Eq, Hash)]
+pub struct Tokens {
+    /// In the order of the text.
+    pub list: Vec<Token>,
+    /// Before the end of the text where a vertical tab or a form feed stands for a token's first byte.
+    pub stop: Stop,
+}
+
+/// All tokens of a text.
+///
+/// ```
+/// use seclang::TokenKind;
+///
+/// let tokens = seclang::tokens("SecRuleEngine On\n")?;
+/// assert_eq!(tokens.list[0].kind, TokenKind::Directive("SecRuleEngine".to_string()));
+/// assert_eq!((tokens.list[1].line, tokens.list[1].column, tokens.list[1].text()), (1, 15, "On"));
+/// assert_eq!(tokens.list[2].bytes, 16..17);
+/// assert_eq!(tokens.stop.place, 17);
+/// # Ok::<(), seclang::Refusal>(())
+/// ```
+pub fn tokens(input: &(impl AsRef<[u8]> + ?Sized)) -> Result<Tokens, Refusal> {
+    let input = input.as_ref();
+    let read = filled(input, 0, 5, |text, records, values| raw::tokens(input, text, records, values))?;
+    let list = read.records().map(|word| Token::of(word[0], word[1], word[2], span(word[3]), read.said(word[4]))).collect();
+    let [_, _, place, line, column, ..] = read.values.map(size);
+    Ok(Tokens { list, stop: Stop { place, line, column } })
+}
+
+/// Where a step starts, and whether a word there is at the start of a line.
+#[derive(Clone, Copy, Debug, PartialEq, Eq, Hash)]
+pub struct Cursor {
+    /// The place in the input, from 0.
+    pub place: usize,
+    /// The line, from 1, that is counted on from.
+    pub line: usize,
+    /// The column, from 1, that is counted on from.
+    pub column: usize,
+    /// Whether only blanks stand between the line's start and here.
+    pub mark: bool,
+}
+
+impl Cursor {
+    /// The start of a text.
+    pub const START: Cursor = Cursor { place: 0, line: 1, column: 1, mark: true };
+
+    fn of(words: &[u64]) -> Self {
+        Cursor { place: size(words[0]), line: size(words[1]), column: size(words[2]), mark: words[3] != 0 }
+    }
+}
+
+/// What a step gives.
+#[derive(Clone, Debug, PartialEq, Eq, Hash)]
+pub struct Step {
+    /// The token, or none at the end and where reading stops.
+    pub token: Option<Token>,
+    /// Where the next step starts.
+    pub next: Cursor,
+}
+
+/// The token at a cursor. The whole input is looked at first, so that [`tokens`] is faster where all are wanted.
+///
+/// ```
+/// use seclang::{next_token, Cursor};
+///
+/// let text = "a b";
+/// let first = next_token(text, Cursor::START)?;
+/// let second = next_token(text, first.next)?;
+/// assert_eq!(second.token.map(|token| token.column), Some(3));
+/// assert_eq!(next_token(text, second.next)?.token, None);
+/// # Ok::<(), seclang::Refusal>(())
+/// ```
+pub fn next_token(input: &(impl AsRef<[u8]> + ?Sized), from: Cursor) -> Result<Step, Refusal> {
+    let input = input.as_ref();
+    let (mut text, mut values) = (vec![0; input.len().min(LIMIT)], Values::default());
+    let number = raw::next_token(input, from, &mut text, &mut values);
+    match (number, values) {
+        (0, [1, kind, line, column, first, len, next @ ..]) => {
+            let next = Cursor::of(&next);
+            let token = Token::of(kind, line, column, size(first)..next.place, said(&text[..size(len)]));
+            Ok(Step { token: Some(token), next })
+        }
+        (0, [_, next @ ..]) => Ok(Step { token: None, next: Cursor::of(&next) }),
+        _ => Err(Refusal::of(number, &values, &text)),
+    }
+}
+
+/// A text's tokens as a JSON array and a line feed; for a text that is refused, `[number,place]` and a line feed.
+///
+/// ```
+/// assert_eq!(seclang::list_text("SecRule ARGS\n"), "[[\"directive\",1,1,\"SecRule\"],[\"word\",1,9,\"ARGS\"],[\"newline\",1,13]]\n");
+/// assert_eq!(seclang::list_text("SecRule é"), "[2,8]\n");
+/// ```
+pub fn list_text(input: &(impl AsRef<[u8]> + ?Sized)) -> String {
+    let input = input.as_ref();
+    let len = input.len().min(LIMIT);
+    // no text has more tokens than bytes, and none lists in more bytes than these, by proof
+    let (mut text, mut records, mut out) = (vec![0; len], vec![0; 5 * len], vec![0; 35 * len + 26]);
+    let mut values = Values::default();
+    let number = raw::list_text(input, &mut text, &mut records, &mut out, &mut values);
+    match number {
+        0 => said(&out[..size(values[0])]),
+        _ => another("a listing with the number", number),
+    }
+}

@@ -1,0 +1,127 @@
+//! Each reader's answers and refusals as Rust types, and what the crate lends at the edges.
+
+use seclang::{
+    list_text, next_token, parse_actions, parse_operator, parse_setvar, parse_update_targets, parse_variables, tokens, Action, Cursor,
+    Refusal, RuleIdSelector, SetVar, SetVarValue, Token, LIMIT,
+};
+
+fn set(collection: &str, key: &str, value: SetVarValue) -> SetVar {
+    SetVar { collection: collection.to_string(), key: key.to_string(), value }
+}
+
+/// All tokens by single steps, and where the last one stands.
+fn stepped(text: &str) -> (Vec<Token>, Cursor) {
+    let (mut list, mut at) = (Vec::new(), Cursor::START);
+    loop {
+        let step = next_token(text, at).expect("a cursor that was reached");
+        at = step.next;
+        match step.token {
+            Some(token) => list.push(token),
+            None => return (list, at),
+        }
+    }
+}
+
+#[test]
+fn steps_give_what_the_whole_gives() {
+    let sample = include_str!("../../../samples/desk.conf");
+    for text in ["", "a b", "x \\\nsecy", "'a\\\n  b' # c\nSecRule", "a \x0cb", "\\Sec", sample] {
+        let (all, (list, end)) = (tokens(text).expect("ASCII"), stepped(text));
+        assert_eq!(all.list, list, "{text:?}");
+        assert_eq!((all.stop.place, all.stop.line, all.stop.column), (end.place, end.line, end.column), "{text:?}");
+    }
+    assert_eq!(tokens("a \x0cb").expect("ASCII").stop.place, 2);
+}
+
+#[test]
+fn a_cursor_is_judged() {
+    let from = |place, line, column| next_token("ab", Cursor { place, line, column, mark: false }).map(|step| step.token.is_some());
+    assert_eq!(from(1, 1, 1), Ok(true));
+    assert_eq!(from(2, 16_385, 16_385), Ok(false));
+    for bad in [from(3, 1, 1), from(0, 0, 1), from(0, 1, 0), from(0, 16_386, 1), from(usize::MAX, 1, 1)] {
+        assert_eq!(bad, Err(Refusal::BadCursor));
+    }
+}
+
+#[test]
+fn setvars_are_read() {
+    let read = |text| parse_setvar(text).expect("a setvar");
+    assert_eq!(read("a=--5"), set("tx", "a", SetVarValue::Decrement(-5)));
+    assert_eq!(read("IP.A=9223372036854775807"), set("ip", "A", SetVarValue::Int(i64::MAX)));
+    assert_eq!(read("a=9223372036854775808"), set("tx", "a", SetVarValue::String("9223372036854775808".to_string())));
+    assert_eq!(read("'!tx.a'"), set("tx", "a", SetVarValue::Delete));
+    assert_eq!(read(""), set("tx", "", SetVarValue::String("1".to_string())));
+    let [Action::SetVar(inside)] = &parse_actions("setvar:'tx.a=+%{b}'").expect("a list")[..] else { panic!("one setvar") };
+    assert_eq!(*inside, set("tx", "a", SetVarValue::Macro("+%{b}".to_string())));
+}
+
+#[test]
+fn ids_are_whole_words() {
+    assert_eq!(parse_actions("id:18446744073709551615"), Ok(vec![Action::Id(u64::MAX)]));
+    assert_eq!(parse_actions("id:18446744073709551616"), Err(Refusal::BadArgument { piece: 0, action: "id".to_string() }));
+    assert!(RuleIdSelector::Range(1, u64::MAX).matches(u64::MAX) && RuleIdSelector::Single(u64::MAX).matches(u64::MAX));
+    assert!(!RuleIdSelector::Range(2, 1).matches(1) && !RuleIdSelector::Single(1).matches(2));
+}
+
+#[test]
+fn refusals_have_their_values() {
+    let name = |name: &str| name.to_string();
+    assert_eq!(parse_actions("deny,,Bogus:1,phase:x"), Err(Refusal::UnknownAction { piece: 1, name: name("bogus") }));
+    assert_eq!(parse_actions("log,phase:'2'"), Err(Refusal::BadArgument { piece: 1, action: name("phase") }));
+    assert_eq!(parse_variables("ARGS:/a|b/"), Err(Refusal::UnknownVariable { piece: 1, name: name("b/") }));
+    assert_eq!(parse_update_targets("!x"), Err(Refusal::UnknownVariable { piece: 0, name: name("x") }));
+    assert_eq!(parse_operator(" !@rx\x0ba"), Err(Refusal::UnknownOperator { place: 3, name: name("rx\x0ba") }));
+    assert_eq!(parse_operator("@"), Err(Refusal::UnknownOperator { place: 1, name: name("") }));
+    let shown = parse_actions("bogus").map_err(|refusal| refusal.to_string());
+    assert_eq!(shown, Err(name("unknown action 'bogus' in piece 0")));
+}
+
+/// The numbers of every reader on one input.
+fn numbers(input: &[u8]) -> Vec<u64> {
+    let number = |refusal: Option<Refusal>| refusal.map_or(0, |refusal| refusal.number());
+    vec![
+        number(tokens(input).err()),
+        number(next_token(input, Cursor::START).err()),
+        number(parse_actions(input).err()),
+        number(parse_setvar(input).err()),
+        number(parse_variables(input).err()),
+        number(parse_update_targets(input).err()),
+        number(parse_operator(input).err()),
+    ]
+}
+
+#[test]
+fn lengths_and_bytes_are_judged_first() {
+    assert_eq!(numbers(b""), [0; 7]);
+    assert_eq!(numbers(&vec![b' '; LIMIT]), [0; 7]);
+    for len in [LIMIT + 1, 4 << 20] {
+        assert_eq!(numbers(&vec![0xff; len]), [1; 7]);
+        assert_eq!(list_text(&vec![b' '; len]), "[1,16384]\n");
+    }
+    let mut bytes = vec![b' '; LIMIT];
+    bytes[LIMIT - 1] = 0x80;
+    assert_eq!(numbers(&bytes), [2; 7]);
+    assert_eq!(tokens(&bytes), Err(Refusal::NotAscii { place: LIMIT - 1 }));
+}
+
+/// Texts with as many records as their length allows, up to the limit, are read with the room that the library asks for.
+#[test]
+fn rooms_are_as_large_as_is_asked() {
+    for len in [1, 2, 3, 7, 8, 100, LIMIT] {
+        assert_eq!(tokens(&"\n".repeat(len)).map(|all| all.list.len()), Ok(len));
+        assert_eq!(parse_update_targets(&"TX|".repeat(len / 3)).map(|all| all.variables.len()), Ok(len / 3));
+        assert_eq!(parse_variables(&format!("TX{}", "|!".repeat((len - 1) / 2))).map(|all| all.exclusions.len()), Ok((len - 1) / 2));
+        assert_eq!(parse_actions(&"t:,".repeat(len / 3)).map(|all| all.len()), Ok(len / 3));
+    }
+}
+
+#[test]
+fn listings_always_fit() {
+    let dense = ["\n", "a\n", "\"\x01\"", "a'\\", "\x01", "\"\\", "#\n"];
+    for text in dense.map(|piece| piece.repeat(LIMIT / piece.len())) {
+        let listed = list_text(&text);
+        assert!(listed.starts_with("[[") && listed.ends_with("]]\n"), "{}", &text[..8]);
+        assert_eq!(listed.matches("],[").count() + 1, tokens(&text).expect("ASCII").list.len());
+    }
+    assert_eq!(list_text("\x0c"), "[[\"stopped\",1,1]]\n");
+}
