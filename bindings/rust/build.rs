@@ -36,6 +36,7 @@ fn main() {
     let Some((file, kind)) = linked(&folder) else {
         panic!("there is no libseclang in {}: tools/library builds it, or set SECLANG_LIB to the folder that has it", folder.display());
     };
+    let folder = folder.canonicalize().expect("a folder that is there");
     println!("cargo:rerun-if-changed={}", folder.join(file).display());
     println!("cargo:rustc-link-search=native={}", folder.display());
     println!("cargo:rustc-link-lib={kind}=seclang");
