@@ -161,8 +161,8 @@ pub fn next_token(input: &(impl AsRef<[u8]> + ?Sized), from: Cursor) -> Result<S
 pub fn list_text(input: &(impl AsRef<[u8]> + ?Sized)) -> String {
     let input = input.as_ref();
     let len = input.len().min(LIMIT);
-    // no text has more tokens than bytes, and none lists in more bytes than these, by proof
-    let (mut text, mut records, mut out) = (vec![0; len], vec![0; 5 * len], vec![0; 35 * len + 26]);
+    // no text has more tokens than bytes, and none lists in more bytes than these and a line feed, by proof
+    let (mut text, mut records, mut out) = (vec![0; len], vec![0; 5 * len], vec![0; 35 * len + 26 + 1]);
     let mut values = Values::default();
     let number = raw::list_text(input, &mut text, &mut records, &mut out, &mut values);
     match number {
