@@ -1,4 +1,4 @@
-//! Lays the original's files out for the compiler, unchanged, and links the library.
+//! Lays the original's files out for the compiler, unchanged.
 //!
 //! The files open with `//!`, so that `include!` refuses them, and what they keep private is seen only by their own
 //! children: so each is copied with one line behind its last byte, `pub mod probe;`, whose file is in probe/.
@@ -8,11 +8,12 @@ use std::{env, fs};
 
 const FILES: [&str; 5] = ["action", "directive", "lexer", "operator", "variable"];
 
-fn folder(variable: &str, default: PathBuf, wanted: &str) -> PathBuf {
-    println!("cargo:rerun-if-env-changed={variable}");
-    let named = env::var_os(variable).map_or(default, PathBuf::from);
-    if !named.join(wanted).exists() {
-        panic!("there is no {wanted} in {}: set {variable} to the folder that has it", named.display());
+/// The folder of the original, where ORIGINAL_DIR or else the default says.
+fn original(default: PathBuf) -> PathBuf {
+    println!("cargo:rerun-if-env-changed=ORIGINAL_DIR");
+    let named = env::var_os("ORIGINAL_DIR").map_or(default, PathBuf::from);
+    if !named.join("parser/lexer.rs").exists() {
+        panic!("there is no parser/lexer.rs in {}: set ORIGINAL_DIR to the folder that has it", named.display());
     }
     named.canonicalize().expect("a folder that is there")
 }
@@ -47,10 +48,9 @@ fn copied(originals: &Path, here: &Path, out: &Path, name: &str) -> String {
 fn main() {
     let manifest = PathBuf::from(env::var("CARGO_MANIFEST_DIR").unwrap());
     let here = manifest.ancestors().find(|d| d.join("src/main.rs").exists()).expect("the crate's folder").to_path_buf();
-    let repository = here.parent().expect("the repository");
     let out = PathBuf::from(env::var("OUT_DIR").unwrap());
 
-    let originals = folder("ORIGINAL_DIR", repository.join("../shared/docs/src"), "parser/lexer.rs");
+    let originals = original(here.join("../../shared/docs/src"));
     println!("cargo:rerun-if-changed={}", originals.display());
     println!("cargo:rerun-if-changed={}", here.join("probe").display());
     let error = originals.join("error.rs");
@@ -60,10 +60,4 @@ fn main() {
     }
     root.push_str("    pub use action::{Action, FlowAction, MetadataAction};\n    pub use operator::OperatorSpec;\n    pub use variable::VariableSpec;\n}\n");
     fs::write(out.join("original.rs"), root).unwrap();
-
-    let built = if env::var("CARGO_CFG_TARGET_ARCH").as_deref() == Ok("x86_64") { "target/staticlib" } else { "target/hostlib" };
-    let library = folder("SECLANG_LIB", repository.join(built), "libseclang.a");
-    println!("cargo:rerun-if-changed={}", library.join("libseclang.a").display());
-    println!("cargo:rustc-link-search=native={}", library.display());
-    println!("cargo:rustc-link-lib=static=seclang");
 }
