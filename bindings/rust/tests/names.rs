@@ -11,6 +11,9 @@ fn each_variable_is_found_by_its_name() {
         if let Some(name) = variable.name() {
             assert_eq!(lookup(0, name.as_bytes()), variable.code(), "{name}");
             assert_eq!(VariableName::find(&name.to_ascii_lowercase()), Some(*variable), "{name}");
+            // the one name that is not its variant's
+            let plain = if name == "MULTIPART_STRICT_ERROR" { "MULTIPART_STRICT_CHECK" } else { name };
+            assert_eq!(plain.replace('_', ""), format!("{variable:?}").to_ascii_uppercase());
         }
     }
     assert_eq!((VariableName::ALL.len(), VariableName::ALL.iter().filter(|v| v.name().is_some()).count()), (92, 76));

@@ -2,7 +2,7 @@
 
 use seclang::{
     list_text, next_token, parse_actions, parse_operator, parse_setvar, parse_update_targets, parse_variables, tokens, Action, Cursor,
-    Refusal, RuleIdSelector, SetVar, SetVarValue, Token, LIMIT,
+    Refusal, RuleIdSelector, SetVar, SetVarValue, Token, XmlTarget, LIMIT,
 };
 
 fn set(collection: &str, key: &str, value: SetVarValue) -> SetVar {
@@ -61,6 +61,23 @@ fn ids_are_whole_words() {
     assert_eq!(parse_actions("id:18446744073709551616"), Err(Refusal::BadArgument { piece: 0, action: "id".to_string() }));
     assert!(RuleIdSelector::Range(1, u64::MAX).matches(u64::MAX) && RuleIdSelector::Single(u64::MAX).matches(u64::MAX));
     assert!(!RuleIdSelector::Range(2, 1).matches(1) && !RuleIdSelector::Single(1).matches(2));
+}
+
+/// The grade looks at each number that it is about.
+#[test]
+fn grades_are_given() {
+    let graded = |list| seclang::grade(&parse_actions(list).expect(list));
+    assert!(graded("") && graded("id:1,phase:1,severity:7,maturity:9,accuracy:1,status:999,skip:0"));
+    for list in ["id:0", "id:1,id:2", "phase:0", "severity:8", "maturity:0", "accuracy:10"] {
+        assert!(!graded(list), "{list}");
+    }
+}
+
+#[test]
+fn xml_selections_are_told_apart() {
+    let asked = |list| XmlTarget::of(parse_variables(list).expect(list).variables[0].selection.as_ref());
+    assert_eq!([asked("XML"), asked("XML:/*"), asked("XML://@*")], [XmlTarget::All, XmlTarget::Elements, XmlTarget::Attributes].map(Some));
+    assert_eq!([asked("XML:/a/"), asked("XML:/a")], [None, None]);
 }
 
 #[test]
