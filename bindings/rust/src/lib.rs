@@ -30,8 +30,8 @@
 //!
 //! # Panics
 //!
-//! Nothing here panics with the library that this crate was made for. A number or a code that it does not know is another
-//! library's, and the call that met it panics.
+//! Nothing here panics with the library that this crate was made for, whose [`version`] is [`VERSION`]. A number or a code that it
+//! does not know is another library's, and the call that met it panics.
 #![deny(missing_docs, unsafe_code)]
 
 mod actions;
@@ -55,3 +55,16 @@ pub use variables::{parse_update_targets, parse_variables, Selection, Targets, V
 
 /// The longest input that is read, in bytes.
 pub const LIMIT: usize = 16_384;
+
+/// The version of the library that this crate was made for.
+pub const VERSION: u64 = 1;
+
+/// The version of the library that is linked.
+///
+/// ```
+/// assert_eq!(seclang::version(), seclang::VERSION);
+/// ```
+#[inline]
+pub fn version() -> u64 {
+    raw::version()
+}

@@ -102,6 +102,7 @@ mod c {
             values: *mut u64,
             values_len: usize,
         ) -> u64;
+        pub fn seclang_version() -> u64;
         pub fn seclang_write_refusal(number: u64, place: u64, out: *mut u8, out_len: usize, values: *mut u64, values_len: usize) -> u64;
     }
 }
@@ -287,4 +288,11 @@ pub fn write_listing(records: &[u64], text: &[u8], early: Option<(usize, usize)>
 pub fn write_refusal(number: u64, place: u64, out: &mut [u8], values: &mut [u64]) -> u64 {
     // SAFETY: as above.
     unsafe { c::seclang_write_refusal(number, place, out.as_mut_ptr(), out.len(), values.as_mut_ptr(), values.len()) }
+}
+
+/// `SECLANG_VERSION` of the header that says what the library does.
+#[inline]
+pub fn version() -> u64 {
+    // SAFETY: nothing is passed.
+    unsafe { c::seclang_version() }
 }

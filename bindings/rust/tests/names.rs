@@ -72,3 +72,11 @@ fn each_value_has_its_kind() {
         .collect();
     assert_eq!(kinds, ValueKind::ALL);
 }
+
+/// The crate, the library and the header are of one version.
+#[test]
+fn versions_agree() {
+    let header = include_str!("../../../include/seclang.h");
+    let said = header.lines().find_map(|line| line.strip_prefix("#define SECLANG_VERSION ")).and_then(|number| number.trim().parse().ok());
+    assert_eq!((seclang::version(), said), (seclang::VERSION, Some(seclang::VERSION)));
+}
