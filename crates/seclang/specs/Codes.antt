@@ -1,4 +1,4 @@
--- Lookups and tests by a number that says which.
+-- Lookups and tests by a number that says which, and the library's own number.
 use Prim.Native.Nat.{ℕ}
 use mathlib.Core.Bool.{Bool, false}
 use mathlib.Core.List.{List}
@@ -48,3 +48,7 @@ targetOf Neither = 3
 -- a range of ids, or the first alone
 abbrev pub selectorOf : Bool → ℕ → ℕ → RuleIdSelector
 selectorOf ranged start end = pick ranged (Range start end) (Single start)
+
+-- SECLANG_VERSION of the header that says what this library does
+abbrev pub version : ℕ
+version = 1

@@ -3,6 +3,7 @@ mod looking;
 mod printing;
 mod reading;
 mod telling;
+mod versioning;
 
 pub use looking::seclang_grade;
 pub use looking::seclang_lookup;
@@ -20,3 +21,4 @@ pub use reading::seclang_parse_setvar;
 pub use reading::seclang_parse_update_targets;
 pub use reading::seclang_parse_variables;
 pub use reading::seclang_tokens;
+pub use versioning::seclang_version;
