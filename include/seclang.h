@@ -1,13 +1,18 @@
-/* The readers of SecRule packages, proved: libseclang.a (`rt staticlib seclang`).
+/* The readers of SecRule packages, proved: libseclang.a (`rt staticlib seclang`, or tools/library). This file alone is
+ * enough to call them; samples/ids.c is a small program that does.
  *
- * Every call takes any bytes and any lent memory, returns, and refuses by number. Nothing is kept between calls.
+ * Every call takes any bytes and any lent memory, returns, and refuses by number. Nothing is kept between calls, so
+ * that threads may call at once.
  *
- * What a caller owes: a pointer and a length stand for memory that is there for the whole call, aligned for its type,
+ * WHAT A CALLER OWES. A pointer and a length stand for memory that is there for the whole call, aligned for its type,
  * and no memory that is written overlaps any other of the same call. A length of 0 still takes a pointer that is not
- * null. A bool is 0 or 1.
+ * null. A bool is 0 or 1. Lengths of records and values are in words, not bytes. The library's number is the header's:
+ * seclang_version() == SECLANG_VERSION.
  *
- * A reader returns a number and stores its values at the front of `values` where they fit whole; no other word of
- * `values` is touched, and none at all where they do not fit. Ten words are enough for every reader.
+ * NUMBERS AND VALUES. A reader returns a number and stores its values at the front of `values` where they fit whole;
+ * no other word of `values` is touched, and none at all where they do not fit. SECLANG_VALUES_MOST words are enough
+ * for every reader. The numbers are tried in the order 1, 2, 3, 9, then 5 to 8 at the first bad piece, then 19, then
+ * 4.
  *
  *   number  given exactly when                                values          text and records afterwards
  *   0       none below                                        by reader       what was read, and zeros beyond
@@ -23,10 +28,24 @@
  *           is 0 or above 16385
  *   19      a record that no reader makes (listings)          its number      all zero
  *
- * A span is a word, offset * 65536 + length, the offset into `text` unless said. Records are whole u64 words:
- *   token, 5: kind (1 directive, 2 word, 3 string, 4 comment, 5 newline), line, column, span in the input, text
- *   action, 6: code, number, a, b, value kind, c
- *   variable, 5: 1, name code, counted, selection (0 none, 1 key, 2 regex), text; an exclusion: 2, 0, 0, 0, text
+ * A place is counted from 0, and so is a piece, among those of a list that are not empty. The length is the name's.
+ *
+ * RECORDS are whole u64 words. A text is told by a span, offset * 65536 + length, the offset into `text` unless said;
+ * SECLANG_SPAN_OFFSET and SECLANG_SPAN_LENGTH take it apart. Texts have no zero byte at their end.
+ *
+ *   token, 5 words:     kind, line, column, span in the input, text. Comments and newlines have an empty text.
+ *   action, 6 words:    code, number, a, b, value kind, c. Beside each action below stands which of these it has; a, b
+ *                       and c are texts, and a word that an action does not have is 0. The value is setvar's.
+ *   variable, 5 words:  1, code, counted (`&`: 1, else 0), selection, text of the selection.
+ *   exclusion, 5 words: 2, 0, 0, 0, text behind the `!`. They stand behind all variables; those of
+ *                       seclang_parse_variables hold for every variable of the list.
+ *
+ * HOW MUCH TO LEND. A text as long as the input is always enough (a setvar alone: three bytes more). For records,
+ * SECLANG_TOKENS_MOST and the like say how many an input of n bytes can need at most: with room for these, 4 is never
+ * given. That no input needs more is proved: listing/proofs/MadeLaws (count-fits), actions/proofs/BoundLaws,
+ * variables/proofs/BoundLaws. That some input of each length needs as many is tested. With less room, 4 says how many
+ * records this input needs, and the call can be made again. Zeros are written to the end of what is lent, so a large
+ * buffer for a small input costs time.
  */
 #ifndef SECLANG_H
 #define SECLANG_H
@@ -39,49 +58,362 @@
 extern "C" {
 #endif
 
-/* The longest input, and what seclang_lookup gives for a name that has no code. */
-#define SECLANG_LIMIT 16384
-#define SECLANG_UNKNOWN UINT64_MAX
+/* What stands between `made` and `end` is written by tools/header, from the tables that the proofs cite. */
 
-/* One token at a cursor. `text` is asked to be as long as the input; the token's text is written at its front and
- * nothing beyond is touched. Values with 0: 1, kind, line, column, first byte, length of the text, and the next
- * cursor's place, line, column and mark; or 0 and the cursor where reading stands, when no token is left. */
+/* The header's version, the longest input, a cursor's largest line and column, the code of a name that has none, the
+ * base of a span, and how many words a record has. */
+/* made: sizes */
+#define SECLANG_VERSION 1
+#define SECLANG_LIMIT 16384
+#define SECLANG_CURSOR_MOST 16385
+#define SECLANG_UNKNOWN UINT64_MAX
+#define SECLANG_SPAN_BASE 65536
+#define SECLANG_TOKEN_WORDS 5
+#define SECLANG_ACTION_WORDS 6
+#define SECLANG_VARIABLE_WORDS 5
+/* end */
+
+#define SECLANG_VALUES_MOST 10
+#define SECLANG_SPAN_OFFSET(span) ((span) / SECLANG_SPAN_BASE)
+#define SECLANG_SPAN_LENGTH(span) ((span) % SECLANG_SPAN_BASE)
+
+/* The most records that n bytes can need: each byte a token (line feeds); `t:,t:,t:`; `TX|!|!`; `TX|TX|TX`. A setvar
+ * alone is one. */
+#define SECLANG_TOKENS_MOST(n) (n)
+#define SECLANG_ACTIONS_MOST(n) (((n) + 1) / 3)
+#define SECLANG_VARIABLES_MOST(n) ((n) / 2)
+#define SECLANG_UPDATE_TARGETS_MOST(n) (((n) + 1) / 3)
+
+/* The line of seclang_list_text for n bytes of text is never longer: proved for a text that is read, in
+ * listing/proofs/BoundLaws, and a line feed; the line of a refusal is shorter. */
+#define SECLANG_LISTING_MOST(n) (35 * (n) + 27)
+
+/* made: numbers */
+enum seclang_number {
+    SECLANG_READ = 0,
+    SECLANG_TOO_LONG = 1,
+    SECLANG_NOT_ASCII = 2,
+    SECLANG_SHORT_BUFFER = 3,
+    SECLANG_NO_ROOM = 4,
+    SECLANG_UNKNOWN_ACTION = 5,
+    SECLANG_BAD_ARGUMENT = 6,
+    SECLANG_UNKNOWN_VARIABLE = 7,
+    SECLANG_UNKNOWN_OPERATOR = 8,
+    SECLANG_BAD_CURSOR = 9,
+    SECLANG_NO_TOKEN = 19
+};
+/* end */
+
+/* made: tokens */
+enum seclang_token {
+    SECLANG_TOKEN_DIRECTIVE = 1,
+    SECLANG_TOKEN_WORD = 2,
+    SECLANG_TOKEN_QUOTED_STRING = 3,
+    SECLANG_TOKEN_COMMENT = 4,
+    SECLANG_TOKEN_NEWLINE = 5
+};
+/* end */
+
+/* In all that follows, behind the prefix stands the name as a rule writes it, in capitals; in a rule, letter case does
+ * not matter, but for `t:`, which is small. An action without a remark has its code alone. */
+/* made: actions */
+enum seclang_action {
+    SECLANG_ACTION_DENY = 1,
+    SECLANG_ACTION_BLOCK = 2,
+    SECLANG_ACTION_PASS = 3,
+    SECLANG_ACTION_ALLOW = 4,
+    SECLANG_ACTION_DROP = 5,
+    SECLANG_ACTION_REDIRECT = 6,         /* a, as written */
+    SECLANG_ACTION_CHAIN = 7,
+    SECLANG_ACTION_SKIP = 8,             /* number, at most 2^32 - 1 */
+    SECLANG_ACTION_SKIPAFTER = 9,        /* a, as written */
+    SECLANG_ACTION_MULTIMATCH = 10,
+    SECLANG_ACTION_ID = 11,              /* number, at most 2^64 - 1 */
+    SECLANG_ACTION_PHASE = 12,           /* number, at most 2^8 - 1 */
+    SECLANG_ACTION_SEVERITY = 13,        /* number: at most 255, or a severity word's */
+    SECLANG_ACTION_MSG = 14,             /* a, without quotation marks around it */
+    SECLANG_ACTION_TAG = 15,             /* a, without quotation marks around it */
+    SECLANG_ACTION_REV = 16,             /* a, without quotation marks around it */
+    SECLANG_ACTION_VER = 17,             /* a, without quotation marks around it */
+    SECLANG_ACTION_MATURITY = 18,        /* number, at most 2^8 - 1 */
+    SECLANG_ACTION_ACCURACY = 19,        /* number, at most 2^8 - 1 */
+    SECLANG_ACTION_LOGDATA = 20,         /* a, without quotation marks around it */
+    SECLANG_ACTION_STATUS = 21,          /* number, at most 2^16 - 1 */
+    SECLANG_ACTION_SETVAR = 22,          /* a the collection, b the key, and a value */
+    SECLANG_ACTION_CAPTURE = 23,
+    SECLANG_ACTION_INITCOL = 24,         /* a and b: before and behind the first = */
+    SECLANG_ACTION_EXPIREVAR = 25,       /* a and number: before and behind the first = */
+    SECLANG_ACTION_LOG = 26,
+    SECLANG_ACTION_NOLOG = 27,
+    SECLANG_ACTION_AUDITLOG = 28,
+    SECLANG_ACTION_NOAUDITLOG = 29,      /* also setsid, setuid, deprecatevar, exec, append, prepend, proxy, pause, xmlns */
+    SECLANG_ACTION_SANITISEMATCHED = 30, /* also sanitizematched */
+    SECLANG_ACTION_CTL = 31,             /* a and b: before and behind the first = */
+    SECLANG_ACTION_T = 32                /* a, as written */
+};
+/* end */
+
+/* A setvar's value, by its value kind. */
+/* made: values */
+enum seclang_value {
+    SECLANG_VALUE_STRING = 1,    /* c */
+    SECLANG_VALUE_INT = 2,       /* number, in two's complement */
+    SECLANG_VALUE_INCREMENT = 3, /* number, in two's complement */
+    SECLANG_VALUE_DECREMENT = 4, /* number, in two's complement */
+    SECLANG_VALUE_DELETE = 5,
+    SECLANG_VALUE_MACRO = 6      /* c */
+};
+/* end */
+
+/* The first word of a variable's or an exclusion's record, and the fourth. */
+/* made: targets */
+enum seclang_target {
+    SECLANG_TARGET_VARIABLE = 1,
+    SECLANG_TARGET_EXCLUSION = 2
+};
+
+enum seclang_selection {
+    SECLANG_SELECTION_NONE = 0,
+    SECLANG_SELECTION_KEY = 1,
+    SECLANG_SELECTION_REGEX = 2
+};
+/* end */
+
+/* made: variables */
+enum seclang_variable {
+    SECLANG_VARIABLE_ARGS = 0,
+    SECLANG_VARIABLE_ARGS_GET = 1,
+    SECLANG_VARIABLE_ARGS_POST = 2,
+    SECLANG_VARIABLE_ARGS_NAMES = 3,
+    SECLANG_VARIABLE_ARGS_GET_NAMES = 4,
+    SECLANG_VARIABLE_ARGS_POST_NAMES = 5,
+    SECLANG_VARIABLE_ARGS_COMBINED_SIZE = 6,
+    SECLANG_VARIABLE_REQUEST_URI = 7,
+    SECLANG_VARIABLE_REQUEST_URI_RAW = 8,
+    SECLANG_VARIABLE_REQUEST_FILENAME = 9,
+    SECLANG_VARIABLE_REQUEST_BASENAME = 10,
+    SECLANG_VARIABLE_REQUEST_LINE = 11,
+    SECLANG_VARIABLE_REQUEST_METHOD = 12,
+    SECLANG_VARIABLE_REQUEST_PROTOCOL = 13,
+    SECLANG_VARIABLE_REQUEST_HEADERS = 14,
+    SECLANG_VARIABLE_REQUEST_HEADERS_NAMES = 15,
+    SECLANG_VARIABLE_REQUEST_COOKIES = 16,
+    SECLANG_VARIABLE_REQUEST_COOKIES_NAMES = 17,
+    SECLANG_VARIABLE_REQUEST_BODY = 18,
+    SECLANG_VARIABLE_REQUEST_BODY_LENGTH = 19,
+    SECLANG_VARIABLE_QUERY_STRING = 20,
+    SECLANG_VARIABLE_RESPONSE_STATUS = 21,
+    SECLANG_VARIABLE_RESPONSE_PROTOCOL = 22,
+    SECLANG_VARIABLE_RESPONSE_HEADERS = 23,
+    SECLANG_VARIABLE_RESPONSE_HEADERS_NAMES = 24,
+    SECLANG_VARIABLE_RESPONSE_BODY = 25,
+    SECLANG_VARIABLE_RESPONSE_CONTENT_TYPE = 26,
+    SECLANG_VARIABLE_RESPONSE_CONTENT_LENGTH = 27,
+    SECLANG_VARIABLE_REMOTE_ADDR = 28,
+    SECLANG_VARIABLE_REMOTE_PORT = 29,
+    SECLANG_VARIABLE_REMOTE_HOST = 30,
+    SECLANG_VARIABLE_REMOTE_USER = 31,
+    SECLANG_VARIABLE_SERVER_ADDR = 32,
+    SECLANG_VARIABLE_SERVER_PORT = 33,
+    SECLANG_VARIABLE_SERVER_NAME = 34,
+    SECLANG_VARIABLE_TX = 35,
+    SECLANG_VARIABLE_SESSION = 36,
+    SECLANG_VARIABLE_ENV = 37,
+    SECLANG_VARIABLE_IP = 38,
+    SECLANG_VARIABLE_GLOBAL = 39,
+    SECLANG_VARIABLE_RESOURCE = 40,
+    SECLANG_VARIABLE_USER = 41,
+    SECLANG_VARIABLE_GEO = 42,
+    SECLANG_VARIABLE_MATCHED_VAR = 43,
+    SECLANG_VARIABLE_MATCHED_VARS = 44,
+    SECLANG_VARIABLE_MATCHED_VAR_NAME = 45,
+    SECLANG_VARIABLE_MATCHED_VARS_NAMES = 46,
+    SECLANG_VARIABLE_TIME = 47,
+    SECLANG_VARIABLE_TIME_EPOCH = 48,
+    SECLANG_VARIABLE_TIME_DAY = 49,
+    SECLANG_VARIABLE_TIME_HOUR = 50,
+    SECLANG_VARIABLE_TIME_MIN = 51,
+    SECLANG_VARIABLE_TIME_SEC = 52,
+    SECLANG_VARIABLE_TIME_WDAY = 53,
+    SECLANG_VARIABLE_TIME_MON = 54,
+    SECLANG_VARIABLE_TIME_YEAR = 55,
+    SECLANG_VARIABLE_FILES = 56,
+    SECLANG_VARIABLE_FILES_SIZES = 57,
+    SECLANG_VARIABLE_FILES_TMPNAMES = 58,
+    SECLANG_VARIABLE_FILES_COMBINED_SIZE = 59,
+    SECLANG_VARIABLE_FILES_NAMES = 60,
+    SECLANG_VARIABLE_UNIQUE_ID = 61,
+    SECLANG_VARIABLE_DURATION = 64,
+    SECLANG_VARIABLE_MULTIPART_PART_HEADERS = 78,
+    SECLANG_VARIABLE_XML = 79,
+    SECLANG_VARIABLE_HIGHEST_SEVERITY = 81,
+    SECLANG_VARIABLE_STATUS_LINE = 82,
+    SECLANG_VARIABLE_FULL_REQUEST = 83,
+    SECLANG_VARIABLE_FULL_REQUEST_LENGTH = 84,
+    SECLANG_VARIABLE_AUTH_TYPE = 85,
+    SECLANG_VARIABLE_REQBODY_PROCESSOR = 86,
+    SECLANG_VARIABLE_REQBODY_ERROR = 87,
+    SECLANG_VARIABLE_REQBODY_ERROR_MSG = 88,
+    SECLANG_VARIABLE_REQBODY_PROCESSOR_ERROR = 89,
+    SECLANG_VARIABLE_REQBODY_PROCESSOR_ERROR_MSG = 90,
+    SECLANG_VARIABLE_MULTIPART_STRICT_ERROR = 91       /* the Rust's MultipartStrictCheck */
+};
+
+/* The codes that no name has: no reader gives them. */
+enum seclang_unnamed {
+    SECLANG_UNNAMED_INBOUND_ANOMALY_SCORE = 62,
+    SECLANG_UNNAMED_OUTBOUND_ANOMALY_SCORE = 63,
+    SECLANG_UNNAMED_MULTIPART_BOUNDARY_QUOTED = 65,
+    SECLANG_UNNAMED_MULTIPART_BOUNDARY_WHITESPACE = 66,
+    SECLANG_UNNAMED_MULTIPART_DATA_AFTER = 67,
+    SECLANG_UNNAMED_MULTIPART_DATA_BEFORE = 68,
+    SECLANG_UNNAMED_MULTIPART_FILE_LIMIT_EXCEEDED = 69,
+    SECLANG_UNNAMED_MULTIPART_HEADER_FOLDING = 70,
+    SECLANG_UNNAMED_MULTIPART_INVALID_HEADER_FOLDING = 71,
+    SECLANG_UNNAMED_MULTIPART_INVALID_PART = 72,
+    SECLANG_UNNAMED_MULTIPART_INVALID_QUOTING = 73,
+    SECLANG_UNNAMED_MULTIPART_LF_LINE = 74,
+    SECLANG_UNNAMED_MULTIPART_MISSING_SEMICOLON = 75,
+    SECLANG_UNNAMED_MULTIPART_STRICT_ERROR = 76,
+    SECLANG_UNNAMED_MULTIPART_UNMATCHED_BOUNDARY = 77,
+    SECLANG_UNNAMED_WEBSERVER_ERROR_LOG = 80
+};
+/* end */
+
+/* made: operators */
+enum seclang_operator {
+    SECLANG_OPERATOR_RX = 0,
+    SECLANG_OPERATOR_PM = 1,
+    SECLANG_OPERATOR_PMFROMFILE = 2,
+    SECLANG_OPERATOR_PMF = 3,
+    SECLANG_OPERATOR_STREQ = 4,
+    SECLANG_OPERATOR_CONTAINS = 5,
+    SECLANG_OPERATOR_CONTAINSWORD = 6,
+    SECLANG_OPERATOR_BEGINSWITH = 7,
+    SECLANG_OPERATOR_ENDSWITH = 8,
+    SECLANG_OPERATOR_WITHIN = 9,
+    SECLANG_OPERATOR_STRMATCH = 10,
+    SECLANG_OPERATOR_EQ = 11,
+    SECLANG_OPERATOR_NE = 12,
+    SECLANG_OPERATOR_GT = 13,
+    SECLANG_OPERATOR_GE = 14,
+    SECLANG_OPERATOR_LT = 15,
+    SECLANG_OPERATOR_LE = 16,
+    SECLANG_OPERATOR_DETECTSQLI = 17,
+    SECLANG_OPERATOR_DETECTXSS = 18,
+    SECLANG_OPERATOR_VALIDATEURLENCODING = 19,
+    SECLANG_OPERATOR_VALIDATEUTF8ENCODING = 20,
+    SECLANG_OPERATOR_VALIDATEBYTERANGE = 21,
+    SECLANG_OPERATOR_VALIDATEHASH = 22,
+    SECLANG_OPERATOR_VALIDATEDTD = 23,
+    SECLANG_OPERATOR_VALIDATESCHEMA = 24,
+    SECLANG_OPERATOR_VERIFYCC = 25,
+    SECLANG_OPERATOR_VERIFYSSN = 26,
+    SECLANG_OPERATOR_VERIFYCPF = 27,
+    SECLANG_OPERATOR_IPMATCH = 28,
+    SECLANG_OPERATOR_IPMATCHFROMFILE = 29,
+    SECLANG_OPERATOR_IPMATCHF = 30,
+    SECLANG_OPERATOR_RBL = 31,
+    SECLANG_OPERATOR_GEOLOOKUP = 32,
+    SECLANG_OPERATOR_GSBLOOKUP = 33,
+    SECLANG_OPERATOR_INSPECTFILE = 34,
+    SECLANG_OPERATOR_FUZZYHASH = 35,
+    SECLANG_OPERATOR_NOMATCH = 36,
+    SECLANG_OPERATOR_UNCONDITIONALMATCH = 37,
+    SECLANG_OPERATOR_RSUB = 38
+};
+/* end */
+
+/* made: severities */
+enum seclang_severity {
+    SECLANG_SEVERITY_EMERGENCY = 0,
+    SECLANG_SEVERITY_ALERT = 1,
+    SECLANG_SEVERITY_CRITICAL = 2,
+    SECLANG_SEVERITY_ERROR = 3,
+    SECLANG_SEVERITY_WARNING = 4,
+    SECLANG_SEVERITY_NOTICE = 5,
+    SECLANG_SEVERITY_INFO = 6,
+    SECLANG_SEVERITY_DEBUG = 7
+};
+/* end */
+
+/* What seclang_lookup and seclang_test are asked, and what seclang_xml_target answers. */
+/* made: asked */
+enum seclang_table {
+    SECLANG_TABLE_VARIABLES = 0,
+    SECLANG_TABLE_OPERATORS = 1,
+    SECLANG_TABLE_SEVERITIES = 2
+};
+
+enum seclang_test_code {
+    SECLANG_TEST_IS_COLLECTION = 0,
+    SECLANG_TEST_IS_IMPLEMENTED = 1,
+    SECLANG_TEST_REQUIRES_ARGUMENT = 2
+};
+
+enum seclang_xml {
+    SECLANG_XML_ELEMENTS = 0,
+    SECLANG_XML_ATTRIBUTES = 1,
+    SECLANG_XML_ALL = 2,
+    SECLANG_XML_NEITHER = 3
+};
+/* end */
+
+/* SECLANG_VERSION of the header that says what the library does. */
+uint64_t seclang_version(void);
+
+/* One token at a cursor. Numbers 0 to 3 and 9. A text is read from the cursor 0, 1, 1, true: place, line, column and
+ * mark, which says that only whitespace has been read since the line began. At the mark a word that starts with `sec`,
+ * or is `include`, in any letter case, is a directive. Each call's values have the next cursor. Lines and columns are
+ * counted on from those of the cursor, whatever they are. `text` is asked to be as long as the input; the token's text
+ * is written at its front and nothing beyond is touched. Values with 0: 1, kind, line, column, first byte, length of
+ * the text, and the next cursor's place, line, column and mark; or 0 and the cursor where reading stands, when no
+ * token is left: at the end, or at a vertical tab or a form feed where a token would start. */
 uint64_t seclang_next_token(const uint8_t *input, size_t input_len, size_t place, size_t line, size_t column, bool mark,
                             uint8_t *text, size_t text_len, uint64_t *values, size_t values_len);
 
-/* All tokens of a text. Values with 0: records, bytes of text, and the stop's place, line and column. */
+/* All tokens of a text. Numbers 0 to 4. Values with 0: records, bytes of text, and the place, line and column where
+ * reading stopped: the input's length, or a vertical tab or a form feed where a token would start. */
 uint64_t seclang_tokens(const uint8_t *input, size_t input_len, uint8_t *text, size_t text_len, uint64_t *records,
                         size_t records_len, uint64_t *values, size_t values_len);
 
-/* An action list. `scratch` too is asked to be as long as the input; past the numbers 1 to 3 it holds the normalised
- * list and then zeros, refused or not. Values with 0: records, bytes of text. */
+/* An action list, as the text of its string token has it. Numbers 0 to 6. `scratch` too is asked to be as long as the
+ * input; past the numbers 1 to 3 it holds the list without its line continuations and then zeros, refused or not.
+ * Values with 0: records, bytes of text. */
 uint64_t seclang_parse_actions(const uint8_t *input, size_t input_len, uint8_t *text, size_t text_len, uint8_t *scratch,
                                size_t scratch_len, uint64_t *records, size_t records_len, uint64_t *values,
                                size_t values_len);
 
-/* A setvar alone: one action record. `text` is asked to be three bytes longer than the input. */
+/* A setvar alone, what stands behind `setvar:`: one action record. Numbers 0 to 4. `text` is asked to be three bytes
+ * longer than the input. Values with 0: 1, bytes of text. */
 uint64_t seclang_parse_setvar(const uint8_t *input, size_t input_len, uint8_t *text, size_t text_len, uint64_t *records,
                               size_t records_len, uint64_t *values, size_t values_len);
 
-/* A list of variables, and of update targets, whose exclusions are looked up too. Values with 0: records, bytes of text. */
+/* A list of variables, and of update targets. Numbers 0 to 4 and 7. The exclusions of the second are looked up too;
+ * those of the first are kept as written, and with no variable there is no record at all. Values with 0: records,
+ * bytes of text. */
 uint64_t seclang_parse_variables(const uint8_t *input, size_t input_len, uint8_t *text, size_t text_len,
                                  uint64_t *records, size_t records_len, uint64_t *values, size_t values_len);
 uint64_t seclang_parse_update_targets(const uint8_t *input, size_t input_len, uint8_t *text, size_t text_len,
                                       uint64_t *records, size_t records_len, uint64_t *values, size_t values_len);
 
-/* An operator. Values with 0: negated, code, and where its argument stands in the input and how long it is. */
+/* An operator. Numbers 0 to 2 and 8. Values with 0: negated, code, and where its argument stands in the input and how
+ * long it is. */
 uint64_t seclang_parse_operator(const uint8_t *input, size_t input_len, uint64_t *values, size_t values_len);
 
-/* A name's code in a table: 0 variables, 1 operators, 2 severity words. SECLANG_UNKNOWN in any other table. */
+/* A name's code in a table, by an enum seclang_table; SECLANG_UNKNOWN where it has none, and in any other table. */
 uint64_t seclang_lookup(uint64_t table, const uint8_t *name, size_t name_len);
 
-/* A test on a code: 0 is it a collection, 1 is it implemented, 2 does the operator need an argument. Any other: no. */
+/* A test on a code, by an enum seclang_test_code: is the variable a collection, is it implemented, does the operator
+ * need an argument. Any other test, and a code that names nothing: no. */
 bool seclang_test(uint64_t test, uint64_t code);
 
-/* What an XML selection asks for, by the selection's kind and text: 0 elements, 1 attributes, 2 all, 3 none of these. */
+/* What an XML selection asks for, an enum seclang_xml, by the selection's kind and text. */
 uint64_t seclang_xml_target(uint64_t selection, const uint8_t *text, size_t text_len);
 
-/* A rule's phase and its house grade, out of action records. Words left over are not read. */
+/* A rule's phase, its first one or else 2, and whether it has the house grade, out of action records: at most one id,
+ * the id 1 or more, every phase 1 to 4, every severity at most 7, every maturity and accuracy 1 to 9. Words left over
+ * are not read. */
 uint64_t seclang_phase(const uint64_t *records, size_t records_len);
 bool seclang_grade(const uint64_t *records, size_t records_len);
 
@@ -93,12 +425,13 @@ bool seclang_matches(bool ranged, uint64_t start, uint64_t end, uint64_t id);
 uint64_t seclang_list_text(const uint8_t *input, size_t input_len, uint8_t *text, size_t text_len, uint64_t *records,
                            size_t records_len, uint8_t *out, size_t out_len, uint64_t *values, size_t values_len);
 
-/* The listing of token records with their text, without a line feed; with `early` it says where reading stopped. */
+/* The listing of token records with their text, without a line feed; with `early` it says where reading stopped.
+ * Numbers 0, 4 and 19. Values with 0: the bytes written. */
 uint64_t seclang_write_listing(const uint64_t *records, size_t records_len, const uint8_t *text, size_t text_len,
                                bool early, size_t line, size_t column, uint8_t *out, size_t out_len, uint64_t *values,
                                size_t values_len);
 
-/* [number,place], without a line feed. */
+/* [number,place], without a line feed. Numbers 0 and 4. Values with 0: the bytes written. */
 uint64_t seclang_write_refusal(uint64_t number, uint64_t place, uint8_t *out, size_t out_len, uint64_t *values,
                                size_t values_len);
 

@@ -1,0 +1,442 @@
+/* Calls every function of include/seclang.h with answers that are known, and checks each of its names and bounds.
+ * names.inc has a line for each enumerator of a name, as VARIABLE(ARGS): tools/test-c makes it out of the header. */
+#include "seclang.h"
+
+#include <ctype.h>
+#include <inttypes.h>
+#include <stdio.h>
+#include <string.h>
+
+enum { ROOM = SECLANG_LIMIT + 1, WORDS = SECLANG_TOKENS_MOST(ROOM) * SECLANG_TOKEN_WORDS };
+
+static uint8_t input[ROOM], text[ROOM + 3], scratch[ROOM], out[SECLANG_LISTING_MOST(ROOM)];
+static uint64_t records[WORDS], values[SECLANG_VALUES_MOST];
+static int checked, failed;
+
+static void check(bool holds, const char *what, int line)
+{
+    checked++;
+    if (holds) return;
+    failed++;
+    printf("tests/header.c:%d: %s\n", line, what);
+}
+
+#define CHECK(holds) check((holds), #holds, __LINE__)
+
+/* ---- what is asked */
+
+static const uint8_t *bytes(const char *s) { return (const uint8_t *)s; }
+
+static uint64_t lookup(uint64_t table, const char *name) { return seclang_lookup(table, bytes(name), strlen(name)); }
+
+static uint64_t tokens(const char *s)
+{
+    return seclang_tokens(bytes(s), strlen(s), text, ROOM, records, WORDS, values, SECLANG_VALUES_MOST);
+}
+
+static uint64_t actions(const char *s)
+{
+    return seclang_parse_actions(bytes(s), strlen(s), text, ROOM, scratch, ROOM, records, WORDS, values,
+                                 SECLANG_VALUES_MOST);
+}
+
+static uint64_t setvar(const char *s)
+{
+    return seclang_parse_setvar(bytes(s), strlen(s), text, ROOM + 3, records, WORDS, values, SECLANG_VALUES_MOST);
+}
+
+static uint64_t variables(const char *s)
+{
+    return seclang_parse_variables(bytes(s), strlen(s), text, ROOM, records, WORDS, values, SECLANG_VALUES_MOST);
+}
+
+static uint64_t updates(const char *s)
+{
+    return seclang_parse_update_targets(bytes(s), strlen(s), text, ROOM, records, WORDS, values, SECLANG_VALUES_MOST);
+}
+
+static uint64_t operator_of(const char *s)
+{
+    return seclang_parse_operator(bytes(s), strlen(s), values, SECLANG_VALUES_MOST);
+}
+
+/* ---- what is answered */
+
+static bool first_values(uint64_t a, uint64_t b) { return values[0] == a && values[1] == b; }
+
+/* Whether the words of a record are these, the last one being 0 in a record of five. */
+static bool record(size_t width, size_t k, uint64_t a, uint64_t b, uint64_t c, uint64_t d, uint64_t e, uint64_t f)
+{
+    const uint64_t want[] = {a, b, c, d, e, f};
+    return memcmp(records + k * width, want, width * sizeof *want) == 0;
+}
+
+static bool shows(uint64_t span, const char *s)
+{
+    return SECLANG_SPAN_LENGTH(span) == strlen(s) && memcmp(text + SECLANG_SPAN_OFFSET(span), s, strlen(s)) == 0;
+}
+
+static uint64_t span(uint64_t offset, uint64_t length) { return offset * SECLANG_SPAN_BASE + length; }
+
+/* All bytes of the text beyond a name, and all words of the records, are zero. */
+static bool refused_name(const char *name)
+{
+    size_t n = strlen(name), i;
+    bool zero = memcmp(text, name, n) == 0;
+    for (i = n; i < ROOM; i++) zero = zero && text[i] == 0;
+    for (i = 0; i < WORDS; i++) zero = zero && records[i] == 0;
+    return zero;
+}
+
+/* ---- names */
+
+enum letters { AS_IS, SMALL, MIXED };
+
+static const char *in(enum letters how, const char *name)
+{
+    static char copy[64];
+    size_t i;
+    for (i = 0; name[i]; i++) {
+        bool small = how == SMALL || (how == MIXED && i % 2 == 0);
+        copy[i] = (char)(small ? tolower((unsigned char)name[i]) : name[i]);
+    }
+    copy[i] = 0;
+    return copy;
+}
+
+static const char *with(const char *before, const char *name, const char *behind)
+{
+    static char joined[128];
+    snprintf(joined, sizeof joined, "%s%s%s", before, name, behind);
+    return joined;
+}
+
+static void check_variable(const char *name, uint64_t code)
+{
+    for (int how = AS_IS; how <= MIXED; how++) {
+        check(lookup(SECLANG_TABLE_VARIABLES, in((enum letters)how, name)) == code, name, __LINE__);
+        check(variables(in((enum letters)how, name)) == SECLANG_READ && records[1] == code, name, __LINE__);
+    }
+}
+
+static void check_operator(const char *name, uint64_t code)
+{
+    for (int how = AS_IS; how <= MIXED; how++) {
+        check(lookup(SECLANG_TABLE_OPERATORS, in((enum letters)how, name)) == code, name, __LINE__);
+        check(operator_of(with("@", in((enum letters)how, name), " 1")) == SECLANG_READ && values[1] == code, name,
+              __LINE__);
+    }
+}
+
+static void check_severity(const char *name, uint64_t code)
+{
+    for (int how = AS_IS; how <= MIXED; how++) {
+        check(lookup(SECLANG_TABLE_SEVERITIES, in((enum letters)how, name)) == code, name, __LINE__);
+        check(actions(with("severity:", in((enum letters)how, name), "")) == SECLANG_READ && records[1] == code, name,
+              __LINE__);
+    }
+}
+
+/* An argument of 1 is one for every action. */
+static void check_action(const char *name, uint64_t code)
+{
+    for (int how = AS_IS; how <= MIXED; how++) {
+        bool read = actions(with("", in((enum letters)how, name), ":1")) == SECLANG_READ;
+        bool small_t = code == SECLANG_ACTION_T && how == AS_IS;
+        check(read != small_t && (!read || (values[0] == 1 && records[0] == code)), name, __LINE__);
+    }
+}
+
+/* Its own name, if there is one, is another's. */
+static void check_unnamed(const char *name, uint64_t code)
+{
+    check(lookup(SECLANG_TABLE_VARIABLES, name) != code, name, __LINE__);
+}
+
+#define VARIABLE(name) check_variable(#name, SECLANG_VARIABLE_##name), variable++;
+#define UNNAMED(name) check_unnamed(#name, SECLANG_UNNAMED_##name), unnamed++;
+#define OPERATOR(name) check_operator(#name, SECLANG_OPERATOR_##name), op++;
+#define SEVERITY(name) check_severity(#name, SECLANG_SEVERITY_##name), severity++;
+#define ACTION(name) check_action(#name, SECLANG_ACTION_##name), action++;
+
+static void check_names(void)
+{
+    int variable = 0, unnamed = 0, op = 0, severity = 0, action = 0;
+#include "names.inc"
+    CHECK(variable == 76 && unnamed == 16 && op == 39 && severity == 8 && action == 32);
+    CHECK(lookup(SECLANG_TABLE_VARIABLES, "ARG") == SECLANG_UNKNOWN);
+    CHECK(lookup(SECLANG_TABLE_OPERATORS, "") == SECLANG_UNKNOWN);
+    CHECK(lookup(SECLANG_TABLE_SEVERITIES + 1, "ARGS") == SECLANG_UNKNOWN);
+    CHECK(actions("setsid,setuid,deprecatevar,exec,append,prepend,proxy,pause,xmlns") == SECLANG_READ &&
+          values[0] == 9);
+    for (size_t i = 0; i < 9; i++) CHECK(records[i * SECLANG_ACTION_WORDS] == SECLANG_ACTION_NOAUDITLOG);
+    CHECK(actions("sanitizematched") == SECLANG_READ && records[0] == SECLANG_ACTION_SANITISEMATCHED);
+}
+
+static void check_tests(void)
+{
+    int collections = 0, implemented = 0, needy = 0;
+    for (uint64_t code = 0; code < 1000; code++) {
+        collections += seclang_test(SECLANG_TEST_IS_COLLECTION, code);
+        implemented += seclang_test(SECLANG_TEST_IS_IMPLEMENTED, code);
+        needy += seclang_test(SECLANG_TEST_REQUIRES_ARGUMENT, code);
+    }
+    CHECK(collections == 25 && implemented == 44 && needy == 32);
+    CHECK(seclang_test(SECLANG_TEST_IS_COLLECTION, SECLANG_VARIABLE_TX));
+    CHECK(!seclang_test(SECLANG_TEST_IS_COLLECTION, SECLANG_VARIABLE_XML));
+    CHECK(!seclang_test(SECLANG_TEST_REQUIRES_ARGUMENT, SECLANG_OPERATOR_DETECTSQLI));
+    CHECK(!seclang_test(SECLANG_TEST_IS_IMPLEMENTED, SECLANG_UNKNOWN) && !seclang_test(3, 0));
+    CHECK(seclang_xml_target(SECLANG_SELECTION_NONE, bytes("x"), 1) == SECLANG_XML_ALL);
+    CHECK(seclang_xml_target(SECLANG_SELECTION_KEY, bytes(" /* "), 4) == SECLANG_XML_ELEMENTS);
+    CHECK(seclang_xml_target(SECLANG_SELECTION_KEY, bytes("//@*"), 4) == SECLANG_XML_ATTRIBUTES);
+    CHECK(seclang_xml_target(SECLANG_SELECTION_REGEX, bytes("/*"), 2) == SECLANG_XML_NEITHER);
+}
+
+/* ---- the lexer */
+
+static const char rule[] = "SecRule ARGS \"@rx a\" # x\n \\\n\tsecy\n";
+
+static void check_tokens(void)
+{
+    CHECK(tokens(rule) == SECLANG_READ && values[0] == 6 && values[1] == 20 && values[2] == strlen(rule) &&
+          values[3] == 4 && values[4] == 1);
+    CHECK(record(SECLANG_TOKEN_WORDS, 0, SECLANG_TOKEN_DIRECTIVE, 1, 1, span(0, 7), span(0, 7), 0));
+    CHECK(record(SECLANG_TOKEN_WORDS, 1, SECLANG_TOKEN_WORD, 1, 9, span(8, 4), span(7, 4), 0));
+    CHECK(record(SECLANG_TOKEN_WORDS, 2, SECLANG_TOKEN_QUOTED_STRING, 1, 14, span(13, 7), span(11, 5), 0));
+    CHECK(record(SECLANG_TOKEN_WORDS, 3, SECLANG_TOKEN_COMMENT, 1, 22, span(21, 4), span(16, 0), 0));
+    CHECK(record(SECLANG_TOKEN_WORDS, 4, SECLANG_TOKEN_DIRECTIVE, 3, 2, span(29, 4), span(16, 4), 0));
+    CHECK(record(SECLANG_TOKEN_WORDS, 5, SECLANG_TOKEN_NEWLINE, 3, 6, span(33, 1), span(20, 0), 0));
+    CHECK(shows(records[4 * SECLANG_TOKEN_WORDS + 4], "secy") && text[20] == 0 &&
+          records[6 * SECLANG_TOKEN_WORDS] == 0);
+    CHECK(tokens("a\fb") == SECLANG_READ && first_values(1, 1) && values[2] == 1 && values[3] == 1 && values[4] == 2);
+}
+
+static uint64_t step(const char *s, const uint64_t *cursor)
+{
+    return seclang_next_token(bytes(s), strlen(s), (size_t)cursor[0], (size_t)cursor[1], (size_t)cursor[2],
+                              cursor[3] != 0, text, ROOM, values, SECLANG_VALUES_MOST);
+}
+
+/* Stepping from the first cursor gives the tokens of the whole. */
+static void check_steps(void)
+{
+    uint64_t whole[6 * SECLANG_TOKEN_WORDS], cursor[4] = {0, 1, 1, true}, count = 0;
+    CHECK(tokens(rule) == SECLANG_READ);
+    memcpy(whole, records, sizeof whole);
+    while (step(rule, cursor) == SECLANG_READ && values[0] == 1 && count < 6) {
+        const uint64_t *token = whole + count++ * SECLANG_TOKEN_WORDS;
+        CHECK(values[1] == token[0] && values[2] == token[1] && values[3] == token[2] &&
+              values[4] == SECLANG_SPAN_OFFSET(token[3]));
+        CHECK(values[5] == SECLANG_SPAN_LENGTH(token[4]) && values[6] == values[4] + SECLANG_SPAN_LENGTH(token[3]));
+        memcpy(cursor, values + 6, sizeof cursor);
+    }
+    CHECK(count == 6 && values[0] == 0 && memcmp(values + 1, cursor, sizeof cursor) == 0 && cursor[0] == strlen(rule));
+    cursor[0] = 0, cursor[3] = false;
+    CHECK(step(rule, cursor) == SECLANG_READ && values[1] == SECLANG_TOKEN_WORD && values[2] == 4);
+    cursor[0] = strlen(rule) + 1;
+    CHECK(step(rule, cursor) == SECLANG_BAD_CURSOR && values[0] == 0);
+    cursor[0] = 0, cursor[1] = SECLANG_CURSOR_MOST;
+    CHECK(step(rule, cursor) == SECLANG_READ);
+    cursor[1] = SECLANG_CURSOR_MOST + 1;
+    CHECK(step(rule, cursor) == SECLANG_BAD_CURSOR);
+    cursor[1] = 0;
+    CHECK(step(rule, cursor) == SECLANG_BAD_CURSOR);
+}
+
+/* ---- actions */
+
+static void check_actions(void)
+{
+    CHECK(actions("id:7,phase:2,deny,msg:'a, b'") == SECLANG_READ && first_values(4, 4));
+    CHECK(record(SECLANG_ACTION_WORDS, 0, SECLANG_ACTION_ID, 7, 0, 0, 0, 0));
+    CHECK(record(SECLANG_ACTION_WORDS, 1, SECLANG_ACTION_PHASE, 2, 0, 0, 0, 0));
+    CHECK(record(SECLANG_ACTION_WORDS, 2, SECLANG_ACTION_DENY, 0, 0, 0, 0, 0));
+    CHECK(record(SECLANG_ACTION_WORDS, 3, SECLANG_ACTION_MSG, 0, span(0, 4), 0, 0, 0) && shows(records[20], "a, b"));
+    CHECK(seclang_phase(records, (size_t)values[0] * SECLANG_ACTION_WORDS) == 2);
+    CHECK(seclang_grade(records, (size_t)values[0] * SECLANG_ACTION_WORDS));
+    CHECK(actions("redirect:'/x',skipAfter:'E'") == SECLANG_READ && shows(records[2], "'/x'") &&
+          shows(records[8], "'E'"));
+    CHECK(actions("ctl:a=b=c,initcol:IP=%{x}") == SECLANG_READ && shows(records[2], "a") && shows(records[3], "b=c") &&
+          shows(records[9], "%{x}"));
+    CHECK(actions("expirevar:a=5,expirevar:b=x,t:none") == SECLANG_READ && records[1] == 5 && shows(records[2], "a") &&
+          records[7] == 0);
+    CHECK(record(SECLANG_ACTION_WORDS, 2, SECLANG_ACTION_T, 0, span(2, 4), 0, 0, 0) && shows(records[14], "none"));
+    CHECK(actions("skip:4294967295,status:65535,maturity:255") == SECLANG_READ && records[1] == UINT32_MAX &&
+          records[7] == 65535 && records[13] == 255);
+    CHECK(actions("skip:4294967296") == SECLANG_BAD_ARGUMENT && actions("status:65536") == SECLANG_BAD_ARGUMENT);
+    CHECK(actions("id:18446744073709551615") == SECLANG_READ && records[1] == UINT64_MAX);
+    CHECK(actions("de\\\nny,\\\n  pass") == SECLANG_READ && first_values(2, 0) &&
+          memcmp(scratch, "deny,pass", 10) == 0);
+    CHECK(seclang_phase(records, 0) == 2 && seclang_grade(records, 0));
+    CHECK(actions("phase:9") == SECLANG_READ && seclang_phase(records, 6) == 9 && !seclang_grade(records, 6));
+}
+
+static bool sets(const char *s, uint64_t kind, int64_t number, const char *collection, const char *key,
+                 const char *value)
+{
+    return setvar(s) == SECLANG_READ && values[0] == 1 && records[0] == SECLANG_ACTION_SETVAR &&
+           records[1] == (uint64_t)number && records[4] == kind && shows(records[2], collection) &&
+           shows(records[3], key) && (value ? shows(records[5], value) : records[5] == 0);
+}
+
+static void check_setvars(void)
+{
+    CHECK(sets("TX.a=b", SECLANG_VALUE_STRING, 0, "tx", "a", "b"));
+    CHECK(sets("a=5", SECLANG_VALUE_INT, 5, "tx", "a", NULL));
+    CHECK(sets("ip.a=+5", SECLANG_VALUE_INCREMENT, 5, "ip", "a", NULL));
+    CHECK(sets("a=--5", SECLANG_VALUE_DECREMENT, -5, "tx", "a", NULL));
+    CHECK(sets("!tx.a", SECLANG_VALUE_DELETE, 0, "tx", "a", NULL));
+    CHECK(sets("a=%{b}", SECLANG_VALUE_MACRO, 0, "tx", "a", "%{b}"));
+    CHECK(sets("a", SECLANG_VALUE_STRING, 0, "tx", "a", "1") && values[1] == 4);
+    CHECK(actions("setvar:'tx.a=5'") == SECLANG_READ && records[0] == SECLANG_ACTION_SETVAR && records[1] == 5 &&
+          records[4] == SECLANG_VALUE_INT);
+}
+
+/* ---- variables, operators, selectors */
+
+static void check_targets(void)
+{
+    CHECK(variables("!ARGS:p|args|&TX:/^a/|ip:x") == SECLANG_READ && first_values(4, 9));
+    CHECK(record(SECLANG_VARIABLE_WORDS, 0, SECLANG_TARGET_VARIABLE, SECLANG_VARIABLE_ARGS, 0, SECLANG_SELECTION_NONE,
+                 0, 0));
+    CHECK(record(SECLANG_VARIABLE_WORDS, 1, SECLANG_TARGET_VARIABLE, SECLANG_VARIABLE_TX, 1, SECLANG_SELECTION_REGEX,
+                 span(0, 2), 0));
+    CHECK(record(SECLANG_VARIABLE_WORDS, 2, SECLANG_TARGET_VARIABLE, SECLANG_VARIABLE_IP, 0, SECLANG_SELECTION_KEY,
+                 span(2, 1), 0));
+    CHECK(record(SECLANG_VARIABLE_WORDS, 3, SECLANG_TARGET_EXCLUSION, 0, 0, 0, span(3, 6), 0) &&
+          shows(records[19], "ARGS:p"));
+    CHECK(variables("!x") == SECLANG_READ && first_values(0, 0));
+    CHECK(updates("!ARGS:p") == SECLANG_READ && first_values(1, 6) && records[0] == SECLANG_TARGET_EXCLUSION);
+    CHECK(updates("TX|!x") == SECLANG_UNKNOWN_VARIABLE && first_values(1, 1) && refused_name("x"));
+    CHECK(variables("ARGS:/a|b/") == SECLANG_UNKNOWN_VARIABLE && first_values(1, 2) && refused_name("b/"));
+}
+
+static void check_operators(void)
+{
+    CHECK(operator_of("!@rx  a b ") == SECLANG_READ && first_values(1, SECLANG_OPERATOR_RX) && values[2] == 6 &&
+          values[3] == 3);
+    CHECK(operator_of("a b") == SECLANG_READ && first_values(0, SECLANG_OPERATOR_RX) && values[2] == 0 &&
+          values[3] == 3);
+    CHECK(operator_of("@detectSQLi") == SECLANG_READ && first_values(0, SECLANG_OPERATOR_DETECTSQLI) && values[3] == 0);
+    CHECK(operator_of("! @nope x") == SECLANG_UNKNOWN_OPERATOR && first_values(3, 4));
+    CHECK(seclang_matches(false, 5, 9, 5) && !seclang_matches(false, 5, 9, 6));
+    CHECK(seclang_matches(true, 5, 9, 9) && seclang_matches(true, 5, 9, 5) && !seclang_matches(true, 5, 9, 10) &&
+          !seclang_matches(true, 9, 5, 7));
+}
+
+/* ---- listings */
+
+static bool wrote(const char *s)
+{
+    return values[0] == strlen(s) && memcmp(out, s, strlen(s)) == 0 && out[strlen(s)] == 0;
+}
+
+static uint64_t list(const char *s)
+{
+    return seclang_list_text(bytes(s), strlen(s), text, ROOM, records, WORDS, out, sizeof out, values,
+                             SECLANG_VALUES_MOST);
+}
+
+static void check_listings(void)
+{
+    CHECK(list("SecRule ARGS \"@rx a\" # x\n") == SECLANG_READ);
+    CHECK(wrote(
+        "[[\"directive\",1,1,\"SecRule\"],[\"word\",1,9,\"ARGS\"],[\"string\",1,14,\"@rx a\"],[\"comment\",1,22]]\n"));
+    CHECK(list("SecRule \xc3\xa9") == SECLANG_READ && wrote("[2,8]\n"));
+    CHECK(list("a\f") == SECLANG_READ && wrote("[[\"word\",1,1,\"a\"],[\"stopped\",1,2]]\n"));
+    CHECK(seclang_list_text(bytes("a"), 1, text, 1, records, 5, out, 18, values, 10) == SECLANG_NO_ROOM &&
+          values[0] == 19 && out[0] == 0);
+    CHECK(tokens("a") == SECLANG_READ);
+    CHECK(seclang_write_listing(records, 5, text, 1, true, 3, 4, out, sizeof out, values, 10) == SECLANG_READ);
+    CHECK(wrote("[[\"word\",1,1,\"a\"],[\"stopped\",3,4]]"));
+    CHECK(seclang_write_listing(records, 5, text, 1, false, 3, 4, out, sizeof out, values, 10) == SECLANG_READ &&
+          wrote("[[\"word\",1,1,\"a\"]]"));
+    records[0] = 6;
+    CHECK(seclang_write_listing(records, 5, text, 1, false, 0, 0, out, sizeof out, values, 10) == SECLANG_NO_TOKEN &&
+          values[0] == 0);
+    CHECK(seclang_write_refusal(1, 16384, out, sizeof out, values, 10) == SECLANG_READ && wrote("[1,16384]"));
+    CHECK(seclang_write_refusal(1, 16384, out, 8, values, 10) == SECLANG_NO_ROOM && values[0] == 9);
+}
+
+/* ---- numbers, and what is left of lent memory */
+
+static void check_numbers(void)
+{
+    uint64_t few[3] = {77, 77, 77};
+    memset(input, ' ', ROOM);
+    memset(text, 'x', ROOM);
+    CHECK(seclang_tokens(input, ROOM, text, ROOM, records, WORDS, values, 10) == SECLANG_TOO_LONG &&
+          values[0] == SECLANG_LIMIT && text[0] == 'x');
+    CHECK(seclang_tokens(input, SECLANG_LIMIT, text, SECLANG_LIMIT, records, 0, values, 10) == SECLANG_READ &&
+          text[0] == 0 && text[SECLANG_LIMIT] == 'x');
+    CHECK(operator_of("a\x80") == SECLANG_NOT_ASCII && values[0] == 1);
+    CHECK(seclang_parse_actions(bytes("deny"), 4, text, 4, scratch, 3, records, 6, values, 10) ==
+              SECLANG_SHORT_BUFFER &&
+          values[0] == 0);
+    CHECK(seclang_parse_setvar(bytes("a"), 1, text, 3, records, 6, values, 10) == SECLANG_SHORT_BUFFER);
+    CHECK(seclang_parse_actions(bytes("deny,pass"), 9, text, 9, scratch, 9, records, 11, values, 10) ==
+              SECLANG_NO_ROOM &&
+          values[0] == 2 && records[0] == 0);
+    CHECK(actions("deny,,BOGUS,phase:x") == SECLANG_UNKNOWN_ACTION && first_values(1, 5) && refused_name("bogus"));
+    CHECK(actions("deny,SKIPAFTER") == SECLANG_BAD_ARGUMENT && first_values(1, 9) && refused_name("skipAfter"));
+    CHECK(seclang_parse_operator(bytes("@rx a"), 5, few, 3) == SECLANG_READ && few[0] == 77 && few[2] == 77);
+    CHECK(seclang_parse_operator(bytes("@x"), 2, few, 3) == SECLANG_UNKNOWN_OPERATOR && few[0] == 1 && few[1] == 1 &&
+          few[2] == 77);
+}
+
+/* ---- bounds */
+
+/* n bytes of a first part, and then of another again and again; blanks where it does not fit. */
+static void fill(size_t n, const char *first, const char *again)
+{
+    size_t at = strlen(first), wide = strlen(again);
+    memset(input, again[0] == '\n' ? '\n' : ' ', n);
+    if (at > n) return;
+    memcpy(input, first, at);
+    for (; at + wide <= n; at += wide) memcpy(input + at, again, wide);
+}
+
+/* What a call gives with room for so many records, and with room for one fewer. */
+#define TIGHT(call, most, width)                                                  \
+    do {                                                                          \
+        size_t room = (most) * (width);                                           \
+        CHECK((call) == SECLANG_READ && values[0] == (most));                     \
+        room = room ? room - 1 : 0;                                               \
+        CHECK((most) == 0 || ((call) == SECLANG_NO_ROOM && values[0] == (most))); \
+    } while (0)
+
+static void check_bounds_at(size_t n)
+{
+    fill(n, "", "\n");
+    TIGHT(seclang_tokens(input, n, text, n, records, room, values, 10), SECLANG_TOKENS_MOST(n), SECLANG_TOKEN_WORDS);
+    CHECK(seclang_list_text(input, n, text, n, records, WORDS, out, SECLANG_LISTING_MOST(n), values, 10) ==
+          SECLANG_READ);
+    fill(n, "t:", ",t:");
+    TIGHT(seclang_parse_actions(input, n, text, n, scratch, n, records, room, values, 10), SECLANG_ACTIONS_MOST(n),
+          SECLANG_ACTION_WORDS);
+    fill(n, "TX", "|!");
+    TIGHT(seclang_parse_variables(input, n, text, n, records, room, values, 10), SECLANG_VARIABLES_MOST(n),
+          SECLANG_VARIABLE_WORDS);
+    fill(n, "TX", "|TX");
+    TIGHT(seclang_parse_update_targets(input, n, text, n, records, room, values, 10), SECLANG_UPDATE_TARGETS_MOST(n),
+          SECLANG_VARIABLE_WORDS);
+}
+
+int main(void)
+{
+    CHECK(seclang_version() == SECLANG_VERSION);
+    check_names();
+    check_tests();
+    check_tokens();
+    check_steps();
+    check_actions();
+    check_setvars();
+    check_targets();
+    check_operators();
+    check_listings();
+    check_numbers();
+    for (size_t n = 0; n <= 100; n++) check_bounds_at(n);
+    for (size_t n = SECLANG_LIMIT - 5; n <= SECLANG_LIMIT; n++) check_bounds_at(n);
+    printf("tests/header.c: %d checks, %d failed\n", checked, failed);
+    return failed != 0;
+}
