@@ -18,3 +18,4 @@ pub mod CountLaws
 pub mod QuoteLaws
 pub mod PlainLaws
 pub mod NormalActLaws
+pub mod BoundLaws

@@ -11,3 +11,4 @@ pub mod SettingLaws
 pub mod JudgedLaws
 pub mod SaidLaws
 pub mod MadeLaws
+pub mod WidthLaws

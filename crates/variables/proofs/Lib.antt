@@ -9,3 +9,4 @@ pub mod AnswerLaws
 pub mod GivenLaws
 pub mod MeantLaws
 pub mod PromiseLaws
+pub mod BoundLaws

@@ -52,7 +52,7 @@ module _ (n : Exclusions) (s : List ℕ) (m : ℕ) where
       ap (updated m) (targets-read n s (u .vs) (u .read))
       ∙ ap (λ (i : ℕ). roomed m (u .vs) (keptOf (keptCount n i (length (excludedOf (pieces s)))) (excludedOf (pieces s)))) (u .count)
 
-  needed-is : (a : AllMeant n (pieces s)) → length (variablesOf a) + length exclusionsOf ≡ needed n s
+  pub needed-is : (a : AllMeant n (pieces s)) → length (variablesOf a) + length exclusionsOf ≡ needed n s
   needed-is a = ap₂ _+_ (understood n a .count) (sym (kept-long n (length (unmarkedOf (pieces s))) (excludedOf (pieces s))))
 
   pub missing-is : (x : Missing n (pieces s)) → readOutcome n s m ≡ refuses (unknownVariable (length (x .passed)) (x .text))
