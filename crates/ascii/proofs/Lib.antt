@@ -1,6 +1,7 @@
 pub mod TestLaws
 pub mod ByteLaws
 pub mod ListLaws
+pub mod HandedLaws
 pub mod FoldLaws
 pub mod TrimLaws
 pub mod SplitLaws

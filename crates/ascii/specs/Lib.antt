@@ -2,6 +2,7 @@ pub mod Choice
 pub mod Text
 pub mod Classes
 pub mod Fold
+pub mod Handed
 pub mod Trim
 pub mod Splits
 pub mod Numbers

@@ -10,6 +10,8 @@ use types.Run.{OneOf}
 use denote.Enum.Declared.{tagOf}
 use Rattle.ascii.specs.Choice.{bit}
 use Rattle.ascii.specs.Classes.{white}
+use Rattle.ascii.specs.Handed.{Standing, partAt}
+use Rattle.ascii.proofs.HandedLaws.{part-is, front-is}
 use Rattle.ascii.proofs.TrimLaws.{ends-fit}
 use Rattle.lent.specs.Gates.{gateOf}
 use Rattle.lent.specs.Table.{Given, given, Outcome, refuses, reads, pastGate}
@@ -22,7 +24,7 @@ use Rattle.names.specs.declared.Lookup.{Lookup}
 use Rattle.names.specs.declared.Lookup.the-variants as Lookup
 use Rattle.operators.specs.Operators.{Spec, Reading, nameOf, operator}
 use Rattle.operators.specs.Places.{afterAt, isNamed, argumentPlace}
-use Rattle.operators.specs.Promises.{answerGiven, outcomeOf, operatorOutcome, givenBy, argumentBy, OperatorIn, ParseOperator, OperatorArgument}
+use Rattle.operators.specs.Promises.{answerGiven, outcomeOf, operatorOutcome, givenBy, argumentBy, argumentOf, OperatorIn, ParseOperator, OperatorArgument}
 use Rattle.operators.specs.declared.Answer.{Answer}
 use Rattle.operators.specs.declared.Answer.the-variants as Answer
 use Rattle.operators.proofs.Answer.{the-type}
@@ -75,11 +77,6 @@ pub record Argued (s : List ℕ) (o : Outcome Spec) : Type 0 where
   pub text-is : found .argument ≡ argumentText s (isNamed s)
 
 module _ (s : List ℕ) where
-  -- what is not read has the empty argument
-  refused-argument : (o : Outcome Spec) → (givenBy s o .number ≡ 0 → ⊥) → argumentBy o ≡ []
-  refused-argument (refuses f) h = refl
-  refused-argument (reads x) h = absurd (h refl)
-
   accepted-argued : givenBy s (outcomeOf s (operator s)) .number ≡ 0 → Argued s (outcomeOf s (operator s))
   accepted-argued z = go (isNamed s) refl
     where
@@ -100,9 +97,16 @@ module _ (s : List ℕ) where
   gate-argued (Gate.NotAscii p) z = absurd (omega arith)
   gate-argued Gate.Short z = absurd (omega arith)
 
-  pub argument-refused : (r : Answer) → ParseOperator s r → OneOf (1 ∷ 2 ∷ 3 ∷ []) (tagOf the-type r) → OperatorArgument s []
+module _ (s : Standing) where
+  -- what is not read has the empty argument, at the front
+  refused-argument : (o : Outcome Spec) → (givenBy (s .bytes) o .number ≡ 0 → ⊥) → record { block = s .block; offset = s .offset; bytes = [] } ≡ argumentOf s o
+  refused-argument (refuses f) h = front-is s refl
+  refused-argument (reads x) h = absurd (h refl)
+
+  pub argument-refused : (r : Answer) → ParseOperator (s .bytes) r → OneOf (1 ∷ 2 ∷ 3 ∷ []) (tagOf the-type r)
+      → OperatorArgument s (record { block = s .block; offset = s .offset; bytes = [] })
   argument-refused r p k =
-      record { argument = sym (refused-argument (operatorOutcome s) (λ z. other-number r k (ap number (p .answer) ∙ z))) }
+      record { argument = refused-argument (operatorOutcome (s .bytes)) (λ z. other-number r k (ap number (p .answer) ∙ z)) }
 
 -- the arm of an operator that is read
 module _ (s : List ℕ) (r : Answer) (x : ParseOperator s r) {negated : Bool} {name place len : ℕ} (e : r ≡ Answer.Parsed negated name place len) where
@@ -125,7 +129,13 @@ module _ (s : List ℕ) (r : Answer) (x : ParseOperator s r) {negated : Bool} {n
   pub argument-in : place + len ≤ length s
   argument-in = omega (arith, place-is, len-is, argument-ends s, ends-fit white s)
 
-  pub argument-read : (end : ℕ) → end ≡ place + len → OperatorArgument s (take (end - place) (drop place s))
-  argument-read end f =
+  text-at : (end : ℕ) → end ≡ place + len → take (end - place) (drop place s) ≡ argued .found .argument
+  text-at end f =
       let n : end - place ≡ length (argumentText s (isNamed s)) = omega (arith, len-is) in
-      record { argument = rw (n, place-is) (argument-at s) ∙ sym (ap argumentBy (argued .is-read) ∙ argued .text-is) }
+      rw (n, place-is) (argument-at s) ∙ sym (argued .text-is)
+
+-- the same, where it stands
+pub argument-read : (s : Standing) (r : Answer) (x : ParseOperator (s .bytes) r) {negated : Bool} {name place len : ℕ} (e : r ≡ Answer.Parsed negated name place len)
+    (end : ℕ) → end ≡ place + len → OperatorArgument s (partAt s place (take (end - place) (drop place (s .bytes))))
+argument-read s r x e end f =
+    record { argument = part-is s (place-is (s .bytes) r x e) (text-at (s .bytes) r x e end f) ∙ sym (ap (argumentOf s) (argued (s .bytes) r x e .is-read)) }

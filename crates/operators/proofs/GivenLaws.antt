@@ -6,6 +6,7 @@ use Prim.Native.Nat.{ℕ}
 use lib.ListN.{getD}
 use lib.Dec.{eqb}
 use Rattle.ascii.specs.Choice.{pick}
+use Rattle.ascii.specs.Handed.{Standing}
 use Rattle.ascii.proofs.OneAnswer.{one-answer, bit-back}
 use Rattle.lent.specs.Table.{Given}
 use Rattle.operators.specs.Promises.{answerGiven, OperatorIn, ParseOperator, OperatorArgument}
@@ -39,5 +40,5 @@ pub parse-operator-once : {s : List ℕ} {r v : Answer} → ParseOperator s r �
 parse-operator-once {r = r} {v = v} x y = answer-told r v (one-answer (x .answer) (y .answer))
 
 -- No second argument of operator_argument.
-pub operator-argument-once : {s part other : List ℕ} → OperatorArgument s part → OperatorArgument s other → part ≡ other
+pub operator-argument-once : {s part other : Standing} → OperatorArgument s part → OperatorArgument s other → part ≡ other
 operator-argument-once x y = one-answer (x .argument) (y .argument)

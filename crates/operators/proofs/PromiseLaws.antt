@@ -7,6 +7,7 @@ use mathlib.Core.Logic.{_↔_, _⊎_, inl, inr}
 use Prim.Native.Nat.{ℕ, _≤_, _<_}
 use lib.ListN.{length, take, drop}
 use lib.Seq.{length-take-le}
+use Rattle.ascii.specs.Handed.{Standing, bytesOf, partAt}
 use Rattle.ascii.specs.Trim.{trimStart, trimEnds}
 use Rattle.lent.specs.Sizes.{limit}
 use Rattle.lent.specs.Gates.{gateOf}
@@ -24,7 +25,7 @@ use Rattle.names.specs.declared.Lookup.the-variants as Lookup
 use Rattle.ascii.proofs.TrimLaws.{leading-fits}
 use Rattle.operators.specs.Operators.{Spec, Reading, accepted, unknown, starts, nameLength, nameOf, afterName, unsigned, operator, inName}
 use Rattle.operators.specs.Places.{afterAt, namePlace, isNamed, argumentPlace}
-use Rattle.operators.specs.Promises.{answerGiven, outcomeOf, operatorOutcome, givenBy, argumentBy, partPlace, OperatorIn, ParseOperator, OperatorArgument}
+use Rattle.operators.specs.Promises.{answerGiven, outcomeOf, operatorOutcome, givenBy, argumentBy, partPlace, argumentOf, OperatorIn, ParseOperator, OperatorArgument}
 use Rattle.operators.specs.Calls.{Missing, Meant, unwritten, written}
 use Rattle.operators.specs.declared.Answer.{Answer}
 use Rattle.operators.specs.declared.Answer.the-variants as Answer
@@ -180,27 +181,27 @@ module _ (s : List ℕ) where
       let a = h refl in
       subst (λ (t : List ℕ). take (length t) (drop (argumentPlace s) s) ≡ t) (sym (ap argumentBy (a .is-read) ∙ a .text-is)) (argument-at s)
 
-module _ {s part : List ℕ} (x : OperatorArgument s part) where
-  argument-by : (g : Gate) → Row s 0 0 g → part ≡ argumentBy (pastGate g (past s))
+module _ {s part : Standing} (x : OperatorArgument s part) where
+  argument-by : (g : Gate) → Row (s .bytes) 0 0 g → part ≡ argumentOf s (pastGate g (past (s .bytes)))
   unfolding operatorOutcome
-  argument-by g h = x .argument ∙ ap argumentBy (past-row s 0 0 (past s) g h)
+  argument-by g h = x .argument ∙ ap (argumentOf s) (past-row (s .bytes) 0 0 (past (s .bytes)) g h)
 
-  -- It is a part of the input, at the place of the definition.
-  pub operator-argument-part : take (length part) (drop (partPlace s (operatorOutcome s)) s) ≡ part
+  -- Its bytes are those of the input at the place of the definition.
+  pub operator-argument-part : take (length (part .bytes)) (drop (partPlace (s .bytes) (operatorOutcome (s .bytes))) (s .bytes)) ≡ part .bytes
   unfolding operatorOutcome
   operator-argument-part =
-      subst (λ (t : List ℕ). take (length t) (drop (partPlace s (pastGate (gateOf s 0 0) (past s))) s) ≡ t) (sym (x .argument))
-      (part-stands s (pastGate (gateOf s 0 0) (past s)) (gate-argued s (gateOf s 0 0)))
+      subst (λ (t : List ℕ). take (length t) (drop (partPlace (s .bytes) (pastGate (gateOf (s .bytes) 0 0) (past (s .bytes)))) (s .bytes)) ≡ t) (sym (ap bytesOf (x .argument)))
+      (part-stands (s .bytes) (pastGate (gateOf (s .bytes) 0 0) (past (s .bytes))) (gate-argued (s .bytes) (gateOf (s .bytes) 0 0)))
 
-  -- Empty on every refusal, and else the operator's own.
-  pub operator-argument-long : limit < length s → part ≡ []
+  -- The empty part at the front on every refusal, and else the operator's own.
+  pub operator-argument-long : limit < length (s .bytes) → part ≡ partAt s 0 []
   operator-argument-long h = argument-by Gate.TooLong h
 
-  pub operator-argument-high : (p : ℕ) → (length s ≤ limit) × FirstAt s p → part ≡ []
+  pub operator-argument-high : (p : ℕ) → (length (s .bytes) ≤ limit) × FirstAt (s .bytes) p → part ≡ partAt s 0 []
   operator-argument-high p h = argument-by (Gate.NotAscii p) h
 
-  pub operator-argument-unknown : Opened s 0 0 → Missing s → part ≡ []
-  operator-argument-unknown o m = argument-by Gate.Open o ∙ ap (λ (y : Reading). argumentBy (outcomeOf s y)) (operator-missing s m)
+  pub operator-argument-unknown : Opened (s .bytes) 0 0 → Missing (s .bytes) → part ≡ partAt s 0 []
+  operator-argument-unknown o m = argument-by Gate.Open o ∙ ap (λ (y : Reading). argumentOf s (outcomeOf (s .bytes) y)) (operator-missing (s .bytes) m)
 
-  pub operator-argument-reads : Opened s 0 0 → (m : Meant s) → part ≡ meaning s m .argument
-  operator-argument-reads o m = argument-by Gate.Open o ∙ ap (λ (y : Reading). argumentBy (outcomeOf s y)) (operator-meant s m)
+  pub operator-argument-reads : Opened (s .bytes) 0 0 → (m : Meant (s .bytes)) → part ≡ partAt s (argumentPlace (s .bytes)) (meaning (s .bytes) m .argument)
+  operator-argument-reads o m = argument-by Gate.Open o ∙ ap (λ (y : Reading). argumentOf s (outcomeOf (s .bytes) y)) (operator-meant (s .bytes) m)

@@ -4,6 +4,7 @@ use Prim.Native.Nat.{ℕ}
 use mathlib.Core.List.{List, [], _∷_}
 use lib.ListN.{length}
 use Rattle.ascii.specs.Choice.{bit}
+use Rattle.ascii.specs.Handed.{Standing, partAt}
 use Rattle.lent.specs.Gates.{gateOf}
 use Rattle.lent.specs.Table.{Given, given, refused, tooLong, notAscii, unknownOperator, Outcome, refuses, reads, pastGate}
 use Rattle.operators.specs.Operators.{Spec, Reading, accepted, unknown, operator}
@@ -41,6 +42,9 @@ abbrev pub partPlace : List ℕ → Outcome Spec → ℕ
 partPlace s (refuses f) = 0
 partPlace s (reads x) = argumentPlace s
 
+abbrev pub argumentOf : Standing → Outcome Spec → Standing
+argumentOf s o = partAt s (partPlace (s .bytes) o) (argumentBy o)
+
 -- Without the gate, for any bytes.
 pub record OperatorIn (s : List ℕ) (r : Answer) : Type 0 where
   pub answer : answerGiven r ≡ givenBy s (outcomeOf s (operator s))
@@ -48,5 +52,6 @@ pub record OperatorIn (s : List ℕ) (r : Answer) : Type 0 where
 pub record ParseOperator (s : List ℕ) (r : Answer) : Type 0 where
   pub answer : answerGiven r ≡ givenBy s (operatorOutcome s)
 
-pub record OperatorArgument (s part : List ℕ) : Type 0 where
-  pub argument : part ≡ argumentBy (operatorOutcome s)
+-- What is handed back, and where it stands in the caller's input.
+pub record OperatorArgument (s part : Standing) : Type 0 where
+  pub argument : part ≡ argumentOf s (operatorOutcome (s .bytes))

@@ -1,4 +1,5 @@
 // The public calls: what the operator is, behind the gate and without it, and its argument.
+ghost use Rattle.ascii.specs.Handed.{standing};
 ghost use Rattle.operators.specs.Promises.{OperatorIn, ParseOperator, OperatorArgument};
 use crate::Answer;
 use crate::finding::find;
@@ -50,7 +51,7 @@ pub fn parse_operator(input: &[u8]) -> Answer
 
 // The argument of the same operator, as a part of the input: on a refusal the empty part at the front.
 pub fn operator_argument(input: &[u8]) -> &[u8]
-    ensures { λ r. ⌜ OperatorArgument (now (input .entry)) (now r) ⌝ }
+    ensures { λ r. ⌜ OperatorArgument (standing (input .entry)) (standing r) ⌝ }
 {
     match parse_operator(input) {
         Answer::Parsed {

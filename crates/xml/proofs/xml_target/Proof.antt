@@ -1,6 +1,7 @@
 -- Each arm of the match is the test that it stands for.
 use mathlib.Core.Path.{_∙_, ap}
 use borrow.Author.Tests.{ne-eqb}
+use Rattle.ascii.specs.Handed.{bytesOf}
 use Rattle.xml.specs.Xml.{keyTarget, xmlTarget}
 use borrow.Author.Needs.{needs}
 use Rattle.xml.proofs.xml_target.Statement.{statement}
@@ -12,7 +13,7 @@ returns c = rw (c .match .keys1)
 
 returns-2 : tie.Need-returns-2
 unfolding xmlTarget
-returns-2 c = rw (c .before .before .match .keys2) (c .key-target .ensures ∙ ap keyTarget (c .before .trim .ensures))
+returns-2 c = rw (c .before .before .match .keys2) (c .key-target .ensures ∙ ap keyTarget (ap bytesOf (c .before .trim .ensures)))
 
 returns-3 : tie.Need-returns-3
 unfolding xmlTarget

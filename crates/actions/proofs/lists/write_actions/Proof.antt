@@ -1,5 +1,5 @@
 -- The loop keeps that the actions read so far are in the buffers; each need is one law of GoingLaws.
-use mathlib.Core.Path.{sym}
+use mathlib.Core.Path.{sym, ap}
 use mathlib.Core.Logic.{⊎-elim}
 use Prim.Native.Nat.{_+_, _-_}
 use native.Mathlib.Omega.{arith}
@@ -7,6 +7,7 @@ use borrow.Author.Needs.{needs}
 use denote.Ref.{now}
 use lib.ListN.{length, drop}
 use lib.Seq.{length-take-le}
+use Rattle.ascii.specs.Handed.{bytesOf}
 use Rattle.lent.proofs.StartLaws.{Started, starts-is}
 use Rattle.actions.specs.Pieces.{pieces}
 use Rattle.actions.proofs.LayoutLaws.{text-long, records-long}
@@ -45,7 +46,7 @@ part-trim-end c = end-inside (now (c .before .before .before .before .before .ar
 put-plan-requires : tie.Need-put-plan-requires Inv-loop μ-loop
 put-plan-requires c κs =
     let j = rw (c .before .before .before .plan .given .1) at (c .before .before .before .before .before .read-single .ensures) in
-    (j .sound, room-for (c .before .before .before .before .before .before .before .before .before .before .loop .inv) (c .before .before .before .before .before .before .before .before .before .before .before .before .before .before .pre) (c .before .before .before .before .before .before .before .before .before .part-end .result) (c .before .before .before .before .before .before .before .before .before .part-end .ensures) (now (c .before .before .before .before .before .before .before .trim .result)) (c .before .before .before .before .before .before .before .trim .ensures) (c .before .before .before .before .before .before .if1 .taken) (c .before .before .before .plan .given .0 .0) j)
+    (j .sound, room-for (c .before .before .before .before .before .before .before .before .before .before .loop .inv) (c .before .before .before .before .before .before .before .before .before .before .before .before .before .before .pre) (c .before .before .before .before .before .before .before .before .before .part-end .result) (c .before .before .before .before .before .before .before .before .before .part-end .ensures) (now (c .before .before .before .before .before .before .before .trim .result)) (ap bytesOf (c .before .before .before .before .before .before .before .trim .ensures)) (c .before .before .before .before .before .before .if1 .taken) (c .before .before .before .plan .given .0 .0) j)
 
 add-at : tie.Need-add-at Inv-loop μ-loop
 add-at c = let x = c .before .before .before .before .before .before .before .before .before .before .before .before .before .before .before .loop .inv in omega (arith, x .at-is, x .count-low, x .inside, started (c .before .before .before .before .before .before .before .before .before .before .before .before .before .before .before .before .before .before .before))
@@ -56,7 +57,7 @@ add-count c = let x = c .before .before .before .before .before .before .before 
 refuse-row-requires : tie.Need-refuse-row-requires Inv-loop μ-loop
 refuse-row-requires c κs =
     let j = rw (c .before .before .before .row .given .1) at (c .before .before .before .before .before .read-single .ensures) in
-    row-fits (c .before .before .before .before .before .before .before .before .before .before .loop .inv) (c .before .before .before .before .before .before .before .before .before .before .before .before .before .before .pre) (c .before .before .before .before .before .before .before .before .before .part-end .result) (c .before .before .before .before .before .before .before .before .before .part-end .ensures) (now (c .before .before .before .before .before .before .before .trim .result)) (c .before .before .before .before .before .before .before .trim .ensures) (c .before .before .before .before .before .before .if1 .taken) (c .before .before .before .row .given .0 .0) j
+    row-fits (c .before .before .before .before .before .before .before .before .before .before .loop .inv) (c .before .before .before .before .before .before .before .before .before .before .before .before .before .before .pre) (c .before .before .before .before .before .before .before .before .before .part-end .result) (c .before .before .before .before .before .before .before .before .before .part-end .ensures) (now (c .before .before .before .before .before .before .before .trim .result)) (ap bytesOf (c .before .before .before .before .before .before .before .trim .ensures)) (c .before .before .before .before .before .before .if1 .taken) (c .before .before .before .row .given .0 .0) j
 
 same-length : tie.Need-same-length Inv-loop μ-loop
 same-length c = omega (arith, text-long (c .before .before .before .before .before .before .before .before .before .before .before .before .before .before .before .loop .inv .laid), c .before .before .before .before .refuse-row .kept)
@@ -68,7 +69,7 @@ returns : tie.Need-returns Inv-loop μ-loop
 returns c =
     let j = rw (c .before .before .before .before .before .before .before .before .row .given .1) at (c .before .before .before .before .before .before .before .before .before .before .read-single .ensures) in
     let e = c .before .before .before .before .refuse-row .ensures in
-    stopped-bad (c .before .before .before .before .before .before .before .before .before .before .before .before .before .before .before .loop .inv) (c .before .before .before .before .before .before .before .before .before .before .before .before .before .before .before .before .before .before .before .pre) (c .before .before .before .before .before .before .before .before .before .before .before .before .before .before .part-end .result) (c .before .before .before .before .before .before .before .before .before .before .before .before .before .before .part-end .ensures) (now (c .before .before .before .before .before .before .before .before .before .before .before .before .trim .result)) (c .before .before .before .before .before .before .before .before .before .before .before .before .trim .ensures) (c .before .before .before .before .before .before .before .before .before .before .before .if1 .taken) (c .before .before .before .before .before .before .before .before .row .given .0 .0) j (e .0) (e .1 .0) (e .1 .1)
+    stopped-bad (c .before .before .before .before .before .before .before .before .before .before .before .before .before .before .before .loop .inv) (c .before .before .before .before .before .before .before .before .before .before .before .before .before .before .before .before .before .before .before .pre) (c .before .before .before .before .before .before .before .before .before .before .before .before .before .before .part-end .result) (c .before .before .before .before .before .before .before .before .before .before .before .before .before .before .part-end .ensures) (now (c .before .before .before .before .before .before .before .before .before .before .before .before .trim .result)) (ap bytesOf (c .before .before .before .before .before .before .before .before .before .before .before .before .trim .ensures)) (c .before .before .before .before .before .before .before .before .before .before .before .if1 .taken) (c .before .before .before .before .before .before .before .before .row .given .0 .0) j (e .0) (e .1 .0) (e .1 .1)
 
 slice-aggregate-refuse-name : tie.Need-slice-aggregate-refuse-name Inv-loop μ-loop
 slice-aggregate-refuse-name c =
@@ -78,7 +79,7 @@ slice-aggregate-refuse-name c =
 refuse-name-requires : tie.Need-refuse-name-requires Inv-loop μ-loop
 refuse-name-requires c κs =
     let j = rw (c .before .before .before .before .name .given .1) at (c .before .before .before .before .before .before .read-single .ensures) in
-    name-fits (c .before .before .before .before .before .before .before .before .before .before .before .loop .inv) (c .before .before .before .before .before .before .before .before .before .before .before .before .before .before .before .pre) (c .before .before .before .before .before .before .before .before .before .before .part-end .result) (c .before .before .before .before .before .before .before .before .before .before .part-end .ensures) (now (c .before .before .before .before .before .before .before .before .trim .result)) (c .before .before .before .before .before .before .before .before .trim .ensures) (c .before .before .before .before .before .before .before .if1 .taken) (c .before .before .before .before .name .given .0 .0) j
+    name-fits (c .before .before .before .before .before .before .before .before .before .before .before .loop .inv) (c .before .before .before .before .before .before .before .before .before .before .before .before .before .before .before .pre) (c .before .before .before .before .before .before .before .before .before .before .part-end .result) (c .before .before .before .before .before .before .before .before .before .before .part-end .ensures) (now (c .before .before .before .before .before .before .before .before .trim .result)) (ap bytesOf (c .before .before .before .before .before .before .before .before .trim .ensures)) (c .before .before .before .before .before .before .before .if1 .taken) (c .before .before .before .before .name .given .0 .0) j
 
 same-length-3 : tie.Need-same-length-3 Inv-loop μ-loop
 same-length-3 c = omega (arith, text-long (c .before .before .before .before .before .before .before .before .before .before .before .before .before .before .before .before .loop .inv .laid), c .before .before .before .before .refuse-name .kept)
@@ -90,14 +91,14 @@ returns-2 : tie.Need-returns-2 Inv-loop μ-loop
 returns-2 c =
     let j = rw (c .before .before .before .before .before .before .before .before .before .name .given .1) at (c .before .before .before .before .before .before .before .before .before .before .before .read-single .ensures) in
     let e = c .before .before .before .before .refuse-name .ensures in
-    stopped-unknown (c .before .before .before .before .before .before .before .before .before .before .before .before .before .before .before .before .loop .inv) (c .before .before .before .before .before .before .before .before .before .before .before .before .before .before .before .before .before .before .before .before .pre) (c .before .before .before .before .before .before .before .before .before .before .before .before .before .before .before .part-end .result) (c .before .before .before .before .before .before .before .before .before .before .before .before .before .before .before .part-end .ensures) (now (c .before .before .before .before .before .before .before .before .before .before .before .before .before .trim .result)) (c .before .before .before .before .before .before .before .before .before .before .before .before .before .trim .ensures) (c .before .before .before .before .before .before .before .before .before .before .before .before .if1 .taken) (c .before .before .before .before .before .before .before .before .before .name .given .0 .0) j (e .0) (e .1)
+    stopped-unknown (c .before .before .before .before .before .before .before .before .before .before .before .before .before .before .before .before .loop .inv) (c .before .before .before .before .before .before .before .before .before .before .before .before .before .before .before .before .before .before .before .before .pre) (c .before .before .before .before .before .before .before .before .before .before .before .before .before .before .before .part-end .result) (c .before .before .before .before .before .before .before .before .before .before .before .before .before .before .before .part-end .ensures) (now (c .before .before .before .before .before .before .before .before .before .before .before .before .before .trim .result)) (ap bytesOf (c .before .before .before .before .before .before .before .before .before .before .before .before .before .trim .ensures)) (c .before .before .before .before .before .before .before .before .before .before .before .before .if1 .taken) (c .before .before .before .before .before .before .before .before .before .name .given .0 .0) j (e .0) (e .1)
 
 -- behind a part, whether it was a piece or not
 behind-part : (c : tie.Joined1 Inv-loop μ-loop) → Going (now (c .before .before .before .before .before .before .before .before .args .s)) (c .before .before .before .before .before .before .before .before .args .offset) (c .before .before .before .before .before .before .before .before .args .place) (now (c .before .before .before .before .before .before .before .before .args .text)) (now (c .before .before .before .before .before .before .before .before .args .records)) (c .if1 .text) (c .if1 .records) (behind (now (c .before .before .before .before .before .before .before .before .args .s)) (c .before .before .before .part-end .result)) (c .before .before .before .part-end .result) (c .if1 .used) (c .if1 .count) (c .if1 .at)
 behind-part c =
     ⊎-elim
-    (λ w. rw (w .12, w .13, w .14, w .15, w .16) (acted (c .before .before .before .before .loop .inv) (c .before .before .before .before .before .before .before .before .pre) (c .before .before .before .part-end .result) (c .before .before .before .part-end .ensures) (now (c .before .trim .result)) (c .before .trim .ensures) (w .0 .taken) (w .3 .given .0 .0) (rw (w .3 .given .1) at (w .1 .ensures)) (w .7 .ensures)))
-    (λ w. rw (w .1, w .2, w .3, w .4, w .5) (passed (c .before .before .before .before .loop .inv) (c .before .before .before .before .before .before .before .before .pre) (c .before .before .before .part-end .result) (c .before .before .before .part-end .ensures) (now (c .before .trim .result)) (c .before .trim .ensures) (w .0 .left)))
+    (λ w. rw (w .12, w .13, w .14, w .15, w .16) (acted (c .before .before .before .before .loop .inv) (c .before .before .before .before .before .before .before .before .pre) (c .before .before .before .part-end .result) (c .before .before .before .part-end .ensures) (now (c .before .trim .result)) (ap bytesOf (c .before .trim .ensures)) (w .0 .taken) (w .3 .given .0 .0) (rw (w .3 .given .1) at (w .1 .ensures)) (w .7 .ensures)))
+    (λ w. rw (w .1, w .2, w .3, w .4, w .5) (passed (c .before .before .before .before .loop .inv) (c .before .before .before .before .before .before .before .before .pre) (c .before .before .before .part-end .result) (c .before .before .before .part-end .ensures) (now (c .before .trim .result)) (ap bytesOf (c .before .trim .ensures)) (w .0 .left)))
     (c .if1 .came)
 
 same-length-5 : tie.Need-same-length-5 Inv-loop μ-loop
