@@ -83,7 +83,7 @@ equal = record {
   parse-variables = λ i o x h. same (variables-are (i .input) (length (i .text)) (length (i .records)) h) (x .answer) (x .texts) (x .words);
   parse-update-targets = λ i o x h. same (updates-are (i .input) (length (i .text)) (length (i .records)) h) (x .answer) (x .texts) (x .words);
   parse-operator = λ s r x h. x .answer ∙ ap (Operators.givenBy s) (operator-is s h);
-  operator-argument = λ s part x h. x .argument ∙ ap Operators.argumentBy (operator-is s h);
+  operator-argument = λ s part x h. x .argument ∙ ap (Operators.argumentOf s) (operator-is (s .bytes) h);
   listing = λ s. printed-json s;
 }
 

@@ -3,6 +3,7 @@ use mathlib.Core.Path.{_≡_, refl}
 use mathlib.Core.List.{List}
 use Prim.Native.Nat.{ℕ}
 use lib.ListN.{length}
+use Rattle.ascii.specs.Handed.{Standing}
 use Rattle.lent.specs.Gates.{gateOf}
 use Rattle.lent.specs.Table.{pastGate}
 use Rattle.lent.specs.declared.gating.Gate.{Gate}
@@ -47,8 +48,8 @@ parse-operator-fixed = record {
   once = λ s r v x y. parse-operator-once x y;
 }
 
-pub operator-argument-fixed : Fixed (List ℕ) (List ℕ) operator-argument-promise
+pub operator-argument-fixed : Fixed Standing Standing operator-argument-promise
 operator-argument-fixed = record {
-  total = λ s. (O.argumentBy (O.operatorOutcome s), record { argument = refl });
+  total = λ s. (O.argumentOf s (O.operatorOutcome (s .bytes)), record { argument = refl });
   once = λ s a b x y. operator-argument-once x y;
 }

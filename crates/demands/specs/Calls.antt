@@ -2,6 +2,7 @@
 use Prim.Native.Nat.{ℕ}
 use mathlib.Core.Bool.{Bool}
 use mathlib.Core.List.{List}
+use Rattle.ascii.specs.Handed.{Standing}
 use Rattle.lent.specs.Endings.{Finished}
 use Rattle.lexer.specs.declared.Cursor.{Cursor}
 use Rattle.lexer.specs.Promises.{StepIn, NextToken, Tokens}
@@ -113,7 +114,8 @@ operator-in-promise = OperatorIn
 abbrev pub parse-operator-promise : List ℕ → Operators.Answer → Type 0
 parse-operator-promise = ParseOperator
 
-abbrev pub operator-argument-promise : List ℕ → List ℕ → Type 0
+-- the input and the argument, each where it stands in memory
+abbrev pub operator-argument-promise : Standing → Standing → Type 0
 operator-argument-promise = OperatorArgument
 
 -- ---- the listings

@@ -9,7 +9,8 @@ use Prim.Native.Nat.{ℕ}
 use lib.ListN.{length, getD}
 use Rattle.ascii.specs.Classes.{white, operatorNameEnd, digit, letter}
 use Rattle.ascii.specs.Fold.{lower, upper, same, sameLowered}
-use Rattle.ascii.specs.Trim.{leadingWhite, trimStart, trimEnd, trimEnds, trimmedPart}
+use Rattle.ascii.specs.Handed.{Standing}
+use Rattle.ascii.specs.Trim.{leadingWhite, trimEnd, trimStartOf, trimEndOf, trimEndsOf, trimmedPart}
 use Rattle.ascii.specs.Splits.{firstOf}
 use Rattle.ascii.specs.Numbers.{digitsBy, unsignedBy, signedWord}
 use Rattle.lent.specs.Gates.{firstHigh, gateOf}
@@ -58,7 +59,7 @@ Two A B = A × B
 
 -- ---- functions that lend nothing to be written
 
--- Bytes and numbers; a part handed back is a part of the caller's text.
+-- Bytes and numbers; a part handed back is a part of the caller's text, at its place there.
 pub record OfBytes : Type 0 where
   pub is-white : Gives white
   pub ends-operator-name : Gives operatorNameEnd
@@ -70,9 +71,9 @@ pub record OfBytes : Type 0 where
   pub same-lowered : Gives (λ (i : Two (List ℕ) (List ℕ)). sameLowered (i .0) (i .1))
   pub leading-white : Gives leadingWhite
   pub trimmed-len : Gives (λ s. length (trimEnd s))
-  pub trim-start : Gives trimStart
-  pub trim-end : Gives trimEnd
-  pub trim : Gives trimEnds
+  pub trim-start : Gives trimStartOf
+  pub trim-end : Gives trimEndOf
+  pub trim : Gives trimEndsOf
   pub trimmed : Gives trimmedPart
   pub first-of : Gives (λ (i : Two (List ℕ) ℕ). firstOf (i .1) (i .0))
   pub digits : Gives (λ (i : Two (List ℕ) ℕ). digitsBy (i .1) (i .0))
@@ -141,7 +142,7 @@ pub record OfParsers : Type 0 where
   pub read-targets : Fixed From (Left Reached) read-targets-promise
   pub operator-in : Fixed (List ℕ) Operator.Answer operator-in-promise
   pub parse-operator : Fixed (List ℕ) Operator.Answer parse-operator-promise
-  pub operator-argument : Fixed (List ℕ) (List ℕ) operator-argument-promise
+  pub operator-argument : Fixed Standing Standing operator-argument-promise
 
 pub record OfListing : Type 0 where
   pub write-listing : Fixed Records (Wrote Listing.Answer) write-listing-promise

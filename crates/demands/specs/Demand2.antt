@@ -9,6 +9,7 @@ use Prim.Native.Nat.{ℕ, _+_, _≤_, _<_, min}
 use lib.ListN.{length, drop}
 use lib.Dec.{ltb}
 use Rattle.ascii.specs.Choice.{pick}
+use Rattle.ascii.specs.Handed.{Standing}
 use Rattle.lent.specs.Sizes.{limit, tokenWords, actionWords, variableWords, roomFor}
 use Rattle.lent.specs.Buffers.{padded}
 use Rattle.lent.specs.Table.{Given, given, noRoom, Outcome, refuses, reads, Filled, givenBy, textBy, recordsBy}
@@ -75,7 +76,8 @@ pub record Equal : Type 0 where
       → Equals (Variables.updated (length (i .records)) (readAll lookedUp (Variable.pieces (i .input)))) (Variables.answerGiven (o .answer)) (i .text) (o .text) (i .records) (o .records)
   pub parse-operator : (s : List ℕ) (r : Parsed.Answer) → parse-operator-promise s r → Opened s 0 0
       → Operators.answerGiven r ≡ Operators.givenBy s (Operators.outcomeOf s (operator s))
-  pub operator-argument : (s part : List ℕ) → operator-argument-promise s part → Opened s 0 0 → part ≡ Operators.argumentBy (Operators.outcomeOf s (operator s))
+  pub operator-argument : (s part : Standing) → operator-argument-promise s part → Opened (s .bytes) 0 0
+      → part ≡ Operators.argumentOf s (Operators.outcomeOf (s .bytes) (operator (s .bytes)))
   -- RFC 8259: whatever bytes are read, what the listing program prints is a JSON text
   pub listing : (s : List ℕ) → JsonText (printed s)
 
