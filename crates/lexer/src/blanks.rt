@@ -13,8 +13,8 @@ pub fn skip_blanks(s: &[u8], c: Cursor) -> Cursor
     ensures { λ r. ⌜ Skipped (now (s .entry)) c r ⌝ }
 {
     let mut place = c.place;
-    let mut line = c.line.0;
-    let mut column = c.column.0;
+    let mut line = c.line;
+    let mut column = c.column;
     let mut mark = c.mark;
     loop {
         if s.len() <= place {
@@ -23,18 +23,18 @@ pub fn skip_blanks(s: &[u8], c: Cursor) -> Cursor
         match class_of(s[place]) {
             Class::Gap | Class::Return => {
                 place += 1;
-                column += 1;
+                column = Column(column.0 + 1);
             }
             Class::Slash => {
                 let owed = line_end(s, place + 1);
                 if owed == 0 {
                     place += 1;
-                    column += 1;
+                    column = Column(column.0 + 1);
                     mark = false;
                 } else {
                     place += 1 + owed;
-                    line += 1;
-                    column = 1;
+                    line = Line(line.0 + 1);
+                    column = Column(1);
                     mark = true;
                 }
             }
@@ -43,8 +43,8 @@ pub fn skip_blanks(s: &[u8], c: Cursor) -> Cursor
     }
     Cursor {
         place,
-        line: Line(line),
-        column: Column(column),
+        line,
+        column,
         mark,
     }
 }
