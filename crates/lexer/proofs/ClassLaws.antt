@@ -18,7 +18,7 @@ use Rattle.lexer.specs.Cursors.{Cursor}
 use Rattle.lexer.specs.Runs.{Does, ends, takes}
 use Rattle.lexer.specs.Rules.{lineEnd, before, beforeBy, word, wordBy, wordSlash}
 use Rattle.lexer.specs.Tokens.{Step, tokenBy, tokenAt}
-use Rattle.lexer.proofs.Class.{the-type}
+use Rattle.lexer.proofs.bytes.Class.{the-type}
 use Rattle.lexer.proofs.MoveLaws.{dark-flat}
 use Rattle.lexer.proofs.TestLaws.{either}
 

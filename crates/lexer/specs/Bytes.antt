@@ -2,8 +2,8 @@
 use Prim.Native.Nat.{ℕ}
 use lib.Dec.{eqb}
 use Rattle.ascii.specs.Choice.{pick}
-pub use Rattle.lexer.specs.declared.Class.{Class}
-pub use Rattle.lexer.specs.declared.Class.the-variants.{Feed, Return, Gap, Upright, Hash, Quote, Slash, Other}
+pub use Rattle.lexer.specs.declared.bytes.Class.{Class}
+pub use Rattle.lexer.specs.declared.bytes.Class.the-variants.{Feed, Return, Gap, Upright, Hash, Quote, Slash, Other}
 
 -- The byte's row in the `match`es of Lexer::next_token, skip_whitespace and read_word.
 unfoldable pub class : ℕ → Class

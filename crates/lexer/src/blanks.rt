@@ -1,9 +1,9 @@
 // What stands before a token.
 ghost use Rattle.lexer.specs.Steps.{Within, Skipped};
-use crate::Class;
 use crate::Column;
 use crate::Cursor;
 use crate::Line;
+use crate::bytes::Class;
 use crate::bytes::class_of;
 use crate::bytes::line_end;
 

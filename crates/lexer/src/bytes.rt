@@ -4,7 +4,18 @@ ghost use Prim.Native.Nat.{_≤_};
 ghost use lib.ListN.{length, drop};
 ghost use Rattle.lexer.specs.Bytes.{class};
 ghost use Rattle.lexer.specs.Rules.{lineEnd};
-use crate::Class;
+
+// The bytes that rules treat apart, told once: LF; CR; tab and space; VT and FF; #; both quotation marks; backslash.
+pub enum Class {
+    Feed,
+    Return,
+    Gap,
+    Upright,
+    Hash,
+    Quote,
+    Slash,
+    Other,
+}
 
 pub fn class_of(b: u8) -> Class
     ensures { λ r. ⌜ r ≡ class b ⌝ }

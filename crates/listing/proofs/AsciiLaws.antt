@@ -9,8 +9,8 @@ use lib.Dec.{eqb}
 use borrow.Author.Tests.{lt-leb}
 use Rattle.lent.specs.Gates.{firstHigh}
 use Rattle.lent.proofs.HighLaws.{Low}
-use Rattle.lexer.specs.declared.Class.{Class}
-use Rattle.lexer.specs.declared.Class.the-variants.{Feed, Return, Gap, Upright, Hash, Quote, Slash, Other}
+use Rattle.lexer.specs.declared.bytes.Class.{Class}
+use Rattle.lexer.specs.declared.bytes.Class.the-variants.{Feed, Return, Gap, Upright, Hash, Quote, Slash, Other}
 use Rattle.lexer.specs.declared.quotes.Mode.{Mode}
 use Rattle.lexer.specs.declared.quotes.Mode.the-variants.{Plain as plain, Escaped as escaped, AfterCr as afterCr, Margin as margin}
 use Rattle.lexer.specs.declared.Cursor.{Cursor}
