@@ -17,7 +17,6 @@ demand1 = record {
     is-white = gives _;
     ends-operator-name = gives _;
     is-digit = gives _;
-    is-letter = gives _;
     to-lower = gives _;
     to-upper = gives _;
     is-same = gives _;

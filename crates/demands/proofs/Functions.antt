@@ -2,7 +2,6 @@
 -- A contract without a `requires` asks nothing, and to meet it is to end; what each says: specs/Demand1.antt.
 pub use Rattle.ascii.proofs.ends_operator_name.Met.{met as ends-operator-name}
 pub use Rattle.ascii.proofs.is_digit.Met.{met as is-digit}
-pub use Rattle.ascii.proofs.is_letter.Met.{met as is-letter}
 pub use Rattle.ascii.proofs.is_white.Met.{met as is-white}
 pub use Rattle.ascii.proofs.is_same.Met.{met as is-same}
 pub use Rattle.ascii.proofs.same_lowered.Met.{met as same-lowered}

@@ -7,7 +7,7 @@ use mathlib.Core.Bool.{Bool, false}
 use mathlib.Core.List.{List}
 use Prim.Native.Nat.{ℕ}
 use lib.ListN.{length, getD}
-use Rattle.ascii.specs.Classes.{white, operatorNameEnd, digit, letter}
+use Rattle.ascii.specs.Classes.{white, operatorNameEnd, digit}
 use Rattle.ascii.specs.Fold.{lower, upper, same, sameLowered}
 use Rattle.ascii.specs.Handed.{Standing}
 use Rattle.ascii.specs.Trim.{leadingWhite, trimEnd, trimStartOf, trimEndOf, trimEndsOf, trimmedPart}
@@ -64,7 +64,6 @@ pub record OfBytes : Type 0 where
   pub is-white : Gives white
   pub ends-operator-name : Gives operatorNameEnd
   pub is-digit : Gives digit
-  pub is-letter : Gives letter
   pub to-lower : Gives lower
   pub to-upper : Gives upper
   pub is-same : Gives (λ (i : Two (List ℕ) (List ℕ)). same (i .0) (i .1))
