@@ -7,7 +7,6 @@ mod trimming;
 
 pub use classes::ends_operator_name;
 pub use classes::is_digit;
-pub use classes::is_letter;
 pub use classes::is_white;
 pub use folding::is_same;
 pub use folding::same_lowered;
