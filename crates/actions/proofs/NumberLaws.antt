@@ -12,8 +12,7 @@ use lib.Dec.{ltb}
 use borrow.Author.Tests.{lt-ltb, le-ltb, ltb-true, ltb-false}
 use Rattle.lent.specs.Sizes.{limit, actionWords, roomFor}
 use Rattle.lent.specs.Table.{Given, Refusal, noRoom, unknownAction, badArgument, Outcome, refuses, reads, Filled}
-use Rattle.lent.proofs.HighLaws.{FirstAt}
-use Rattle.lent.proofs.GateLaws.{Opened, Shortened}
+use Rattle.lent.specs.Admission.{FirstAt, Opened, Shortened}
 use Rattle.lent.proofs.OutcomeLaws.{numberOf, given-number}
 use Rattle.lent.proofs.RowLaws as Rows
 use Rattle.lent.proofs.RowLaws.{row, OneOf, Numbered, Exactly, absent, differ, behind, gated, exactly-gated}

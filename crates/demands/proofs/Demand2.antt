@@ -13,7 +13,8 @@ use Rattle.lent.specs.Sizes.{actionWords, roomFor}
 use Rattle.lent.specs.Table.{Given, Outcome, reads, Filled, givenBy, textBy, recordsBy}
 use Rattle.lent.specs.declared.gating.Gate.{Gate}
 use Rattle.lent.specs.declared.gating.Gate.the-variants.{Open}
-use Rattle.lent.proofs.GateLaws.{Opened, row-gate}
+use Rattle.lent.specs.Admission.{Opened}
+use Rattle.lent.proofs.GateLaws.{row-gate}
 use Rattle.lent.proofs.OutcomeLaws.{numberOf, given-number, past-row}
 use Rattle.lent.proofs.RowLaws.{Row, row, OneOf, Numbered, Exactly, absent, differ, behind, gated, exactly-gated}
 use Rattle.lexer.specs.Promises as Lexer

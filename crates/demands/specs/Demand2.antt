@@ -13,8 +13,7 @@ use Rattle.ascii.specs.Handed.{Standing}
 use Rattle.lent.specs.Sizes.{limit, tokenWords, actionWords, variableWords, roomFor}
 use Rattle.lent.specs.Buffers.{padded}
 use Rattle.lent.specs.Table.{Given, given, noRoom, Outcome, refuses, reads, Filled, givenBy, textBy, recordsBy}
-use Rattle.lent.proofs.HighLaws.{FirstAt}
-use Rattle.lent.proofs.GateLaws.{Opened, Shortened}
+use Rattle.lent.specs.Admission.{FirstAt, Opened, Shortened}
 use Rattle.lexer.specs.Tokens.{next, reading}
 use Rattle.lexer.specs.Calls.{Fit, Astray, needed}
 use Rattle.lexer.specs.Promises as Lexer

@@ -16,8 +16,8 @@ use Rattle.lent.specs.Gates.{gateOf}
 use Rattle.lent.specs.Table.{Outcome, pastGate}
 use Rattle.lent.specs.declared.gating.Gate.{Gate}
 use Rattle.lent.specs.declared.gating.Gate.the-variants.{Open, TooLong, NotAscii, Short}
-use Rattle.lent.proofs.HighLaws.{FirstAt}
-use Rattle.lent.proofs.GateLaws.{Opened, Shortened, gate-row}
+use Rattle.lent.specs.Admission.{FirstAt, Opened, Shortened}
+use Rattle.lent.proofs.GateLaws.{gate-row}
 use Rattle.lent.proofs.GateLaws as Gates
 use Rattle.lent.proofs.OutcomeLaws.{numberOf, past-row}
 

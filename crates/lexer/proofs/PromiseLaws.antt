@@ -15,8 +15,7 @@ use Rattle.lent.specs.Gates.{gateOf}
 use Rattle.lent.specs.Table.{Given, given, tooLong, shortBuffer, badCursor, Outcome, refuses, reads, pastGate}
 use Rattle.lent.specs.declared.gating.Gate.{Gate}
 use Rattle.lent.specs.declared.gating.Gate.the-variants.{Open, TooLong, NotAscii, Short}
-use Rattle.lent.proofs.HighLaws.{FirstAt}
-use Rattle.lent.proofs.GateLaws.{Opened, Shortened}
+use Rattle.lent.specs.Admission.{FirstAt, Opened, Shortened}
 use Rattle.lent.proofs.GateLaws as Gates
 use Rattle.lent.proofs.RowLaws.{Row, row, OneOf, Numbered, Exactly, absent, differ, exactly}
 use Rattle.lent.proofs.OutcomeLaws.{numberOf, Later, past-row, number-1, number-2, number-3, checked-later, number-refused, number-read}

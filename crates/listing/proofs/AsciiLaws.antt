@@ -8,7 +8,7 @@ use lib.ListN.{length}
 use lib.Dec.{eqb}
 use borrow.Author.Tests.{lt-leb}
 use Rattle.lent.specs.Gates.{firstHigh}
-use Rattle.lent.proofs.HighLaws.{Low}
+use Rattle.lent.specs.Admission.{Low}
 use Rattle.lexer.specs.declared.bytes.Class.{Class}
 use Rattle.lexer.specs.declared.bytes.Class.the-variants.{Feed, Return, Gap, Upright, Hash, Quote, Slash, Other}
 use Rattle.lexer.specs.declared.quotes.Mode.{Mode}

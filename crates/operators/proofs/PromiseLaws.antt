@@ -14,8 +14,8 @@ use Rattle.lent.specs.Gates.{gateOf}
 use Rattle.lent.specs.Table.{Given, Outcome, refuses, reads, pastGate}
 use Rattle.lent.specs.declared.gating.Gate.{Gate}
 use Rattle.lent.specs.declared.gating.Gate.the-variants as Gate
-use Rattle.lent.proofs.HighLaws.{FirstAt}
-use Rattle.lent.proofs.GateLaws.{Opened, Row}
+use Rattle.lent.specs.Admission.{FirstAt, Opened}
+use Rattle.lent.proofs.GateLaws.{Row}
 use Rattle.lent.proofs.OutcomeLaws.{numberOf, past-row}
 use Rattle.lent.proofs.RowLaws as Rows
 use Rattle.lent.proofs.RowLaws.{row, OneOf, Numbered, Exactly, absent, differ, exactly, behind, gated, exactly-gated}

@@ -17,7 +17,8 @@ use Rattle.lent.specs.Table.{Given, given, refused as refusedBy, noRoom, unknow
 use Rattle.lent.specs.declared.gating.Gate.{Gate}
 use Rattle.lent.specs.declared.gating.Gate.the-variants as Gate
 use Rattle.lent.proofs.BufferLaws.{stored-length, taken-first, each-length, each-fits, joined-append}
-use Rattle.lent.proofs.GateLaws.{Opened, open-is}
+use Rattle.lent.specs.Admission.{Opened}
+use Rattle.lent.proofs.GateLaws.{open-is}
 use Rattle.lent.proofs.StartLaws.{starts-is}
 use Rattle.lent.proofs.EndLaws.{ended-told, ended-text, ended-records}
 use Rattle.lent.proofs.LayoutLaws.{records-joined, words-length}

@@ -15,8 +15,8 @@ use Rattle.lent.specs.Gates.{gateOf}
 use Rattle.lent.specs.Table.{Given, noRoom, unknownVariable, Outcome, refuses, reads, pastGate, Filled, givenBy, textBy, recordsBy}
 use Rattle.lent.specs.declared.gating.Gate.{Gate}
 use Rattle.lent.specs.declared.gating.Gate.the-variants as Gate
-use Rattle.lent.proofs.HighLaws.{FirstAt}
-use Rattle.lent.proofs.GateLaws.{Opened, Shortened, Row}
+use Rattle.lent.specs.Admission.{FirstAt, Opened, Shortened}
+use Rattle.lent.proofs.GateLaws.{Row}
 use Rattle.lent.proofs.OutcomeLaws.{numberOf, given-number, past-row}
 use Rattle.lent.proofs.RowLaws as Rows
 use Rattle.lent.proofs.RowLaws.{row, OneOf, Numbered, Exactly, absent, differ, behind, gated, exactly-gated}
