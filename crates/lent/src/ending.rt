@@ -44,8 +44,7 @@ pub fn finish(text: &mut [u8], used: usize, records: &mut [u64], count: usize, w
 
 // Both buffers of a refusal that names a piece: the name where it fits, and zeros.
 pub fn refuse_piece(text: &mut [u8], records: &mut [u64], name: &[u8])
-    ensures { λ r. ⌜ now (text .exit) ≡ stored (zeros (length (now (text .entry)))) 0 (now (name .entry)) ⌝ }
-    ensures { λ r. ⌜ now (records .exit) ≡ zeros (length (now (records .entry))) ⌝ }
+    ensures { λ r. ⌜ (now (text .exit) ≡ stored (zeros (length (now (text .entry)))) 0 (now (name .entry))) × (now (records .exit) ≡ zeros (length (now (records .entry)))) ⌝ }
 {
     clear_bytes(text);
     clear_words(records);
