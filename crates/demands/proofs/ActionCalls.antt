@@ -20,6 +20,7 @@ use Rattle.actions.specs.declared.Answer.the-variants as Answer
 use Rattle.actions.specs.declared.Reached.{Reached}
 use Rattle.actions.specs.declared.normalising.Normal.{Normal}
 use Rattle.actions.proofs.GivenLaws.{parse-actions-once, setvar-once}
+use Rattle.records.proofs.LayoutLaws.{words-length}
 use Rattle.ascii.proofs.OneAnswer.{one-answer}
 use Rattle.demands.specs.Fixed.{Fixed}
 use Rattle.demands.specs.Calls.{Lent, Left, Wrote, parse-actions-promise, normalise-promise, read-actions-promise, parse-setvar-promise}
@@ -29,7 +30,7 @@ use Rattle.demands.proofs.RowLaws.{row-of}
 use Rattle.demands.proofs.AnswerLaws.{Answered, Gated, past-gate}
 
 abbrev AnsweredActions : Outcome Filled → Type 0
-AnsweredActions = Answered A.answerGiven
+AnsweredActions = Answered actionWords A.answerGiven
 
 -- a list's refusal has an answer
 abbrev Told : Outcome (List Action) → Type 0
@@ -56,9 +57,10 @@ room-told m (reads xs) t = go (ltb (roomFor actionWords m) (length xs))
   where
     go : (b : Bool) → AnsweredActions (pick b (refuses (noRoom (length xs))) (reads (A.laidOut xs)))
     go true = record { answer = Answer.NoRoom (length xs); is = refl; filling = tt }
-    go false = record { answer = Answer.Read (length xs) _; is = refl; filling = tt }
+    go false =
+        record { answer = Answer.Read (length xs) _; is = refl; filling = record { count = _; more = _; values = refl; words = words-length 0 xs } }
 
-gated : Gated A.answerGiven
+gated : Gated actionWords A.answerGiven
 gated = record { long = (Answer.TooLong, refl); high = λ p. (Answer.NotAscii p, refl); short = (Answer.Short, refl) }
 
 -- ---- a list
@@ -69,7 +71,7 @@ listOutcome i = A.actionsOutcome (i .0 .input) (length (i .0 .text)) (length (i 
 list-answered : (i : Lent × List ℕ) → AnsweredActions (listOutcome i)
 unfolding A.actionsOutcome actionsOf
 list-answered i =
-    past-gate A.answerGiven gated (A.actionsGate (i .0 .input) (length (i .0 .text)) (length (i .1))) _
+    past-gate actionWords A.answerGiven gated (A.actionsGate (i .0 .input) (length (i .0 .text)) (length (i .1))) _
     (room-told (length (i .0 .records)) (actionsOf (i .0 .input)) (from-told 0 (pieces (normalised (i .0 .input)))))
 
 pub parse-actions-fixed : Fixed (Lent × List ℕ) (Left Answer × List ℕ) parse-actions-promise
@@ -87,8 +89,8 @@ parse-actions-fixed = record {
 }
 
 pub parse-actions-row : (i : Lent × List ℕ) (o : Left Answer × List ℕ) → parse-actions-promise i o
-    → Row (A.answerGiven (o .0 .answer)) (i .0 .text) (o .0 .text) (i .0 .records) (o .0 .records)
-parse-actions-row i o x = row-of (listOutcome i) (list-answered i .filling) (x .answer) (x .texts) (x .words)
+    → Row actionWords (A.answerGiven (o .0 .answer)) (i .0 .text) (o .0 .text) (i .0 .records) (o .0 .records)
+parse-actions-row i o x = row-of actionWords (listOutcome i) (list-answered i .filling) (x .answer) (x .texts) (x .words)
 
 -- ---- between a gate and an ending
 
@@ -112,7 +114,7 @@ aloneOutcome i = A.setvarOutcome (i .input) (length (i .text)) (length (i .recor
 alone-answered : (i : Lent) → AnsweredActions (aloneOutcome i)
 unfolding A.setvarOutcome
 alone-answered i =
-    past-gate A.answerGiven gated (gateOf (i .input) (length (i .text)) (length (i .input) + 3)) _
+    past-gate actionWords A.answerGiven gated (gateOf (i .input) (length (i .text)) (length (i .input) + 3)) _
     (room-told (length (i .records)) (reads (A.setvarAlone (i .input))) tt)
 
 pub parse-setvar-fixed : Fixed Lent (Left Answer) parse-setvar-promise
@@ -124,5 +126,5 @@ parse-setvar-fixed = record {
   once = λ i o p x y. left-same o p (setvar-once x y);
 }
 
-pub parse-setvar-row : (i : Lent) (o : Left Answer) → parse-setvar-promise i o → Row (A.answerGiven (o .answer)) (i .text) (o .text) (i .records) (o .records)
-parse-setvar-row i o x = row-of (aloneOutcome i) (alone-answered i .filling) (x .answer) (x .texts) (x .words)
+pub parse-setvar-row : (i : Lent) (o : Left Answer) → parse-setvar-promise i o → Row actionWords (A.answerGiven (o .answer)) (i .text) (o .text) (i .records) (o .records)
+parse-setvar-row i o x = row-of actionWords (aloneOutcome i) (alone-answered i .filling) (x .answer) (x .texts) (x .words)

@@ -6,11 +6,11 @@ use Rattle.lent.specs.declared.gating.Gate.{Gate}
 use Rattle.lent.specs.declared.gating.Gate.the-variants.{Open, TooLong, NotAscii, Short}
 use Rattle.demands.proofs.RowLaws.{Filling}
 
-module _ {Answer : Type 0} (said : Answer → Given) where
+module _ {Answer : Type 0} (width : ℕ) (said : Answer → Given) where
   pub record Answered (o : Outcome Filled) : Type 0 where
     pub answer : Answer
     pub is : said answer ≡ givenBy o
-    pub filling : Filling o
+    pub filling : Filling width o
 
   -- the answers for the rows of the gate
   pub record Gated : Type 0 where

@@ -1,5 +1,5 @@
 -- Every public function of every library meets its contract, with any input: the prover's theorem for its code, under the function's name.
--- A contract without a `requires` asks nothing, and to meet it is to end; what each says: specs/Demand1.antt.
+-- To meet a contract that asks nothing is to end. What each contract says: specs/Demand1.antt.
 pub use Rattle.ascii.proofs.ends_operator_name.Met.{met as ends-operator-name}
 pub use Rattle.ascii.proofs.is_digit.Met.{met as is-digit}
 pub use Rattle.ascii.proofs.is_white.Met.{met as is-white}
@@ -43,6 +43,7 @@ pub use Rattle.lexer.proofs.tokens.Met.{met as tokens}
 pub use Rattle.reader.proofs.reader_of.Met.{met as reader-of}
 pub use Rattle.reader.proofs.reader_at.Met.{met as reader-at}
 pub use Rattle.reader.proofs.next_of.Met.{met as next-of}
+pub use Rattle.reader.proofs.token_at.Met.{met as token-at}
 pub use Rattle.reader.proofs.first_token.Met.{met as first-token}
 pub use Rattle.records.proofs.is_text.Met.{met as is-text}
 pub use Rattle.single_action.proofs.read_single.Met.{met as read-single}
@@ -81,3 +82,4 @@ pub use Rattle.seclang.proofs.seclang_parse_setvar.Met.{met as seclang-parse-se
 pub use Rattle.seclang.proofs.seclang_parse_update_targets.Met.{met as seclang-parse-update-targets}
 pub use Rattle.seclang.proofs.seclang_parse_variables.Met.{met as seclang-parse-variables}
 pub use Rattle.seclang.proofs.seclang_tokens.Met.{met as seclang-tokens}
+pub use Rattle.seclang.proofs.seclang_version.Met.{met as seclang-version}

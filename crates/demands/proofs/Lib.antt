@@ -1,3 +1,4 @@
+pub mod Functions
 pub mod FixedLaws
 pub mod TokenCalls
 pub mod ActionCalls
@@ -6,9 +7,8 @@ pub mod OperatorCalls
 pub mod ListingCalls
 pub mod RowLaws
 pub mod AnswerLaws
+pub mod Library
 pub mod Demand1
 pub mod Worked
 pub mod Demand3
 pub mod Demand2
-pub mod Functions
-pub mod Library

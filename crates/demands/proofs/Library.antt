@@ -8,84 +8,120 @@ use Rattle.lent.specs.Buffers.{stored}
 use Rattle.lent.specs.Table.{Given, Outcome, Filled, givenBy, textBy, recordsBy}
 use Rattle.lexer.specs.Promises.{nextOutcome, nextGivenBy, nextTextBy, tokensOutcome}
 use Rattle.actions.specs.Promises.{actionsGate, actionsOutcome, scratchBy}
+use Rattle.operators.specs.Promises as Operators
 use Rattle.listing.specs.Listings.{lineOf}
 use Rattle.listing.specs.Promises as Listing
 use Rattle.seclang.specs.Told.{Told}
 use Rattle.seclang.specs.Readers.{Fills, Lists}
-use Rattle.demands.specs.Library.{Number, Buffers, OfLibrary}
-use Rattle.demands.proofs.FixedLaws.{gives}
+use Rattle.demands.specs.Fixed.{Fixed}
+use Rattle.demands.specs.Calls.{Lent, Left, left, Wrote, wrote, Place}
+use Rattle.demands.specs.Library.{With, fills-promise, fills-actions-promise, steps-promise, operator-promise, lists-promise, recordsOutcome, refusalOutcome, lists-text-promise, OfLibrary}
+use Rattle.demands.proofs.Functions as Met
+use Rattle.demands.proofs.FixedLaws.{gives, left-same, wrote-same}
 
 -- two pairs with equal parts are equal
 pair : {A B : Type 0} {a c : A} {b d : B} → a ≡ c → b ≡ d → _≡_ {A = A × B} (a, b) (c, d)
 pair {A} {B} p q = ap₂ (λ (x : A) (y : B). (x, y)) p q
 
--- what is told
-said : Given → List ℕ → Number
-said g values = (g .number, stored values 0 (g .values))
+-- what is told of a given number, in words that held `old`
+abbrev told : Given → List ℕ → List ℕ
+told g old = stored old 0 (g .values)
 
-told : (g : Given) (values : List ℕ) → Told g values (said g values .1) (said g values .0)
-unfolding said
-told g values = record { number = refl; values = refl }
+-- ---- the readers
 
-told-same : {g : Given} {values : List ℕ} {o p : Number} → Told g values (o .1) (o .0) → Told g values (p .1) (p .0) → o ≡ p
-told-same x y = pair (one-answer (x .number) (y .number)) (one-answer (x .values) (y .values))
+abbrev filled : Outcome Filled → Lent → Left ℕ
+filled x i = left (givenBy x .number) (textBy x (i .text)) (recordsBy x (i .records))
 
--- what a reader leaves
-buffers : Outcome Filled → Buffers → Buffers
-buffers x b = (textBy x (b .0), recordsBy x (b .1))
+fills-same : {x : Outcome Filled} {text records old : List ℕ} {o p : Left ℕ} {new new′ : List ℕ}
+    → Fills x text (o .text) records (o .records) old new (o .answer) → Fills x text (p .text) records (p .records) old new′ (p .answer)
+    → (o ≡ p) × (new ≡ new′)
+fills-same {o = o} {p} a b = (
+  left-same o p (one-answer (a .told .number) (b .told .number), one-answer (a .texts) (b .texts), one-answer (a .words) (b .words)),
+  one-answer (a .told .values) (b .told .values),
+)
 
-fills : (x : Outcome Filled) (b : Buffers) (values : List ℕ)
-    → Fills x (b .0) (buffers x b .0) (b .1) (buffers x b .1) values (said (givenBy x) values .1) (said (givenBy x) values .0)
-unfolding buffers
-fills x b values = record { told = told (givenBy x) values; texts = refl; words = refl }
+fills-fixed : (outcome : Lent → Outcome Filled) → Fixed (With Lent) (With (Left ℕ)) (fills-promise outcome)
+fills-fixed outcome = record {
+  total = λ i.
+      let x = outcome (i .0) in
+      ((filled x (i .0), told (givenBy x) (i .1)), record { told = record { number = refl; values = refl }; texts = refl; words = refl });
+  once = λ i o p a b. let e = fills-same a b in pair (e .0) (e .1);
+}
 
-fills-same : {x : Outcome Filled} {b : Buffers} {values : List ℕ} {o p : Buffers × Number}
-    → Fills x (b .0) (o .0 .0) (b .1) (o .0 .1) values (o .1 .1) (o .1 .0) → Fills x (b .0) (p .0 .0) (b .1) (p .0 .1) values (p .1 .1) (p .1 .0) → o ≡ p
-fills-same x y = pair (pair (one-answer (x .texts) (y .texts)) (one-answer (x .words) (y .words))) (told-same (x .told) (y .told))
+fills-actions-fixed : Fixed (With (Lent × List ℕ)) (With (Left ℕ × List ℕ)) fills-actions-promise
+fills-actions-fixed = record {
+  total = λ i.
+      let s = i .0 .0 .input in
+      let n = length (i .0 .0 .text) in
+      let k = length (i .0 .1) in
+      let x = actionsOutcome s n k (length (i .0 .0 .records)) in (
+        ((filled x (i .0 .0), scratchBy (actionsGate s n k) s (i .0 .1)), told (givenBy x) (i .1)),
+        record { fills = record { told = record { number = refl; values = refl }; texts = refl; words = refl }; scratch = refl },
+      );
+  once = λ i o p a b. let e = fills-same (a .fills) (b .fills) in pair (pair (e .0) (one-answer (a .scratch) (b .scratch))) (e .1);
+}
 
-lists-same : {x : Listing.Outcome} {out values : List ℕ} {o p : List ℕ × Number}
-    → Lists x out (o .0) values (o .1 .1) (o .1 .0) → Lists x out (p .0) values (p .1 .1) (p .1 .0) → o ≡ p
-lists-same x y = pair (one-answer (x .line) (y .line)) (told-same (x .told) (y .told))
+steps-fixed : Fixed (With Place) (With (Wrote ℕ)) steps-promise
+steps-fixed = record {
+  total = λ i.
+      let x = nextOutcome (i .0 .input) (i .0 .from) (length (i .0 .buffer)) in (
+        (wrote (nextGivenBy x .number) (nextTextBy x (i .0 .buffer)), told (nextGivenBy x) (i .1)),
+        record { told = record { number = refl; values = refl }; texts = refl },
+      );
+  once = λ i o p a b.
+      pair (wrote-same (o .0) (p .0) (one-answer (a .told .number) (b .told .number), one-answer (a .texts) (b .texts))) (one-answer (a .told .values) (b .told .values));
+}
+
+operator-fixed : Fixed (With (List ℕ)) (With ℕ) operator-promise
+operator-fixed = record {
+  total = λ i. let g = Operators.givenBy (i .0) (Operators.operatorOutcome (i .0)) in ((g .number, told g (i .1)), record { number = refl; values = refl });
+  once = λ i o p a b. pair (one-answer (a .number) (b .number)) (one-answer (a .values) (b .values));
+}
+
+-- ---- the listings
+
+lists-fixed : {In : Type 0} (outcome : In → Listing.Outcome) (buffer : In → List ℕ) → Fixed (With In) (With (Wrote ℕ)) (lists-promise outcome buffer)
+lists-fixed outcome buffer = record {
+  total = λ i.
+      let x = outcome (i .0) in (
+        (wrote (Listing.givenBy x .number) (Listing.bufferBy x (length (buffer (i .0)))), told (Listing.givenBy x) (i .1)),
+        record { told = record { number = refl; values = refl }; line = refl },
+      );
+  once = λ i o p a b.
+      pair (wrote-same (o .0) (p .0) (one-answer (a .told .number) (b .told .number), one-answer (a .line) (b .line))) (one-answer (a .told .values) (b .told .values));
+}
+
+lists-text-fixed : Fixed (With (Lent × List ℕ)) (With (Left ℕ × List ℕ)) lists-text-promise
+lists-text-fixed = record {
+  total = λ i.
+      let s = i .0 .0 .input in
+      let t = tokensOutcome s (length (i .0 .0 .text)) (length (i .0 .0 .records)) in
+      let x = Listing.fitted (length (i .0 .1)) (lineOf s (givenBy t)) in (
+        ((left (Listing.givenBy x .number) (textBy t (i .0 .0 .text)) (recordsBy t (i .0 .0 .records)), Listing.bufferBy x (length (i .0 .1))), told (Listing.givenBy x) (i .1)),
+        record { texts = refl; words = refl; lists = record { told = record { number = refl; values = refl }; line = refl } },
+      );
+  once = λ i o p a b.
+      let e = left-same (o .0 .0) (p .0 .0) (one-answer (a .lists .told .number) (b .lists .told .number), one-answer (a .texts) (b .texts), one-answer (a .words) (b .words)) in
+      pair (pair e (one-answer (a .lists .line) (b .lists .line))) (one-answer (a .lists .told .values) (b .lists .told .values));
+}
 
 pub of-library : OfLibrary
-unfolding said buffers
 of-library = record {
-  told = λ g. record { total = λ values. (said g values, told g values); once = λ values o p x y. told-same x y };
-  fills = λ x. record {
-    total = λ i. ((buffers x (i .0), said (givenBy x) (i .1)), fills x (i .0) (i .1));
-    once = λ i o p a b. fills-same a b;
-  };
-  fills-actions = λ s. record {
-    total = λ i.
-        let x = actionsOutcome s (length (i .0 .0 .0)) (length (i .1)) (length (i .0 .0 .1)) in (
-          ((buffers x (i .0 .0), said (givenBy x) (i .0 .1)), scratchBy (actionsGate s (length (i .0 .0 .0)) (length (i .1))) s (i .1)),
-          record { fills = fills x (i .0 .0) (i .0 .1); scratch = refl },
-        );
-    once = λ i o p a b. pair (fills-same (a .fills) (b .fills)) (one-answer (a .scratch) (b .scratch));
-  };
-  steps = λ s c. record {
-    total = λ i.
-        let x = nextOutcome s c (length (i .0)) in
-        ((nextTextBy x (i .0), said (nextGivenBy x) (i .1)), record { told = told (nextGivenBy x) (i .1); texts = refl });
-    once = λ i o p a b. pair (one-answer (a .texts) (b .texts)) (told-same (a .told) (b .told));
-  };
-  lists = λ x. record {
-    total = λ i. ((Listing.bufferBy x (length (i .0)), said (Listing.givenBy x) (i .1)), record { told = told (Listing.givenBy x) (i .1); line = refl });
-    once = λ i o p a b. lists-same a b;
-  };
-  lists-text = λ s. record {
-    total = λ i.
-        let t = tokensOutcome s (length (i .0 .0)) (length (i .0 .1)) in
-        let x = Listing.fitted (length (i .1 .0)) (lineOf s (givenBy t)) in (
-          (buffers t (i .0), (Listing.bufferBy x (length (i .1 .0)), said (Listing.givenBy x) (i .1 .1))),
-          record { texts = refl; words = refl; lists = record { told = told (Listing.givenBy x) (i .1 .1); line = refl } },
-        );
-    once = λ i o p a b. pair (pair (one-answer (a .texts) (b .texts)) (one-answer (a .words) (b .words))) (lists-same (a .lists) (b .lists));
-  };
-  lookup = gives _;
-  test = gives _;
-  xml-target = gives _;
-  phase = gives _;
-  grade = gives _;
-  matches = gives _;
+  next-token = record { promises = record { tied = λ M 𝓤 H A mem run. refl; met = λ M 𝓤. Met.seclang-next-token 𝓤 }; fixed = steps-fixed };
+  tokens = record { promises = record { tied = λ M 𝓤 H A mem run. refl; met = λ M 𝓤. Met.seclang-tokens 𝓤 }; fixed = fills-fixed _ };
+  parse-actions = record { promises = record { tied = λ M 𝓤 H A mem run. refl; met = λ M 𝓤. Met.seclang-parse-actions 𝓤 }; fixed = fills-actions-fixed };
+  parse-setvar = record { promises = record { tied = λ M 𝓤 H A mem run. refl; met = λ M 𝓤. Met.seclang-parse-setvar 𝓤 }; fixed = fills-fixed _ };
+  parse-variables = record { promises = record { tied = λ M 𝓤 H A mem run. refl; met = λ M 𝓤. Met.seclang-parse-variables 𝓤 }; fixed = fills-fixed _ };
+  parse-update-targets = record { promises = record { tied = λ M 𝓤 H A mem run. refl; met = λ M 𝓤. Met.seclang-parse-update-targets 𝓤 }; fixed = fills-fixed _ };
+  parse-operator = record { promises = record { tied = λ M 𝓤 H A mem run. refl; met = λ M 𝓤. Met.seclang-parse-operator 𝓤 }; fixed = operator-fixed };
+  lookup = record { promises = record { tied = λ M 𝓤 H A mem run. refl; met = λ M 𝓤. Met.seclang-lookup 𝓤 }; fixed = λ κs. gives _ };
+  test = record { promises = record { tied = λ M 𝓤 H A mem run. refl; met = λ M 𝓤. Met.seclang-test 𝓤 }; fixed = λ κs. gives _ };
+  xml-target = record { promises = record { tied = λ M 𝓤 H A mem run. refl; met = λ M 𝓤. Met.seclang-xml-target 𝓤 }; fixed = λ κs. gives _ };
+  phase = record { promises = record { tied = λ M 𝓤 H A mem run. refl; met = λ M 𝓤. Met.seclang-phase 𝓤 }; fixed = λ κs. gives _ };
+  grade = record { promises = record { tied = λ M 𝓤 H A mem run. refl; met = λ M 𝓤. Met.seclang-grade 𝓤 }; fixed = λ κs. gives _ };
+  version = record { promises = record { tied = λ M 𝓤 H A mem run. refl; met = λ M 𝓤. Met.seclang-version 𝓤 }; fixed = λ κs. gives _ };
+  matches = record { promises = record { tied = λ M 𝓤 H A mem run. refl; met = λ M 𝓤. Met.seclang-matches 𝓤 }; fixed = λ κs. gives _ };
+  write-listing = record { promises = record { tied = λ M 𝓤 H A mem run. refl; met = λ M 𝓤. Met.seclang-write-listing 𝓤 }; fixed = lists-fixed recordsOutcome (λ i. i .buffer) };
+  write-refusal = record { promises = record { tied = λ M 𝓤 H A mem run. refl; met = λ M 𝓤. Met.seclang-write-refusal 𝓤 }; fixed = lists-fixed refusalOutcome (λ i. i .buffer) };
+  list-text = record { promises = record { tied = λ M 𝓤 H A mem run. refl; met = λ M 𝓤. Met.seclang-list-text 𝓤 }; fixed = lists-text-fixed };
 }

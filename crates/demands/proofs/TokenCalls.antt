@@ -18,6 +18,7 @@ use Rattle.lexer.specs.declared.stepping.Step.the-variants as Step
 use Rattle.lexer.specs.declared.writing.Answer as Lexer
 use Rattle.lexer.specs.declared.writing.Answer.the-variants as LexerAnswer
 use Rattle.lexer.proofs.GivenLaws as LexerLaws
+use Rattle.lexer.proofs.LayoutLaws.{words-length}
 use Rattle.demands.specs.Fixed.{Fixed}
 use Rattle.demands.specs.Calls.{Lent, Left, Wrote, Place, step-in-promise, next-token-promise, tokens-promise}
 use Rattle.demands.proofs.FixedLaws.{left-same, wrote-same}
@@ -67,21 +68,25 @@ next-token-fixed = record {
 -- ---- a whole text
 
 abbrev AnsweredTokens : Outcome Filled → Type 0
-AnsweredTokens = Answered L.answerGiven
+AnsweredTokens = Answered tokenWords L.answerGiven
 
 room-answered : (t : Bool) (n : ℕ) (x : T.Reading) → AnsweredTokens (pick t (refuses (noRoom n)) (reads (L.laidOut x)))
 room-answered true n x = record { answer = LexerAnswer.NoRoom n; is = refl; filling = tt }
 room-answered false n x =
-    record { answer = LexerAnswer.Read (length (x .tokens)) _ (x .stop .place) (x .stop .line) (x .stop .column); is = refl; filling = tt }
+    record {
+      answer = LexerAnswer.Read (length (x .tokens)) _ (x .stop .place) (x .stop .line) (x .stop .column);
+      is = refl;
+      filling = record { count = _; more = _; values = refl; words = words-length 0 (x .tokens) };
+    }
 
-gated : Gated L.answerGiven
+gated : Gated tokenWords L.answerGiven
 gated = record { long = (LexerAnswer.TooLong, refl); high = λ p. (LexerAnswer.NotAscii p, refl); short = (LexerAnswer.Short, refl) }
 
 tokens-answered : (i : Lent) → AnsweredTokens (L.tokensOutcome (i .input) (length (i .text)) (length (i .records)))
 unfolding L.tokensOutcome
 tokens-answered i =
     let count = length (T.reading (i .input) .tokens) in
-    past-gate L.answerGiven gated (gateOf (i .input) (length (i .text)) (length (i .input))) _
+    past-gate tokenWords L.answerGiven gated (gateOf (i .input) (length (i .text)) (length (i .input))) _
     (room-answered (ltb (roomFor tokenWords (length (i .records))) count) count (T.reading (i .input)))
 
 pub tokens-fixed : Fixed Lent (Left Lexer.Answer) tokens-promise
@@ -93,5 +98,5 @@ tokens-fixed = record {
   once = λ i o p x y. left-same o p (LexerLaws.tokens-once x y);
 }
 
-pub tokens-row : (i : Lent) (o : Left Lexer.Answer) → tokens-promise i o → Row (L.answerGiven (o .answer)) (i .text) (o .text) (i .records) (o .records)
-tokens-row i o x = row-of (L.tokensOutcome (i .input) (length (i .text)) (length (i .records))) (tokens-answered i .filling) (x .answer) (x .texts) (x .words)
+pub tokens-row : (i : Lent) (o : Left Lexer.Answer) → tokens-promise i o → Row tokenWords (L.answerGiven (o .answer)) (i .text) (o .text) (i .records) (o .records)
+tokens-row i o x = row-of tokenWords (L.tokensOutcome (i .input) (length (i .text)) (length (i .records))) (tokens-answered i .filling) (x .answer) (x .texts) (x .words)

@@ -1,9 +1,10 @@
 -- The promises of read_targets, parse_variables and parse_update_targets are total, have no second answer, and keep to document 01's table.
-use mathlib.Core.Path.{refl}
+use mathlib.Core.Path.{_≡_, refl}
 use mathlib.Core.Bool.{Bool, true, false}
 use mathlib.Core.List.{List, [], _∷_}
-use Prim.Native.Nat.{ℕ, _+_}
-use lib.ListN.{length}
+use Prim.Native.Nat.{ℕ, _+_, _*_}
+use native.Mathlib.Omega.{arith}
+use lib.ListN.{length, length-append}
 use lib.Dec.{ltb}
 use Rattle.ascii.specs.Choice.{pick}
 use Rattle.lent.specs.Sizes.{variableWords, roomFor}
@@ -11,6 +12,9 @@ use Rattle.lent.specs.Gates.{gateOf}
 use Rattle.lent.specs.Table.{noRoom, Outcome, refuses, reads, Filled, textBy, recordsBy}
 use Rattle.variables.specs.Parts.{pieces}
 use Rattle.variables.specs.Variables.{Variable, Targets, targets, refused, asWritten, lookedUp, readAll}
+use Rattle.lent.specs.Layout.{wordsOf}
+use Rattle.lent.proofs.LayoutLaws.{words-length}
+use Rattle.variables.specs.Layout.{variableRecord, exclusionRecord, chosenText, itself, selectionTexts, wordsFrom}
 use Rattle.variables.specs.Promises as Vars
 use Rattle.variables.specs.declared.Answer.{Answer}
 use Rattle.variables.specs.declared.Answer.the-variants as Answer
@@ -25,14 +29,31 @@ use Rattle.demands.proofs.RowLaws.{row-of}
 use Rattle.demands.proofs.AnswerLaws.{Answered, Gated, past-gate}
 
 abbrev AnsweredVariables : Outcome Filled → Type 0
-AnsweredVariables = Answered Vars.answerGiven
+AnsweredVariables = Answered variableWords Vars.answerGiven
+
+-- variables and exclusions have records of one width
+words-long : (vs : List Variable) (es : List (List ℕ)) → length (wordsFrom 0 vs es) ≡ (length vs + length es) * variableWords
+words-long vs es =
+    let o = 0 + length (selectionTexts vs) in
+    let e : length (wordsFrom 0 vs es) ≡ length (wordsOf variableRecord chosenText 0 vs) + length (wordsOf exclusionRecord itself o es)
+    = length-append (wordsOf variableRecord chosenText 0 vs) (wordsOf exclusionRecord itself o es) in
+    omega (
+      arith,
+      e,
+      words-length chosenText variableRecord variableWords (λ o v. refl) 0 vs,
+      words-length itself exclusionRecord variableWords (λ o e. refl) o es,
+    )
 
 room-told : (m : ℕ) (vs : List Variable) (es : List (List ℕ)) → AnsweredVariables (Vars.roomed m vs es)
 room-told m vs es = go (ltb (roomFor variableWords m) (length vs + length es))
   where
     go : (b : Bool) → AnsweredVariables (pick b (refuses (noRoom (length vs + length es))) (reads (Vars.laidOut vs es)))
     go true = record { answer = Answer.NoRoom (length vs + length es); is = refl; filling = tt }
-    go false = record { answer = Answer.Read (length vs + length es) _; is = refl; filling = tt }
+    go false = record {
+      answer = Answer.Read (length vs + length es) _;
+      is = refl;
+      filling = record { count = _; more = _; values = refl; words = words-long vs es };
+    }
 
 update-told : (m : ℕ) (t : Targets) → AnsweredVariables (Vars.updated m t)
 update-told m (targets vs es) = room-told m vs es
@@ -43,7 +64,7 @@ hung-told m (targets [] es) = room-told m [] []
 hung-told m (targets (v ∷ vs) es) = room-told m (v ∷ vs) es
 hung-told m (refused i name) = record { answer = Answer.Unknown i (length name); is = refl; filling = tt }
 
-gated : Gated Vars.answerGiven
+gated : Gated variableWords Vars.answerGiven
 gated = record { long = (Answer.TooLong, refl); high = λ p. (Answer.NotAscii p, refl); short = (Answer.Short, refl) }
 
 -- ---- read_targets
@@ -66,8 +87,8 @@ module _ (o : Lent → Outcome Filled) (a : (i : Lent) → AnsweredVariables (o 
     once = λ i l k x y. left-same l k (meets-once x y);
   }
 
-  met-row : (i : Lent) (l : Left Answer) → Met i l → Row (Vars.answerGiven (l .answer)) (i .text) (l .text) (i .records) (l .records)
-  met-row i l x = row-of (o i) (a i .filling) (x .answer) (x .texts) (x .words)
+  met-row : (i : Lent) (l : Left Answer) → Met i l → Row variableWords (Vars.answerGiven (l .answer)) (i .text) (l .text) (i .records) (l .records)
+  met-row i l x = row-of variableWords (o i) (a i .filling) (x .answer) (x .texts) (x .words)
 
 -- ---- parse_variables
 
@@ -77,13 +98,13 @@ listOutcome i = Vars.variablesOutcome (i .input) (length (i .text)) (length (i .
 list-answered : (i : Lent) → AnsweredVariables (listOutcome i)
 unfolding Vars.variablesOutcome
 list-answered i =
-    past-gate Vars.answerGiven gated (gateOf (i .input) (length (i .text)) (length (i .input))) _
+    past-gate variableWords Vars.answerGiven gated (gateOf (i .input) (length (i .text)) (length (i .input))) _
     (hung-told (length (i .records)) (readAll asWritten (pieces (i .input))))
 
 pub parse-variables-fixed : Fixed Lent (Left Answer) parse-variables-promise
 parse-variables-fixed = met-fixed listOutcome list-answered
 
-pub parse-variables-row : (i : Lent) (o : Left Answer) → parse-variables-promise i o → Row (Vars.answerGiven (o .answer)) (i .text) (o .text) (i .records) (o .records)
+pub parse-variables-row : (i : Lent) (o : Left Answer) → parse-variables-promise i o → Row variableWords (Vars.answerGiven (o .answer)) (i .text) (o .text) (i .records) (o .records)
 parse-variables-row = met-row listOutcome list-answered
 
 -- ---- parse_update_targets
@@ -94,12 +115,12 @@ updatesOutcome i = Vars.updateOutcome (i .input) (length (i .text)) (length (i .
 updates-answered : (i : Lent) → AnsweredVariables (updatesOutcome i)
 unfolding Vars.updateOutcome
 updates-answered i =
-    past-gate Vars.answerGiven gated (gateOf (i .input) (length (i .text)) (length (i .input))) _
+    past-gate variableWords Vars.answerGiven gated (gateOf (i .input) (length (i .text)) (length (i .input))) _
     (update-told (length (i .records)) (readAll lookedUp (pieces (i .input))))
 
 pub parse-update-targets-fixed : Fixed Lent (Left Answer) parse-update-targets-promise
 parse-update-targets-fixed = met-fixed updatesOutcome updates-answered
 
 pub parse-update-targets-row : (i : Lent) (o : Left Answer) → parse-update-targets-promise i o
-    → Row (Vars.answerGiven (o .answer)) (i .text) (o .text) (i .records) (o .records)
+    → Row variableWords (Vars.answerGiven (o .answer)) (i .text) (o .text) (i .records) (o .records)
 parse-update-targets-row = met-row updatesOutcome updates-answered

@@ -32,16 +32,25 @@ pub record Lent : Type 0 where
   pub text : List ℕ
   pub records : List ℕ
 
+abbrev pub lent : List ℕ → List ℕ → List ℕ → Lent
+lent s t w = record { input = s; text = t; records = w }
+
 -- An answer, and both buffers afterwards.
 pub record Left (Answer : Type 0) : Type 0 where
   pub answer : Answer
   pub text : List ℕ
   pub records : List ℕ
 
+abbrev pub left : {Answer : Type 0} → Answer → List ℕ → List ℕ → Left Answer
+left r t w = record { answer = r; text = t; records = w }
+
 -- An answer, and the one buffer lent.
 pub record Wrote (Answer : Type 0) : Type 0 where
   pub answer : Answer
   pub buffer : List ℕ
+
+abbrev pub wrote : {Answer : Type 0} → Answer → List ℕ → Wrote Answer
+wrote r b = record { answer = r; buffer = b }
 
 -- ---- the last step of a reader
 
@@ -63,6 +72,9 @@ pub record Place : Type 0 where
   pub input : List ℕ
   pub from : Cursor
   pub buffer : List ℕ
+
+abbrev pub place : List ℕ → Cursor → List ℕ → Place
+place s c b = record { input = s; from = c; buffer = b }
 
 abbrev pub step-in-promise : Place → Wrote Step → Type 0
 step-in-promise i o = StepIn (i .input) (i .from) (i .buffer) (o .buffer) (o .answer)

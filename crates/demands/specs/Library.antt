@@ -1,47 +1,102 @@
--- Demand 1 of the C functions: what each is lent and leaves, and that its promise is total with no second answer.
+-- Demand 1 of the C functions: what each is lent and leaves, of its own contract and its own code.
 use mathlib.Core.List.{List}
 use Prim.Native.Nat.{ℕ}
-use Rattle.lent.specs.Table.{Given, Outcome, Filled}
-use Rattle.lexer.specs.declared.Cursor.{Cursor}
+use lib.ListN.{length}
+use denote.Ref.{now}
+use Rattle.lent.specs.Table.{Outcome, Filled}
+use Rattle.lexer.specs.Cursors.{cursor}
+use Rattle.lexer.specs.Promises.{tokensOutcome}
+use Rattle.actions.specs.Promises.{setvarOutcome}
+use Rattle.variables.specs.Promises.{variablesOutcome, updateOutcome}
+use Rattle.operators.specs.Promises as Operators
 use Rattle.xml.specs.Xml.{xmlTarget}
 use Rattle.rules.specs.Entries.{entries}
 use Rattle.rules.specs.Phases.{phaseOf}
 use Rattle.rules.specs.Grades.{grades}
 use Rattle.rules.specs.Selectors.{matched}
-use mathlib.Core.Bool.{Bool}
+use Rattle.listing.specs.Listings.{refusal}
 use Rattle.listing.specs.Promises as Listing
 use Rattle.seclang.specs.Told.{Told}
-use Rattle.seclang.specs.Readers.{Fills, FillsActions, Steps, Lists, ListsText}
-use Rattle.seclang.specs.Codes.{codeOf, lookupIn, testOf, targetOf, selectorOf}
-use Rattle.demands.specs.Fixed.{Fixed, Gives}
+use Rattle.seclang.specs.Readers.{Fills, FillsActions, Steps, Lists, ListsText, stopOf}
+use Rattle.seclang.specs.Codes.{codeOf, lookupIn, testOf, targetOf, selectorOf, version}
+use Rattle.demands.specs.Contracts.{Answers, Keeps}
+use Rattle.demands.specs.Functions as F
+use Rattle.demands.specs.Calls.{Lent, lent, Left, left, Wrote, wrote, Place, place, Records, Refusal}
 
--- A number, and the words that its values stand in.
-abbrev pub Number : Type 0
-Number = ℕ × List ℕ
+-- What is lent besides: the words for values. They come second, in and out.
+abbrev pub With : Type 0 → Type 0
+With A = A × List ℕ
 
--- A text and a record buffer.
-abbrev pub Buffers : Type 0
-Buffers = List ℕ × List ℕ
+-- a reader of lists, by what it comes to
+abbrev pub fills-promise : (Lent → Outcome Filled) → With Lent → With (Left ℕ) → Type 0
+fills-promise outcome i o = Fills (outcome (i .0)) (i .0 .text) (o .0 .text) (i .0 .records) (o .0 .records) (i .1) (o .1) (o .0 .answer)
 
-pub record OfLibrary : Type 0 where
-  -- seclang_parse_operator: whatever is given, told in lent words
-  pub told : (g : Given) → Fixed (List ℕ) Number (λ values o. Told g values (o .1) (o .0))
-  -- seclang_tokens, seclang_parse_setvar, seclang_parse_variables, seclang_parse_update_targets: whatever the reader comes to
-  pub fills : (x : Outcome Filled) → Fixed (Buffers × List ℕ) (Buffers × Number)
-      (λ i o. Fills x (i .0 .0) (o .0 .0) (i .0 .1) (o .0 .1) (i .1) (o .1 .1) (o .1 .0))
-  -- seclang_parse_actions, with a scratch buffer
-  pub fills-actions : (s : List ℕ) → Fixed ((Buffers × List ℕ) × List ℕ) ((Buffers × Number) × List ℕ)
-      (λ i o. FillsActions s (i .0 .0 .0) (o .0 .0 .0) (i .1) (o .1) (i .0 .0 .1) (o .0 .0 .1) (i .0 .1) (o .0 .1 .1) (o .0 .1 .0))
-  -- seclang_next_token
-  pub steps : (s : List ℕ) (c : Cursor) → Fixed (List ℕ × List ℕ) (List ℕ × Number) (λ i o. Steps s c (i .0) (o .0) (i .1) (o .1 .1) (o .1 .0))
-  -- seclang_write_listing and seclang_write_refusal
-  pub lists : (x : Listing.Outcome) → Fixed (List ℕ × List ℕ) (List ℕ × Number) (λ i o. Lists x (i .0) (o .0) (i .1) (o .1 .1) (o .1 .0))
-  -- seclang_list_text
-  pub lists-text : (s : List ℕ) → Fixed (Buffers × (List ℕ × List ℕ)) (Buffers × (List ℕ × Number))
-      (λ i o. ListsText s (i .0 .0) (o .0 .0) (i .0 .1) (o .0 .1) (i .1 .0) (o .1 .0) (i .1 .1) (o .1 .1 .1) (o .1 .1 .0))
-  pub lookup : Gives (λ (i : ℕ × List ℕ). codeOf (lookupIn (i .0) (i .1)))
-  pub test : Gives (λ (i : ℕ × ℕ). testOf (i .0) (i .1))
-  pub xml-target : Gives (λ (i : ℕ × List ℕ). targetOf (xmlTarget (i .0) (i .1)))
-  pub phase : Gives (λ words. phaseOf (entries words))
-  pub grade : Gives (λ words. grades (entries words))
-  pub matches : Gives (λ (i : (Bool × ℕ) × (ℕ × ℕ)). matched (selectorOf (i .0 .0) (i .0 .1) (i .1 .0)) (i .1 .1))
+abbrev pub fills-actions-promise : With (Lent × List ℕ) → With (Left ℕ × List ℕ) → Type 0
+fills-actions-promise i o =
+    FillsActions (i .0 .0 .input) (i .0 .0 .text) (o .0 .0 .text) (i .0 .1) (o .0 .1) (i .0 .0 .records) (o .0 .0 .records) (i .1) (o .1) (o .0 .0 .answer)
+
+abbrev pub steps-promise : With Place → With (Wrote ℕ) → Type 0
+steps-promise i o = Steps (i .0 .input) (i .0 .from) (i .0 .buffer) (o .0 .buffer) (i .1) (o .1) (o .0 .answer)
+
+-- an operator: its number, and the words for values
+abbrev pub operator-promise : With (List ℕ) → With ℕ → Type 0
+operator-promise i o = Told (Operators.givenBy (i .0) (Operators.operatorOutcome (i .0))) (i .1) (o .1) (o .0)
+
+-- what is written of a listing, by what it comes to
+abbrev pub lists-promise : {In : Type 0} → (In → Listing.Outcome) → (In → List ℕ) → With In → With (Wrote ℕ) → Type 0
+lists-promise outcome buffer i o = Lists (outcome (i .0)) (buffer (i .0)) (o .0 .buffer) (i .1) (o .1) (o .0 .answer)
+
+abbrev pub recordsOutcome : Records → Listing.Outcome
+recordsOutcome i = Listing.listingOutcome (i .words) (i .texts) (i .stop) (length (i .buffer))
+
+abbrev pub refusalOutcome : Refusal → Listing.Outcome
+refusalOutcome i = Listing.fitted (length (i .buffer)) (refusal (i .number) (i .place))
+
+abbrev pub lists-text-promise : With (Lent × List ℕ) → With (Left ℕ × List ℕ) → Type 0
+lists-text-promise i o =
+    ListsText (i .0 .0 .input) (i .0 .0 .text) (o .0 .0 .text) (i .0 .0 .records) (o .0 .0 .records) (i .0 .1) (o .0 .1) (i .1) (o .1) (o .0 .0 .answer)
+
+pub record OfLibrary : Type 2 where
+  pub next-token : Keeps F.seclang-next-token (With Place) (With (Wrote ℕ)) steps-promise
+      (λ _ a. (place (now (a .0)) (cursor (a .1 .0) (a .1 .1 .0) (a .1 .1 .1 .0) (a .1 .1 .1 .1 .0)) (now (a .1 .1 .1 .1 .1 .0)), now (a .1 .1 .1 .1 .1 .1 .0)))
+      (λ _ r e. (wrote r (now (e .1 .1 .1 .1 .1 .0)), now (e .1 .1 .1 .1 .1 .1 .0)))
+  pub tokens : Keeps F.seclang-tokens (With Lent) (With (Left ℕ)) (fills-promise (λ i. tokensOutcome (i .input) (length (i .text)) (length (i .records))))
+      (λ _ a. (lent (now (a .0)) (now (a .1 .0)) (now (a .1 .1 .0)), now (a .1 .1 .1 .0)))
+      (λ _ r e. (left r (now (e .1 .0)) (now (e .1 .1 .0)), now (e .1 .1 .1 .0)))
+  pub parse-actions : Keeps F.seclang-parse-actions (With (Lent × List ℕ)) (With (Left ℕ × List ℕ)) fills-actions-promise
+      (λ _ a. ((lent (now (a .0)) (now (a .1 .0)) (now (a .1 .1 .1 .0)), now (a .1 .1 .0)), now (a .1 .1 .1 .1 .0)))
+      (λ _ r e. ((left r (now (e .1 .0)) (now (e .1 .1 .1 .0)), now (e .1 .1 .0)), now (e .1 .1 .1 .1 .0)))
+  pub parse-setvar : Keeps F.seclang-parse-setvar (With Lent) (With (Left ℕ)) (fills-promise (λ i. setvarOutcome (i .input) (length (i .text)) (length (i .records))))
+      (λ _ a. (lent (now (a .0)) (now (a .1 .0)) (now (a .1 .1 .0)), now (a .1 .1 .1 .0)))
+      (λ _ r e. (left r (now (e .1 .0)) (now (e .1 .1 .0)), now (e .1 .1 .1 .0)))
+  pub parse-variables : Keeps F.seclang-parse-variables (With Lent) (With (Left ℕ)) (fills-promise (λ i. variablesOutcome (i .input) (length (i .text)) (length (i .records))))
+      (λ _ a. (lent (now (a .0)) (now (a .1 .0)) (now (a .1 .1 .0)), now (a .1 .1 .1 .0)))
+      (λ _ r e. (left r (now (e .1 .0)) (now (e .1 .1 .0)), now (e .1 .1 .1 .0)))
+  pub parse-update-targets : Keeps F.seclang-parse-update-targets (With Lent) (With (Left ℕ)) (fills-promise (λ i. updateOutcome (i .input) (length (i .text)) (length (i .records))))
+      (λ _ a. (lent (now (a .0)) (now (a .1 .0)) (now (a .1 .1 .0)), now (a .1 .1 .1 .0)))
+      (λ _ r e. (left r (now (e .1 .0)) (now (e .1 .1 .0)), now (e .1 .1 .1 .0)))
+  pub parse-operator : Keeps F.seclang-parse-operator (With (List ℕ)) (With ℕ) operator-promise (λ _ a. (now (a .0), now (a .1 .0))) (λ _ r e. (r, now (e .1 .0)))
+  pub lookup : Answers F.seclang-lookup (λ _ a. codeOf (lookupIn (a .0) (now (a .1 .0))))
+  pub test : Answers F.seclang-test (λ _ a. testOf (a .0) (a .1 .0))
+  pub xml-target : Answers F.seclang-xml-target (λ _ a. targetOf (xmlTarget (a .0) (now (a .1 .0))))
+  pub phase : Answers F.seclang-phase (λ _ a. phaseOf (entries (now (a .0))))
+  pub grade : Answers F.seclang-grade (λ _ a. grades (entries (now (a .0))))
+  pub version : Answers F.seclang-version (λ _ a. version)
+  pub matches : Answers F.seclang-matches (λ _ a. matched (selectorOf (a .0) (a .1 .0) (a .1 .1 .0)) (a .1 .1 .1 .0))
+  pub write-listing : Keeps F.seclang-write-listing (With Records) (With (Wrote ℕ)) (lists-promise recordsOutcome (λ i. i .buffer))
+      (λ _ a. (
+        record {
+          words = now (a .0);
+          texts = now (a .1 .0);
+          stop = stopOf (a .1 .1 .0) (a .1 .1 .1 .0) (a .1 .1 .1 .1 .0);
+          buffer = now (a .1 .1 .1 .1 .1 .0);
+        },
+        now (a .1 .1 .1 .1 .1 .1 .0),
+      ))
+      (λ _ r e. (wrote r (now (e .1 .1 .1 .1 .1 .0)), now (e .1 .1 .1 .1 .1 .1 .0)))
+  pub write-refusal : Keeps F.seclang-write-refusal (With Refusal) (With (Wrote ℕ)) (lists-promise refusalOutcome (λ i. i .buffer))
+      (λ _ a. (record { number = a .0; place = a .1 .0; buffer = now (a .1 .1 .0) }, now (a .1 .1 .1 .0)))
+      (λ _ r e. (wrote r (now (e .1 .1 .0)), now (e .1 .1 .1 .0)))
+  pub list-text : Keeps F.seclang-list-text (With (Lent × List ℕ)) (With (Left ℕ × List ℕ)) lists-text-promise
+      (λ _ a. ((lent (now (a .0)) (now (a .1 .0)) (now (a .1 .1 .0)), now (a .1 .1 .1 .0)), now (a .1 .1 .1 .1 .0)))
+      (λ _ r e. ((left r (now (e .1 .0)) (now (e .1 .1 .0)), now (e .1 .1 .1 .0)), now (e .1 .1 .1 .1 .0)))

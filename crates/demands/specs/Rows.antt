@@ -1,12 +1,13 @@
 -- Document 01's table of numbers in plain words: what is given back, and what is left of a text buffer and a record buffer.
 use mathlib.Core.Path.{_≡_}
 use mathlib.Core.List.{List, [], _∷_}
-use Prim.Native.Nat.{ℕ}
+use Prim.Native.Nat.{ℕ, _*_}
 use lib.ListN.{length}
 use Rattle.lent.specs.Buffers.{zeros, padded}
 use Rattle.lent.specs.Table.{Given, given, Naming, namingNumber}
 
-module _ (g : Given) (text text′ records records′ : List ℕ) where
+-- of a reader with records of so many words
+module _ (width : ℕ) (g : Given) (text text′ records records′ : List ℕ) where
   -- Both buffers are as they were.
   pub record Untouched : Type 0 where
     pub text-kept : text′ ≡ text
@@ -14,8 +15,9 @@ module _ (g : Given) (text text′ records records′ : List ℕ) where
 
   -- The row that a call came to.
   pub data Row : Type 0 where
-    -- 0: records and text, zeros beyond
-    read : (values texts words : List ℕ) → g ≡ given 0 values → text′ ≡ padded (length text) texts → records′ ≡ padded (length records) words → Row
+    -- 0: how many records and bytes of text, and what else the reader gives; as many stand in the buffers, and zeros beyond
+    read : (count : ℕ) (more texts words : List ℕ) → g ≡ given 0 (count ∷ length texts ∷ more) → length words ≡ count * width
+        → text′ ≡ padded (length text) texts → records′ ≡ padded (length records) words → Row
     -- 1: the place 16,384; untouched
     too-long : g ≡ given 1 (16384 ∷ []) → Untouched → Row
     -- 2: the place of the first byte that is 128 or more; untouched
