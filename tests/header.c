@@ -142,8 +142,8 @@ static void check_action(const char *name, uint64_t code)
 {
     for (int how = AS_IS; how <= MIXED; how++) {
         bool read = actions(with("", in((enum letters)how, name), ":1")) == SECLANG_READ;
-        bool small_t = code == SECLANG_ACTION_T && how == AS_IS;
-        check(read != small_t && (!read || (values[0] == 1 && records[0] == code)), name, __LINE__);
+        bool capital_t = code == SECLANG_ACTION_T && how == AS_IS;
+        check(read != capital_t && (!read || (values[0] == 1 && records[0] == code)), name, __LINE__);
     }
 }
 
@@ -153,16 +153,17 @@ static void check_unnamed(const char *name, uint64_t code)
     check(lookup(SECLANG_TABLE_VARIABLES, name) != code, name, __LINE__);
 }
 
-#define VARIABLE(name) check_variable(#name, SECLANG_VARIABLE_##name), variable++;
-#define UNNAMED(name) check_unnamed(#name, SECLANG_UNNAMED_##name), unnamed++;
+#define VARIABLE(name) check_variable(#name, SECLANG_VARIABLE_##name), variable++, places[SECLANG_VARIABLE_##name]++;
+#define UNNAMED(name) check_unnamed(#name, SECLANG_UNNAMED_##name), unnamed++, places[SECLANG_UNNAMED_##name]++;
 #define OPERATOR(name) check_operator(#name, SECLANG_OPERATOR_##name), op++;
 #define SEVERITY(name) check_severity(#name, SECLANG_SEVERITY_##name), severity++;
 #define ACTION(name) check_action(#name, SECLANG_ACTION_##name), action++;
 
 static void check_names(void)
 {
-    int variable = 0, unnamed = 0, op = 0, severity = 0, action = 0;
+    int variable = 0, unnamed = 0, op = 0, severity = 0, action = 0, places[92] = {0};
 #include "names.inc"
+    for (size_t i = 0; i < 92; i++) CHECK(places[i] == 1);
     CHECK(variable == 76 && unnamed == 16 && op == 39 && severity == 8 && action == 32);
     CHECK(lookup(SECLANG_TABLE_VARIABLES, "ARG") == SECLANG_UNKNOWN);
     CHECK(lookup(SECLANG_TABLE_OPERATORS, "") == SECLANG_UNKNOWN);
