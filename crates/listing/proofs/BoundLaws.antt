@@ -14,13 +14,13 @@ use Rattle.lexer.specs.declared.Column.{Column}
 use Rattle.lexer.specs.Tokens.{Token, reading}
 use Rattle.lexer.specs.Places.{Placed, All, nil, cons, total}
 use Rattle.lexer.proofs.LoopLaws.{feeds-few, since-few}
+use Rattle.lexer.proofs.BoundLaws.{tokens-most}
 use Rattle.lexer.proofs.PlaceLaws.{all-map, places, texts-fit}
 use Rattle.lexer.proofs.StopLaws.{stop-line, stop-column}
 use Rattle.listing.specs.Json.{onto, decimal, trail, joined}
 use Rattle.listing.specs.Listings.{End, Early, rowOf, element, elements, stopAt, stopOf, listing, listLimit}
 use Rattle.listing.specs.Steps.{pair, stopTail}
 use Rattle.listing.proofs.ElementLaws.{row-length, early-length, joined-stopped}
-use Rattle.listing.proofs.MadeLaws.{count-fits}
 
 -- ---- numbers of five digits
 
@@ -116,6 +116,6 @@ module _ (s : List ℕ) (h : length s ≤ listLimit) where
         joined-short es,
         trail-short (all-map near (places s)),
         tail-short (length es) (reading s .stop .place) (length s) (reading s .stop .line) (reading s .stop .column) stop-lined stop-columned,
-        count-fits s,
+        tokens-most s,
         texts-fit s,
       ))
