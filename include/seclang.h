@@ -42,10 +42,9 @@
  *
  * HOW MUCH TO LEND. A text as long as the input is always enough (a setvar alone: three bytes more). For records,
  * SECLANG_TOKENS_MOST and the like say how many an input of n bytes can need at most: with room for these, 4 is never
- * given. That no input needs more is proved: listing/proofs/MadeLaws (count-fits), actions/proofs/BoundLaws,
- * variables/proofs/BoundLaws. That some input of each length needs as many is tested. With less room, 4 says how many
- * records this input needs, and the call can be made again. Zeros are written to the end of what is lent, so a large
- * buffer for a small input costs time.
+ * given. That is proved (BoundLaws in the proofs of lexer, actions and variables); that some input of each length
+ * needs as many is tested. With less room, 4 says how many records this input needs, and the call can be made again.
+ * Zeros are written to the end of what is lent, so a large buffer for a small input costs time.
  */
 #ifndef SECLANG_H
 #define SECLANG_H

@@ -380,6 +380,11 @@ static void check_numbers(void)
           values[0] == 2 && records[0] == 0);
     CHECK(actions("deny,,BOGUS,phase:x") == SECLANG_UNKNOWN_ACTION && first_values(1, 5) && refused_name("bogus"));
     CHECK(actions("deny,SKIPAFTER") == SECLANG_BAD_ARGUMENT && first_values(1, 9) && refused_name("skipAfter"));
+    CHECK(seclang_next_token(bytes("a"), 1, 0, 1, 1, true, text, 1, values, SECLANG_VALUES_MOST) == SECLANG_READ);
+    CHECK(values[0] == 1 && values[SECLANG_VALUES_MOST - 1] == 0);
+    values[0] = 77;
+    CHECK(seclang_next_token(bytes("a"), 1, 0, 1, 1, true, text, 1, values, SECLANG_VALUES_MOST - 1) == SECLANG_READ);
+    CHECK(values[0] == 77);
     CHECK(seclang_parse_operator(bytes("@rx a"), 5, few, 3) == SECLANG_READ && few[0] == 77 && few[2] == 77);
     CHECK(seclang_parse_operator(bytes("@x"), 2, few, 3) == SECLANG_UNKNOWN_OPERATOR && few[0] == 1 && few[1] == 1 &&
           few[2] == 77);
