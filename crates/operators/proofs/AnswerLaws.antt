@@ -24,7 +24,7 @@ use Rattle.names.specs.declared.Lookup.{Lookup}
 use Rattle.names.specs.declared.Lookup.the-variants as Lookup
 use Rattle.operators.specs.Operators.{Spec, Reading, nameOf, operator}
 use Rattle.operators.specs.Places.{afterAt, isNamed, argumentPlace}
-use Rattle.operators.specs.Promises.{answerGiven, outcomeOf, operatorOutcome, givenBy, argumentBy, argumentOf, OperatorIn, ParseOperator, OperatorArgument}
+use Rattle.operators.specs.Promises.{answerGiven, outcomeOf, operatorOutcome, givenBy, argumentOf, OperatorIn, ParseOperator, OperatorArgument}
 use Rattle.operators.specs.declared.Answer.{Answer}
 use Rattle.operators.specs.declared.Answer.the-variants as Answer
 use Rattle.operators.proofs.Answer.{the-type}
