@@ -1,21 +1,22 @@
 -- A line of plain bytes is closed: its last token is a Newline or a Comment that holds its line feed.
 -- No plain byte opens quotes, continues a line or stops reading, so that each step leaves a line, or takes the line feed.
-use mathlib.Core.Path.{_≡_, refl, ap}
+use mathlib.Core.Path.{_≡_, _∙_, refl, ap}
 use mathlib.Core.Logic.{_⊎_, inl, inr}
 use Prim.Native.Nat.{ℕ}
 use native.Mathlib.Omega.{arith}
-use mathlib.Core.Bool.{false}
-use mathlib.Core.List.{List, [], _∷_}
+use mathlib.Core.Bool.{true, false}
+use mathlib.Core.List.{List, []}
 use lib.ListN.{length}
 use lib.Dec.{eqb}
+use borrow.Author.Tests.{ne-eqb}
 use Rattle.lexer.specs.Bytes.{Class, Feed, Return, Gap, Upright, Hash, Quote, Slash, Other, class}
 use Rattle.lexer.specs.Cursors.{Cursor, moved}
 use Rattle.lexer.specs.Runs.{onward, Spot, run}
 use Rattle.lexer.specs.Rules.{before, beforeBy, word, wordBy, comment}
 use Rattle.lexer.specs.Tokens.{Token, Step, nothing, token, tokenBy, tokenAt, next, Reading, put, tokens}
 use Rattle.lexer.specs.Places.{feeds}
-use Rattle.lexer.specs.Parts.{among, Plain, ALine, feed, byte, EndsLf, Closer}
-use Rattle.ascii.proofs.TestLaws.{or-false}
+use Rattle.lexer.specs.Parts.{among, unplain, Plain, ALine, feed, byte, EndsLf, Closer}
+use Rattle.ascii.proofs.TestLaws.{apart}
 use Rattle.lexer.proofs.TestLaws.{either}
 use Rattle.lexer.proofs.NextLaws.{Taken, taken-place}
 use Rattle.lexer.proofs.TokenLaws.{by-tokens, lastOf, Shut, shut-later}
@@ -33,23 +34,17 @@ PlainBy Quote = ⊥
 PlainBy Slash = ⊥
 PlainBy Other = Unit {0}
 
--- a byte that is not among some is none of them
-abbrev NoneOf : ℕ → List ℕ → Type 0
-NoneOf b [] = Unit {0}
-NoneOf b (x ∷ xs) = (eqb b x ≡ false) × NoneOf b xs
-
-none-of : (b : ℕ) (xs : List ℕ) → among b xs ≡ false → NoneOf b xs
-none-of b [] h = tt
-none-of b (x ∷ xs) h = let e = or-false (eqb b x) (among b xs) h in (e .0, none-of b xs (e .1))
+-- a plain byte is none that a line may not have; that k is one of these is computed
+none-of : (b k : ℕ) → Plain b → among k unplain ≡ true → eqb b k ≡ false
+none-of b k h t = ne-eqb b k (λ e. apart (ap (λ (x : ℕ). among x unplain) e ∙ t) h)
 
 plain-flat : (b : ℕ) → Plain b → eqb b 10 ≡ false
-plain-flat b h = none-of b (10 ∷ 11 ∷ 12 ∷ 34 ∷ 39 ∷ 92 ∷ []) h .0
+plain-flat b h = none-of b 10 h refl
 
 plain-class : (b : ℕ) → Plain b → PlainBy (class b)
 unfolding class
 plain-class b h =
-    let n = none-of b (10 ∷ 11 ∷ 12 ∷ 34 ∷ 39 ∷ 92 ∷ []) h in
-    rw (n .0, n .1 .0, n .1 .1 .0, n .1 .1 .1 .0, n .1 .1 .1 .1 .0, n .1 .1 .1 .1 .1 .0)
+    rw (none-of b 10 h refl, none-of b 11 h refl, none-of b 12 h refl, none-of b 34 h refl, none-of b 39 h refl, none-of b 92 h refl)
     (either PlainBy (eqb b 13) (λ e. tt) (λ e. either PlainBy (eqb b 32) (λ e. tt) (λ e. either PlainBy (eqb b 9) (λ e. tt) (λ e. either PlainBy (eqb b 35) (λ e. tt) (λ e. tt)))))
 
 -- ---- a line

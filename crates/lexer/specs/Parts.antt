@@ -40,9 +40,13 @@ abbrev pub among : ℕ → List ℕ → Bool
 among b [] = false
 among b (x ∷ xs) = or (eqb b x) (among b xs)
 
--- No line feed, vertical tab, form feed, quotation mark or backslash.
+-- Line feed, vertical tab, form feed, both quotation marks and backslash.
+abbrev pub unplain : List ℕ
+unplain = 10 ∷ 11 ∷ 12 ∷ 34 ∷ 39 ∷ 92 ∷ []
+
+-- None of these.
 abbrev pub Plain : ℕ → Type 0
-Plain b = among b (10 ∷ 11 ∷ 12 ∷ 34 ∷ 39 ∷ 92 ∷ []) ≡ false
+Plain b = among b unplain ≡ false
 
 -- One line of such bytes, closed by a line feed.
 pub data ALine : List ℕ → Type 0 where
