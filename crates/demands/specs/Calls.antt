@@ -67,7 +67,7 @@ finish-promise i o = Finished (i .used) (i .count) (i .width) (i .text) (o .text
 
 -- ---- the readers
 
--- step_in, next_token, next_of and first_token: a text, a cursor and a buffer for the token's text.
+-- step_in, next_token, next_of, token_at and first_token: a text, a cursor and a buffer for the token's text.
 pub record Place : Type 0 where
   pub input : List ℕ
   pub from : Cursor

@@ -40,9 +40,16 @@ pub fn next_of<'a>(r: Reader<'a>, out: &mut [u8]) -> Step
     next_token(r.text, r.cursor, out)
 }
 
-// A text's first token: its parameters are plain, so whoever calls it needs no walk by hand.
+// A text's token from a cursor: its parameters are plain, so whoever calls it needs no walk by hand.
+pub fn token_at(text: &[u8], cursor: Cursor, out: &mut [u8]) -> Step
+    ensures { λ s. ⌜ NextToken (now (text .entry)) cursor (now (out .entry)) (now (out .exit)) s ⌝ }
+{
+    next_of(reader_at(reader_of(text), cursor), out)
+}
+
+// A text's first token.
 pub fn first_token(text: &[u8], out: &mut [u8]) -> Step
     ensures { λ s. ⌜ NextToken (now (text .entry)) fresh (now (out .entry)) (now (out .exit)) s ⌝ }
 {
-    next_of(reader_of(text), out)
+    token_at(text, start(), out)
 }
