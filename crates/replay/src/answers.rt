@@ -8,6 +8,7 @@ use crate::operating;
 use crate::phasing;
 use crate::selecting;
 use crate::targeting;
+use crate::thin;
 use ascii::Number;
 use names::Lookup;
 
@@ -75,6 +76,7 @@ pub fn answer(letter: u8, body: &[u8]) {
         b's' => print_code(names::severity_code(body)),
         b'T' => lexing::print_tokens(body),
         b'S' => lexing::print_step(body),
+        b'R' => thin::print_steps(body),
         b'p' => operating::print_operator(body),
         b'x' => selecting::print_xml(body),
         b'l' => targeting::print_variables(body),

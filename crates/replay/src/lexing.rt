@@ -74,19 +74,9 @@ fn print_lexeme(t: Lexeme) {
     print_number(t.len as u64);
 }
 
-// The body is a cursor, three words and a byte, and then the text.
-pub fn print_step(body: &[u8]) {
-    if body.len() < 25 {
-        return;
-    }
-    let from = Cursor {
-        place: hexes::word(&body[..8]) as usize,
-        line: Line(hexes::word(&body[8..16]) as usize),
-        column: Column(hexes::word(&body[16..24]) as usize),
-        mark: body[24] == 1,
-    };
-    let mut text = [0u8; sizes::TEXT];
-    match lexer::next_token(&body[25..], from, &mut text) {
+// What a step gave, with the text that it wrote.
+pub fn print_found(step: Step, text: &[u8]) {
+    match step {
         Step::Token(t) => {
             let next = t.next;
             let len = t.len;
@@ -94,7 +84,7 @@ pub fn print_step(body: &[u8]) {
             print_number(1);
             print_cursor(next);
             print_lexeme(t);
-            print_text(&text, len);
+            print_text(text, len);
         }
         Step::Nothing(c) => {
             print_number(0);
@@ -107,4 +97,20 @@ pub fn print_step(body: &[u8]) {
         Step::Short => print_refusal(3, 0),
         Step::BadCursor => print_refusal(9, 0),
     }
+}
+
+// The body is a cursor, three words and a byte, and then the text.
+pub fn print_step(body: &[u8]) {
+    if body.len() < 25 {
+        return;
+    }
+    let from = Cursor {
+        place: hexes::word(&body[..8]) as usize,
+        line: Line(hexes::word(&body[8..16]) as usize),
+        column: Column(hexes::word(&body[16..24]) as usize),
+        mark: body[24] == 1,
+    };
+    let mut text = [0u8; sizes::TEXT];
+    let step = lexer::next_token(&body[25..], from, &mut text);
+    print_found(step, &text);
 }

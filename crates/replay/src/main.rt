@@ -12,6 +12,7 @@ mod phasing;
 mod selecting;
 mod sizes;
 mod targeting;
+mod thin;
 mod words;
 
 use lines::Line;
