@@ -1,4 +1,3 @@
-pub mod Functions
 pub mod FixedLaws
 pub mod TokenCalls
 pub mod ActionCalls

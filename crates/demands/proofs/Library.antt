@@ -13,10 +13,26 @@ use Rattle.listing.specs.Listings.{lineOf}
 use Rattle.listing.specs.Promises as Listing
 use Rattle.seclang.specs.Told.{Told}
 use Rattle.seclang.specs.Readers.{Fills, Lists}
+use Rattle.seclang.proofs.seclang_grade as SeclangGrade
+use Rattle.seclang.proofs.seclang_lookup as SeclangLookup
+use Rattle.seclang.proofs.seclang_matches as SeclangMatches
+use Rattle.seclang.proofs.seclang_phase as SeclangPhase
+use Rattle.seclang.proofs.seclang_test as SeclangTest
+use Rattle.seclang.proofs.seclang_xml_target as SeclangXmlTarget
+use Rattle.seclang.proofs.seclang_list_text as SeclangListText
+use Rattle.seclang.proofs.seclang_write_listing as SeclangWriteListing
+use Rattle.seclang.proofs.seclang_write_refusal as SeclangWriteRefusal
+use Rattle.seclang.proofs.seclang_next_token as SeclangNextToken
+use Rattle.seclang.proofs.seclang_parse_actions as SeclangParseActions
+use Rattle.seclang.proofs.seclang_parse_operator as SeclangParseOperator
+use Rattle.seclang.proofs.seclang_parse_setvar as SeclangParseSetvar
+use Rattle.seclang.proofs.seclang_parse_update_targets as SeclangParseUpdateTargets
+use Rattle.seclang.proofs.seclang_parse_variables as SeclangParseVariables
+use Rattle.seclang.proofs.seclang_tokens as SeclangTokens
+use Rattle.seclang.proofs.seclang_version as SeclangVersion
 use Rattle.demands.specs.Fixed.{Fixed}
 use Rattle.demands.specs.Calls.{Lent, Left, left, Wrote, wrote, Place}
 use Rattle.demands.specs.Library.{With, fills-promise, fills-actions-promise, steps-promise, operator-promise, lists-promise, recordsOutcome, refusalOutcome, lists-text-promise, OfLibrary}
-use Rattle.demands.proofs.Functions as Met
 use Rattle.demands.proofs.FixedLaws.{gives, left-same, wrote-same}
 
 -- two pairs with equal parts are equal
@@ -107,21 +123,21 @@ lists-text-fixed = record {
 
 pub of-library : OfLibrary
 of-library = record {
-  next-token = record { promises = record { tied = λ M 𝓤 H A mem run. refl; met = λ M 𝓤. Met.seclang-next-token 𝓤 }; fixed = steps-fixed };
-  tokens = record { promises = record { tied = λ M 𝓤 H A mem run. refl; met = λ M 𝓤. Met.seclang-tokens 𝓤 }; fixed = fills-fixed _ };
-  parse-actions = record { promises = record { tied = λ M 𝓤 H A mem run. refl; met = λ M 𝓤. Met.seclang-parse-actions 𝓤 }; fixed = fills-actions-fixed };
-  parse-setvar = record { promises = record { tied = λ M 𝓤 H A mem run. refl; met = λ M 𝓤. Met.seclang-parse-setvar 𝓤 }; fixed = fills-fixed _ };
-  parse-variables = record { promises = record { tied = λ M 𝓤 H A mem run. refl; met = λ M 𝓤. Met.seclang-parse-variables 𝓤 }; fixed = fills-fixed _ };
-  parse-update-targets = record { promises = record { tied = λ M 𝓤 H A mem run. refl; met = λ M 𝓤. Met.seclang-parse-update-targets 𝓤 }; fixed = fills-fixed _ };
-  parse-operator = record { promises = record { tied = λ M 𝓤 H A mem run. refl; met = λ M 𝓤. Met.seclang-parse-operator 𝓤 }; fixed = operator-fixed };
-  lookup = record { promises = record { tied = λ M 𝓤 H A mem run. refl; met = λ M 𝓤. Met.seclang-lookup 𝓤 }; fixed = λ κs. gives _ };
-  test = record { promises = record { tied = λ M 𝓤 H A mem run. refl; met = λ M 𝓤. Met.seclang-test 𝓤 }; fixed = λ κs. gives _ };
-  xml-target = record { promises = record { tied = λ M 𝓤 H A mem run. refl; met = λ M 𝓤. Met.seclang-xml-target 𝓤 }; fixed = λ κs. gives _ };
-  phase = record { promises = record { tied = λ M 𝓤 H A mem run. refl; met = λ M 𝓤. Met.seclang-phase 𝓤 }; fixed = λ κs. gives _ };
-  grade = record { promises = record { tied = λ M 𝓤 H A mem run. refl; met = λ M 𝓤. Met.seclang-grade 𝓤 }; fixed = λ κs. gives _ };
-  version = record { promises = record { tied = λ M 𝓤 H A mem run. refl; met = λ M 𝓤. Met.seclang-version 𝓤 }; fixed = λ κs. gives _ };
-  matches = record { promises = record { tied = λ M 𝓤 H A mem run. refl; met = λ M 𝓤. Met.seclang-matches 𝓤 }; fixed = λ κs. gives _ };
-  write-listing = record { promises = record { tied = λ M 𝓤 H A mem run. refl; met = λ M 𝓤. Met.seclang-write-listing 𝓤 }; fixed = lists-fixed recordsOutcome (λ i. i .buffer) };
-  write-refusal = record { promises = record { tied = λ M 𝓤 H A mem run. refl; met = λ M 𝓤. Met.seclang-write-refusal 𝓤 }; fixed = lists-fixed refusalOutcome (λ i. i .buffer) };
-  list-text = record { promises = record { tied = λ M 𝓤 H A mem run. refl; met = λ M 𝓤. Met.seclang-list-text 𝓤 }; fixed = lists-text-fixed };
+  next-token = record { promises = record { code = SeclangNextToken.Symbol.routine; tied = λ M. refl; met = λ M. SeclangNextToken.Met.met }; fixed = steps-fixed };
+  tokens = record { promises = record { code = SeclangTokens.Symbol.routine; tied = λ M. refl; met = λ M. SeclangTokens.Met.met }; fixed = fills-fixed _ };
+  parse-actions = record { promises = record { code = SeclangParseActions.Symbol.routine; tied = λ M. refl; met = λ M. SeclangParseActions.Met.met }; fixed = fills-actions-fixed };
+  parse-setvar = record { promises = record { code = SeclangParseSetvar.Symbol.routine; tied = λ M. refl; met = λ M. SeclangParseSetvar.Met.met }; fixed = fills-fixed _ };
+  parse-variables = record { promises = record { code = SeclangParseVariables.Symbol.routine; tied = λ M. refl; met = λ M. SeclangParseVariables.Met.met }; fixed = fills-fixed _ };
+  parse-update-targets = record { promises = record { code = SeclangParseUpdateTargets.Symbol.routine; tied = λ M. refl; met = λ M. SeclangParseUpdateTargets.Met.met }; fixed = fills-fixed _ };
+  parse-operator = record { promises = record { code = SeclangParseOperator.Symbol.routine; tied = λ M. refl; met = λ M. SeclangParseOperator.Met.met }; fixed = operator-fixed };
+  lookup = record { promises = record { code = SeclangLookup.Symbol.routine; tied = λ M. refl; met = λ M. SeclangLookup.Met.met }; fixed = λ κs. gives _ };
+  test = record { promises = record { code = SeclangTest.Symbol.routine; tied = λ M. refl; met = λ M. SeclangTest.Met.met }; fixed = λ κs. gives _ };
+  xml-target = record { promises = record { code = SeclangXmlTarget.Symbol.routine; tied = λ M. refl; met = λ M. SeclangXmlTarget.Met.met }; fixed = λ κs. gives _ };
+  phase = record { promises = record { code = SeclangPhase.Symbol.routine; tied = λ M. refl; met = λ M. SeclangPhase.Met.met }; fixed = λ κs. gives _ };
+  grade = record { promises = record { code = SeclangGrade.Symbol.routine; tied = λ M. refl; met = λ M. SeclangGrade.Met.met }; fixed = λ κs. gives _ };
+  version = record { promises = record { code = SeclangVersion.Symbol.routine; tied = λ M. refl; met = λ M. SeclangVersion.Met.met }; fixed = λ κs. gives _ };
+  matches = record { promises = record { code = SeclangMatches.Symbol.routine; tied = λ M. refl; met = λ M. SeclangMatches.Met.met }; fixed = λ κs. gives _ };
+  write-listing = record { promises = record { code = SeclangWriteListing.Symbol.routine; tied = λ M. refl; met = λ M. SeclangWriteListing.Met.met }; fixed = lists-fixed recordsOutcome (λ i. i .buffer) };
+  write-refusal = record { promises = record { code = SeclangWriteRefusal.Symbol.routine; tied = λ M. refl; met = λ M. SeclangWriteRefusal.Met.met }; fixed = lists-fixed refusalOutcome (λ i. i .buffer) };
+  list-text = record { promises = record { code = SeclangListText.Symbol.routine; tied = λ M. refl; met = λ M. SeclangListText.Met.met }; fixed = lists-text-fixed };
 }

@@ -47,8 +47,73 @@ use Rattle.rules.specs.Phases.{phaseOf}
 use Rattle.rules.specs.Grades.{grades}
 use Rattle.rules.specs.Selectors.{matched}
 use Rattle.listing.specs.declared.Answer as Listing
+use Rattle.ascii.proofs.ends_operator_name as EndsOperatorName
+use Rattle.ascii.proofs.is_digit as IsDigit
+use Rattle.ascii.proofs.is_white as IsWhite
+use Rattle.ascii.proofs.is_same as IsSame
+use Rattle.ascii.proofs.same_lowered as SameLowered
+use Rattle.ascii.proofs.to_lower as ToLower
+use Rattle.ascii.proofs.to_upper as ToUpper
+use Rattle.ascii.proofs.digits as Digits
+use Rattle.ascii.proofs.signed as Signed
+use Rattle.ascii.proofs.unsigned as Unsigned
+use Rattle.ascii.proofs.first_of as FirstOf
+use Rattle.ascii.proofs.leading_white as LeadingWhite
+use Rattle.ascii.proofs.trim as Trim
+use Rattle.ascii.proofs.trim_end as TrimEnd
+use Rattle.ascii.proofs.trim_start as TrimStart
+use Rattle.ascii.proofs.trimmed as Trimmed
+use Rattle.ascii.proofs.trimmed_len as TrimmedLen
+use Rattle.lent.proofs.finish as Finish
+use Rattle.lent.proofs.refuse_piece as RefusePiece
+use Rattle.lent.proofs.starts as Starts
+use Rattle.lent.proofs.clear_bytes as ClearBytes
+use Rattle.lent.proofs.clear_words as ClearWords
+use Rattle.lent.proofs.store_bytes as StoreBytes
+use Rattle.lent.proofs.store_words as StoreWords
+use Rattle.lent.proofs.admit as Admit
+use Rattle.lent.proofs.first_high as FirstHigh
+use Rattle.lent.proofs.room as Room
+use Rattle.lent.proofs.span as Span
+use Rattle.lent.proofs.span_length as SpanLength
+use Rattle.lent.proofs.span_offset as SpanOffset
+use Rattle.names.proofs.operator_code as OperatorCode
+use Rattle.names.proofs.requires_argument as RequiresArgument
+use Rattle.names.proofs.severity_code as SeverityCode
+use Rattle.names.proofs.is_collection as IsCollection
+use Rattle.names.proofs.is_implemented as IsImplemented
+use Rattle.names.proofs.variable_code as VariableCode
+use Rattle.lexer.proofs.next_token as NextToken
+use Rattle.lexer.proofs.step_in as StepIn
+use Rattle.lexer.proofs.start as Start
+use Rattle.lexer.proofs.tokens as TokensOf
+use Rattle.reader.proofs.reader_of as ReaderOf
+use Rattle.reader.proofs.reader_at as ReaderAt
+use Rattle.reader.proofs.next_of as NextOf
+use Rattle.reader.proofs.token_at as TokenAt
+use Rattle.reader.proofs.first_token as FirstToken
+use Rattle.records.proofs.is_text as IsText
+use Rattle.single_action.proofs.read_single as ReadSingle
+use Rattle.single_action.proofs.read_setvar as ReadSetvar
+use Rattle.single_action.proofs.put_name as PutName
+use Rattle.actions.proofs.normalise as Normalise
+use Rattle.actions.proofs.parse_actions as ParseActions
+use Rattle.actions.proofs.parse_setvar as ParseSetvar
+use Rattle.actions.proofs.read_actions as ReadActions
+use Rattle.variables.proofs.parse_update_targets as ParseUpdateTargets
+use Rattle.variables.proofs.parse_variables as ParseVariables
+use Rattle.variables.proofs.read_targets as ReadTargets
+use Rattle.xml.proofs.xml_target as XmlTarget
+use Rattle.operators.proofs.operator_argument as OperatorArgument
+use Rattle.operators.proofs.operator_in as OperatorIn
+use Rattle.operators.proofs.parse_operator as ParseOperator
+use Rattle.rules.proofs.grade as Grade
+use Rattle.rules.proofs.phase as Phase
+use Rattle.rules.proofs.selecting.RuleIdSelector.matches as Matches
+use Rattle.listing.proofs.list_text as ListText
+use Rattle.listing.proofs.write_listing as WriteListing
+use Rattle.listing.proofs.write_refusal as WriteRefusal
 use Rattle.demands.specs.Contracts.{Promises, Decides, Answers, Keeps}
-use Rattle.demands.specs.Functions as F
 use Rattle.demands.specs.Calls.{Lent, lent, Left, left, Wrote, wrote, Filling, finish-promise, Place, place, Records, Refusal, step-in-promise, next-token-promise, tokens-promise, parse-actions-promise, normalise-promise, read-actions-promise, parse-setvar-promise, parse-variables-promise, parse-update-targets-promise, From, read-targets-promise, operator-in-promise, parse-operator-promise, operator-argument-promise, write-listing-promise, write-refusal-promise, list-text-promise}
 use Rattle.demands.specs.Rows.{Row}
 use Rattle.demands.specs.Library.{OfLibrary}
@@ -57,108 +122,114 @@ use Rattle.demands.specs.Library.{OfLibrary}
 
 -- ---- functions that lend nothing to be written
 
--- Bytes and numbers; a part handed back is a part of the caller's text, where it stands there.
-pub record OfBytes : Type 2 where
-  pub is-white : Answers F.is-white (λ _ a. white (a .0))
-  pub ends-operator-name : Answers F.ends-operator-name (λ _ a. operatorNameEnd (a .0))
-  pub is-digit : Answers F.is-digit (λ _ a. digit (a .0))
-  pub to-lower : Answers F.to-lower (λ _ a. lower (a .0))
-  pub to-upper : Answers F.to-upper (λ _ a. upper (a .0))
-  pub is-same : Answers F.is-same (λ _ a. same (now (a .0)) (now (a .1 .0)))
-  pub same-lowered : Answers F.same-lowered (λ _ a. sameLowered (now (a .0)) (now (a .1 .0)))
-  pub leading-white : Answers F.leading-white (λ _ a. leadingWhite (now (a .0)))
-  pub trimmed-len : Answers F.trimmed-len (λ _ a. length (trimEnd (now (a .0))))
-  pub trim-start : Keeps F.trim-start Standing Standing (λ s r. r ≡ trimStartOf s) (λ _ a. standing (a .0)) (λ _ r e. standing r)
-  pub trim-end : Keeps F.trim-end Standing Standing (λ s r. r ≡ trimEndOf s) (λ _ a. standing (a .0)) (λ _ r e. standing r)
-  pub trim : Keeps F.trim Standing Standing (λ s r. r ≡ trimEndsOf s) (λ _ a. standing (a .0)) (λ _ r e. standing r)
-  pub trimmed : Answers F.trimmed (λ _ a. trimmedPart (now (a .0)))
-  pub first-of : Answers F.first-of (λ _ a. firstOf (a .1 .0) (now (a .0)))
-  pub digits : Answers F.digits (λ _ a. digitsBy (a .1 .0) (now (a .0)))
-  pub unsigned : Answers F.unsigned (λ _ a. unsignedBy (a .1 .0) (now (a .0)))
-  pub signed : Answers F.signed (λ _ a. signedWord (now (a .0)))
+-- Bytes: classes and letter case.
+pub record OfBytes : Type 3 where
+  pub is-white : Answers IsWhite.ended IsWhite.Statement.statement (λ _ a. white (a .0))
+  pub ends-operator-name : Answers EndsOperatorName.ended EndsOperatorName.Statement.statement (λ _ a. operatorNameEnd (a .0))
+  pub is-digit : Answers IsDigit.ended IsDigit.Statement.statement (λ _ a. digit (a .0))
+  pub to-lower : Answers ToLower.ended ToLower.Statement.statement (λ _ a. lower (a .0))
+  pub to-upper : Answers ToUpper.ended ToUpper.Statement.statement (λ _ a. upper (a .0))
+
+-- Texts; a part handed back is a part of the caller's text, where it stands there.
+pub record OfTexts : Type 3 where
+  pub is-same : Answers IsSame.ended IsSame.Statement.statement (λ _ a. same (now (a .0)) (now (a .1 .0)))
+  pub same-lowered : Answers SameLowered.ended SameLowered.Statement.statement (λ _ a. sameLowered (now (a .0)) (now (a .1 .0)))
+  pub leading-white : Answers LeadingWhite.ended LeadingWhite.Statement.statement (λ _ a. leadingWhite (now (a .0)))
+  pub trimmed-len : Answers TrimmedLen.ended TrimmedLen.Statement.statement (λ _ a. length (trimEnd (now (a .0))))
+  pub trim-start : Keeps TrimStart.ended TrimStart.Statement.statement Standing Standing (λ s r. r ≡ trimStartOf s) (λ _ a. standing (a .0)) (λ _ r e. standing r)
+  pub trim-end : Keeps TrimEnd.ended TrimEnd.Statement.statement Standing Standing (λ s r. r ≡ trimEndOf s) (λ _ a. standing (a .0)) (λ _ r e. standing r)
+  pub trim : Keeps Trim.ended Trim.Statement.statement Standing Standing (λ s r. r ≡ trimEndsOf s) (λ _ a. standing (a .0)) (λ _ r e. standing r)
+  pub trimmed : Answers Trimmed.ended Trimmed.Statement.statement (λ _ a. trimmedPart (now (a .0)))
+  pub first-of : Answers FirstOf.ended FirstOf.Statement.statement (λ _ a. firstOf (a .1 .0) (now (a .0)))
+
+-- Numbers, over any width.
+pub record OfNumbers : Type 3 where
+  pub digits : Answers Digits.ended Digits.Statement.statement (λ _ a. digitsBy (a .1 .0) (now (a .0)))
+  pub unsigned : Answers Unsigned.ended Unsigned.Statement.statement (λ _ a. unsignedBy (a .1 .0) (now (a .0)))
+  pub signed : Answers Signed.ended Signed.Statement.statement (λ _ a. signedWord (now (a .0)))
 
 -- The gate, sizes and spans; what a buffer holds afterwards, bytes and words alike.
-pub record OfLent : Type 2 where
-  pub admit : Answers F.admit (λ _ a. gateOf (now (a .0)) (a .1 .0) (a .1 .1 .0))
-  pub first-high : Answers F.first-high (λ _ a. firstHigh (now (a .0)))
-  pub span : Answers F.span (λ _ a. spanWord (a .0) (a .1 .0))
-  pub span-offset : Answers F.span-offset (λ _ a. spanOffset (a .0))
-  pub span-length : Answers F.span-length (λ _ a. spanLength (a .0))
-  pub room : Answers F.room (λ _ a. roomFor (a .1 .0) (a .0))
-  pub clear-bytes : Keeps F.clear-bytes (List ℕ) (List ℕ) (λ out o. o ≡ zeros (length out)) (λ _ a. now (a .0)) (λ _ r e. now (e .0))
-  pub clear-words : Keeps F.clear-words (List ℕ) (List ℕ) (λ out o. o ≡ zeros (length out)) (λ _ a. now (a .0)) (λ _ r e. now (e .0))
-  pub store-bytes : Keeps F.store-bytes (List ℕ × ℕ × List ℕ) (List ℕ) (λ i o. o ≡ stored (i .0) (i .1) (i .2))
+pub record OfLent : Type 3 where
+  pub admit : Answers Admit.ended Admit.Statement.statement (λ _ a. gateOf (now (a .0)) (a .1 .0) (a .1 .1 .0))
+  pub first-high : Answers FirstHigh.ended FirstHigh.Statement.statement (λ _ a. firstHigh (now (a .0)))
+  pub span : Answers Span.ended Span.Statement.statement (λ _ a. spanWord (a .0) (a .1 .0))
+  pub span-offset : Answers SpanOffset.ended SpanOffset.Statement.statement (λ _ a. spanOffset (a .0))
+  pub span-length : Answers SpanLength.ended SpanLength.Statement.statement (λ _ a. spanLength (a .0))
+  pub room : Answers Room.ended Room.Statement.statement (λ _ a. roomFor (a .1 .0) (a .0))
+  pub clear-bytes : Keeps ClearBytes.ended ClearBytes.Statement.statement (List ℕ) (List ℕ) (λ out o. o ≡ zeros (length out)) (λ _ a. now (a .0)) (λ _ r e. now (e .0))
+  pub clear-words : Keeps ClearWords.ended ClearWords.Statement.statement (List ℕ) (List ℕ) (λ out o. o ≡ zeros (length out)) (λ _ a. now (a .0)) (λ _ r e. now (e .0))
+  pub store-bytes : Keeps StoreBytes.ended StoreBytes.Statement.statement (List ℕ × ℕ × List ℕ) (List ℕ) (λ i o. o ≡ stored (i .0) (i .1) (i .2))
       (λ _ a. (now (a .0), a .1 .0, now (a .1 .1 .0))) (λ _ r e. now (e .0))
-  pub store-words : Keeps F.store-words (List ℕ × ℕ × List ℕ) (List ℕ) (λ i o. o ≡ stored (i .0) (i .1) (i .2))
+  pub store-words : Keeps StoreWords.ended StoreWords.Statement.statement (List ℕ × ℕ × List ℕ) (List ℕ) (λ i o. o ≡ stored (i .0) (i .1) (i .2))
       (λ _ a. (now (a .0), a .1 .0, now (a .1 .1 .0))) (λ _ r e. now (e .0))
   -- where a reader may start, how it ends, and what a refusal by name leaves of both buffers
-  pub starts : Answers F.starts (λ _ a. startsAt (a .0) (a .1 .0) (a .1 .1 .0) (a .1 .1 .1 .0))
-  pub finish : Keeps F.finish Filling (Left Bool) finish-promise
+  pub starts : Answers Starts.ended Starts.Statement.statement (λ _ a. startsAt (a .0) (a .1 .0) (a .1 .1 .0) (a .1 .1 .1 .0))
+  pub finish : Keeps Finish.ended Finish.Statement.statement Filling (Left Bool) finish-promise
       (λ _ a. record { text = now (a .0); used = a .1 .0; records = now (a .1 .1 .0); count = a .1 .1 .1 .0; width = a .1 .1 .1 .1 .0 })
       (λ _ r e. left r (now (e .0)) (now (e .1 .1 .0)))
-  pub refuse-piece : Keeps F.refuse-piece Lent (List ℕ × List ℕ)
+  pub refuse-piece : Keeps RefusePiece.ended RefusePiece.Statement.statement Lent (List ℕ × List ℕ)
       (λ i o. (o .0 ≡ stored (zeros (length (i .text))) 0 (i .input)) × (o .1 ≡ zeros (length (i .records))))
       (λ _ a. lent (now (a .1 .1 .0)) (now (a .0)) (now (a .1 .0))) (λ _ r e. (now (e .0), now (e .1 .0)))
 
 -- Lookups, and tests on a code, a selection, an id, records or a word of one: they answer on anything, and never by the table.
-pub record OfNames : Type 2 where
-  pub variable-code : Answers F.variable-code (λ _ a. variableCode (now (a .0)))
-  pub operator-code : Answers F.operator-code (λ _ a. operatorCode (now (a .0)))
-  pub severity-code : Answers F.severity-code (λ _ a. severityCode (now (a .0)))
-  pub is-collection : Answers F.is-collection (λ _ a. isCollection (a .0))
-  pub is-implemented : Answers F.is-implemented (λ _ a. isImplemented (a .0))
-  pub requires-argument : Answers F.requires-argument (λ _ a. requiresArgument (a .0))
-  pub xml-target : Answers F.xml-target (λ _ a. xmlTarget (a .0) (now (a .1 .0)))
-  pub matches : Answers F.matches (λ _ a. matched (a .0) (a .1 .0))
-  pub phase : Answers F.phase (λ _ a. phaseOf (entries (now (a .0))))
-  pub grade : Answers F.grade (λ _ a. grades (entries (now (a .0))))
-  pub is-text : Answers F.is-text (λ _ a. getD (marksFor (a .0) (a .1 .0)) (a .1 .1 .0) false)
+pub record OfNames : Type 3 where
+  pub variable-code : Answers VariableCode.ended VariableCode.Statement.statement (λ _ a. variableCode (now (a .0)))
+  pub operator-code : Answers OperatorCode.ended OperatorCode.Statement.statement (λ _ a. operatorCode (now (a .0)))
+  pub severity-code : Answers SeverityCode.ended SeverityCode.Statement.statement (λ _ a. severityCode (now (a .0)))
+  pub is-collection : Answers IsCollection.ended IsCollection.Statement.statement (λ _ a. isCollection (a .0))
+  pub is-implemented : Answers IsImplemented.ended IsImplemented.Statement.statement (λ _ a. isImplemented (a .0))
+  pub requires-argument : Answers RequiresArgument.ended RequiresArgument.Statement.statement (λ _ a. requiresArgument (a .0))
+  pub xml-target : Answers XmlTarget.ended XmlTarget.Statement.statement (λ _ a. xmlTarget (a .0) (now (a .1 .0)))
+  pub matches : Answers Matches.ended Matches.Statement.statement (λ _ a. matched (a .0) (a .1 .0))
+  pub phase : Answers Phase.ended Phase.Statement.statement (λ _ a. phaseOf (entries (now (a .0))))
+  pub grade : Answers Grade.ended Grade.Statement.statement (λ _ a. grades (entries (now (a .0))))
+  pub is-text : Answers IsText.ended IsText.Statement.statement (λ _ a. getD (marksFor (a .0) (a .1 .0)) (a .1 .1 .0) false)
 
 -- ---- the readers
 
 -- The lexer, and the reader that holds a reference to its text, of whatever kind.
-pub record OfLexer : Type 2 where
-  pub start : Answers F.start (λ _ a. fresh)
-  pub step-in : Keeps F.step-in Place (Wrote Step) step-in-promise (λ _ a. place (now (a .0)) (a .1 .0) (now (a .1 .1 .0))) (λ _ r e. wrote r (now (e .1 .1 .0)))
-  pub next-token : Keeps F.next-token Place (Wrote Step) next-token-promise
+pub record OfLexer : Type 3 where
+  pub start : Answers Start.ended Start.Statement.statement (λ _ a. fresh)
+  pub step-in : Keeps StepIn.ended StepIn.Statement.statement Place (Wrote Step) step-in-promise (λ _ a. place (now (a .0)) (a .1 .0) (now (a .1 .1 .0))) (λ _ r e. wrote r (now (e .1 .1 .0)))
+  pub next-token : Keeps NextToken.ended NextToken.Statement.statement Place (Wrote Step) next-token-promise
       (λ _ a. place (now (a .0)) (a .1 .0) (now (a .1 .1 .0))) (λ _ r e. wrote r (now (e .1 .1 .0)))
-  pub tokens : Keeps F.tokens Lent (Left Tokens.Answer) tokens-promise
+  pub tokens : Keeps TokensOf.ended TokensOf.Statement.statement Lent (Left Tokens.Answer) tokens-promise
       (λ _ a. lent (now (a .0)) (now (a .1 .0)) (now (a .1 .1 .0))) (λ _ r e. left r (now (e .1 .0)) (now (e .1 .1 .0)))
-  pub reader-of : Decides F.reader-of (λ _ a r. (r .text ≡ a .0) × (r .cursor ≡ fresh))
-  pub reader-at : Decides F.reader-at (λ _ a r. (r .text ≡ a .0 .text) × (r .cursor ≡ a .1 .0))
-  pub next-of : Keeps F.next-of Place (Wrote Step) next-token-promise
+  pub reader-of : Decides ReaderOf.ended ReaderOf.Statement.statement (λ _ a r. (r .text ≡ a .0) × (r .cursor ≡ fresh))
+  pub reader-at : Decides ReaderAt.ended ReaderAt.Statement.statement (λ _ a r. (r .text ≡ a .0 .text) × (r .cursor ≡ a .1 .0))
+  pub next-of : Keeps NextOf.ended NextOf.Statement.statement Place (Wrote Step) next-token-promise
       (λ _ a. place (now (a .0 .text)) (a .0 .cursor) (now (a .1 .0))) (λ _ r e. wrote r (now (e .1 .0)))
-  pub token-at : Keeps F.token-at Place (Wrote Step) next-token-promise
+  pub token-at : Keeps TokenAt.ended TokenAt.Statement.statement Place (Wrote Step) next-token-promise
       (λ _ a. place (now (a .0)) (a .1 .0) (now (a .1 .1 .0))) (λ _ r e. wrote r (now (e .1 .1 .0)))
-  pub first-token : Keeps F.first-token Place (Wrote Step) next-token-promise
+  pub first-token : Keeps FirstToken.ended FirstToken.Statement.statement Place (Wrote Step) next-token-promise
       (λ _ a. place (now (a .0)) fresh (now (a .1 .0))) (λ _ r e. wrote r (now (e .1 .0)))
 
 -- One action, by places in its piece. What is read is fixed, and not the places: equal bytes may stand at two of them.
 -- So these two are the exception: their promise says what a verdict means, and any two verdicts that meet it mean the same.
-pub record OfSingles : Type 2 where
-  pub read-single : Promises F.read-single (λ _ a r e. Judged (now (a .0)) r (single (now (a .0))))
+pub record OfSingles : Type 3 where
+  pub read-single : Promises ReadSingle.ended ReadSingle.Statement.statement (λ _ a r e. Judged (now (a .0)) r (single (now (a .0))))
   pub single-once : (s : List ℕ) (v w : Verdict) → Judged s v (single s) → Judged s w (single s) → verdictSingle s v ≡ verdictSingle s w
-  pub read-setvar : Promises F.read-setvar (λ _ a r e. Planned (now (a .0)) r (setvarAction setVarCode (setvar (now (a .0)))))
+  pub read-setvar : Promises ReadSetvar.ended ReadSetvar.Statement.statement (λ _ a r e. Planned (now (a .0)) r (setvarAction setVarCode (setvar (now (a .0)))))
   pub setvar-once : (s : List ℕ) (p q : Plan) → Planned s p (setvarAction setVarCode (setvar s)) → Planned s q (setvarAction setVarCode (setvar s)) → planAction s p ≡ planAction s q
-  pub put-name : Keeps F.put-name (ℕ × List ℕ) (List ℕ × ℕ)
+  pub put-name : Keeps PutName.ended PutName.Statement.statement (ℕ × List ℕ) (List ℕ × ℕ)
       (λ i o. (o .0 ≡ stored (i .1) 0 (rowAt (i .0) .name)) × (o .1 ≡ length (rowAt (i .0) .name)))
       (λ _ a. (a .0, now (a .1 .0))) (λ _ r e. (now (e .1 .0), r))
 
-pub record OfParsers : Type 2 where
-  pub parse-actions : Keeps F.parse-actions (Lent × List ℕ) (Left Listed.Answer × List ℕ) parse-actions-promise
+pub record OfParsers : Type 3 where
+  pub parse-actions : Keeps ParseActions.ended ParseActions.Statement.statement (Lent × List ℕ) (Left Listed.Answer × List ℕ) parse-actions-promise
       (λ _ a. (lent (now (a .0)) (now (a .1 .0)) (now (a .1 .1 .1 .0)), now (a .1 .1 .0)))
       (λ _ r e. (left r (now (e .1 .0)) (now (e .1 .1 .1 .0)), now (e .1 .1 .0)))
-  pub normalise : Keeps F.normalise (List ℕ × List ℕ) (Wrote Normal) normalise-promise (λ _ a. (now (a .0), now (a .1 .0))) (λ _ r e. wrote r (now (e .1 .0)))
-  pub read-actions : Keeps F.read-actions (Lent × (ℕ × ℕ)) (Left Acted.Reached) read-actions-promise
+  pub normalise : Keeps Normalise.ended Normalise.Statement.statement (List ℕ × List ℕ) (Wrote Normal) normalise-promise (λ _ a. (now (a .0), now (a .1 .0))) (λ _ r e. wrote r (now (e .1 .0)))
+  pub read-actions : Keeps ReadActions.ended ReadActions.Statement.statement (Lent × (ℕ × ℕ)) (Left Acted.Reached) read-actions-promise
       (λ _ a. (lent (now (a .0)) (now (a .1 .0)) (now (a .1 .1 .1 .0)), (a .1 .1 .0, a .1 .1 .1 .1 .0)))
       (λ _ r e. left r (now (e .1 .0)) (now (e .1 .1 .1 .0)))
-  pub parse-setvar : Keeps F.parse-setvar Lent (Left Listed.Answer) parse-setvar-promise
+  pub parse-setvar : Keeps ParseSetvar.ended ParseSetvar.Statement.statement Lent (Left Listed.Answer) parse-setvar-promise
       (λ _ a. lent (now (a .0)) (now (a .1 .0)) (now (a .1 .1 .0))) (λ _ r e. left r (now (e .1 .0)) (now (e .1 .1 .0)))
-  pub parse-variables : Keeps F.parse-variables Lent (Left Targets.Answer) parse-variables-promise
+  pub parse-variables : Keeps ParseVariables.ended ParseVariables.Statement.statement Lent (Left Targets.Answer) parse-variables-promise
       (λ _ a. lent (now (a .0)) (now (a .1 .0)) (now (a .1 .1 .0))) (λ _ r e. left r (now (e .1 .0)) (now (e .1 .1 .0)))
-  pub parse-update-targets : Keeps F.parse-update-targets Lent (Left Targets.Answer) parse-update-targets-promise
+  pub parse-update-targets : Keeps ParseUpdateTargets.ended ParseUpdateTargets.Statement.statement Lent (Left Targets.Answer) parse-update-targets-promise
       (λ _ a. lent (now (a .0)) (now (a .1 .0)) (now (a .1 .1 .0))) (λ _ r e. left r (now (e .1 .0)) (now (e .1 .1 .0)))
-  pub read-targets : Keeps F.read-targets From (Left Reached) read-targets-promise
+  pub read-targets : Keeps ReadTargets.ended ReadTargets.Statement.statement From (Left Reached) read-targets-promise
       (λ _ a.
       record {
         lent = lent (now (a .0)) (now (a .1 .1 .0)) (now (a .1 .1 .1 .1 .0));
@@ -167,16 +238,16 @@ pub record OfParsers : Type 2 where
         place = a .1 .1 .1 .1 .1 .0;
       })
       (λ _ r e. left r (now (e .1 .1 .0)) (now (e .1 .1 .1 .1 .0)))
-  pub operator-in : Keeps F.operator-in (List ℕ) Operator.Answer operator-in-promise (λ _ a. now (a .0)) (λ _ r e. r)
-  pub parse-operator : Keeps F.parse-operator (List ℕ) Operator.Answer parse-operator-promise (λ _ a. now (a .0)) (λ _ r e. r)
-  pub operator-argument : Keeps F.operator-argument Standing Standing operator-argument-promise (λ _ a. standing (a .0)) (λ _ r e. standing r)
+  pub operator-in : Keeps OperatorIn.ended OperatorIn.Statement.statement (List ℕ) Operator.Answer operator-in-promise (λ _ a. now (a .0)) (λ _ r e. r)
+  pub parse-operator : Keeps ParseOperator.ended ParseOperator.Statement.statement (List ℕ) Operator.Answer parse-operator-promise (λ _ a. now (a .0)) (λ _ r e. r)
+  pub operator-argument : Keeps OperatorArgument.ended OperatorArgument.Statement.statement Standing Standing operator-argument-promise (λ _ a. standing (a .0)) (λ _ r e. standing r)
 
-pub record OfListing : Type 2 where
-  pub write-listing : Keeps F.write-listing Records (Wrote Listing.Answer) write-listing-promise
+pub record OfListing : Type 3 where
+  pub write-listing : Keeps WriteListing.ended WriteListing.Statement.statement Records (Wrote Listing.Answer) write-listing-promise
       (λ _ a. record { words = now (a .0); texts = now (a .1 .0); stop = a .1 .1 .0; buffer = now (a .1 .1 .1 .0) }) (λ _ r e. wrote r (now (e .1 .1 .1 .0)))
-  pub write-refusal : Keeps F.write-refusal Refusal (Wrote Listing.Answer) write-refusal-promise
+  pub write-refusal : Keeps WriteRefusal.ended WriteRefusal.Statement.statement Refusal (Wrote Listing.Answer) write-refusal-promise
       (λ _ a. record { number = a .0; place = a .1 .0; buffer = now (a .1 .1 .0) }) (λ _ r e. wrote r (now (e .1 .1 .0)))
-  pub list-text : Keeps F.list-text (Lent × List ℕ) (Left Listing.Answer × List ℕ) list-text-promise
+  pub list-text : Keeps ListText.ended ListText.Statement.statement (Lent × List ℕ) (Left Listing.Answer × List ℕ) list-text-promise
       (λ _ a. (lent (now (a .0)) (now (a .1 .0)) (now (a .1 .1 .0)), now (a .1 .1 .1 .0)))
       (λ _ r e. (left r (now (e .1 .0)) (now (e .1 .1 .0)), now (e .1 .1 .1 .0)))
 
@@ -195,8 +266,10 @@ pub record ByTable : Type 0 where
   pub parse-update-targets : (i : Lent) (o : Left Targets.Answer) → parse-update-targets-promise i o
       → Row variableWords (Variables.answerGiven (o .answer)) (i .text) (o .text) (i .records) (o .records)
 
-pub record Demand1 : Type 2 where
+pub record Demand1 : Type 3 where
   pub of-bytes : OfBytes
+  pub of-texts : OfTexts
+  pub of-numbers : OfNumbers
   pub of-lent : OfLent
   pub of-names : OfNames
   pub of-lexer : OfLexer

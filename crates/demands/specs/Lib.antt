@@ -1,6 +1,5 @@
 pub mod Fixed
 pub mod Contracts
-pub mod Functions
 pub mod Calls
 pub mod Rows
 pub mod Library

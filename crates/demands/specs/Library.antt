@@ -19,8 +19,24 @@ use Rattle.listing.specs.Promises as Listing
 use Rattle.seclang.specs.Told.{Told}
 use Rattle.seclang.specs.Readers.{Fills, FillsActions, Steps, Lists, ListsText, stopOf}
 use Rattle.seclang.specs.Codes.{codeOf, lookupIn, testOf, targetOf, selectorOf, version}
+use Rattle.seclang.proofs.seclang_grade as SeclangGrade
+use Rattle.seclang.proofs.seclang_lookup as SeclangLookup
+use Rattle.seclang.proofs.seclang_matches as SeclangMatches
+use Rattle.seclang.proofs.seclang_phase as SeclangPhase
+use Rattle.seclang.proofs.seclang_test as SeclangTest
+use Rattle.seclang.proofs.seclang_xml_target as SeclangXmlTarget
+use Rattle.seclang.proofs.seclang_list_text as SeclangListText
+use Rattle.seclang.proofs.seclang_write_listing as SeclangWriteListing
+use Rattle.seclang.proofs.seclang_write_refusal as SeclangWriteRefusal
+use Rattle.seclang.proofs.seclang_next_token as SeclangNextToken
+use Rattle.seclang.proofs.seclang_parse_actions as SeclangParseActions
+use Rattle.seclang.proofs.seclang_parse_operator as SeclangParseOperator
+use Rattle.seclang.proofs.seclang_parse_setvar as SeclangParseSetvar
+use Rattle.seclang.proofs.seclang_parse_update_targets as SeclangParseUpdateTargets
+use Rattle.seclang.proofs.seclang_parse_variables as SeclangParseVariables
+use Rattle.seclang.proofs.seclang_tokens as SeclangTokens
+use Rattle.seclang.proofs.seclang_version as SeclangVersion
 use Rattle.demands.specs.Contracts.{Answers, Keeps}
-use Rattle.demands.specs.Functions as F
 use Rattle.demands.specs.Calls.{Lent, lent, Left, left, Wrote, wrote, Place, place, Records, Refusal}
 
 -- What is lent besides: the words for values. They come second, in and out.
@@ -56,34 +72,34 @@ abbrev pub lists-text-promise : With (Lent × List ℕ) → With (Left ℕ × Li
 lists-text-promise i o =
     ListsText (i .0 .0 .input) (i .0 .0 .text) (o .0 .0 .text) (i .0 .0 .records) (o .0 .0 .records) (i .0 .1) (o .0 .1) (i .1) (o .1) (o .0 .0 .answer)
 
-pub record OfLibrary : Type 2 where
-  pub next-token : Keeps F.seclang-next-token (With Place) (With (Wrote ℕ)) steps-promise
+pub record OfLibrary : Type 3 where
+  pub next-token : Keeps SeclangNextToken.ended SeclangNextToken.Statement.statement (With Place) (With (Wrote ℕ)) steps-promise
       (λ _ a. (place (now (a .0)) (cursor (a .1 .0) (a .1 .1 .0) (a .1 .1 .1 .0) (a .1 .1 .1 .1 .0)) (now (a .1 .1 .1 .1 .1 .0)), now (a .1 .1 .1 .1 .1 .1 .0)))
       (λ _ r e. (wrote r (now (e .1 .1 .1 .1 .1 .0)), now (e .1 .1 .1 .1 .1 .1 .0)))
-  pub tokens : Keeps F.seclang-tokens (With Lent) (With (Left ℕ)) (fills-promise (λ i. tokensOutcome (i .input) (length (i .text)) (length (i .records))))
+  pub tokens : Keeps SeclangTokens.ended SeclangTokens.Statement.statement (With Lent) (With (Left ℕ)) (fills-promise (λ i. tokensOutcome (i .input) (length (i .text)) (length (i .records))))
       (λ _ a. (lent (now (a .0)) (now (a .1 .0)) (now (a .1 .1 .0)), now (a .1 .1 .1 .0)))
       (λ _ r e. (left r (now (e .1 .0)) (now (e .1 .1 .0)), now (e .1 .1 .1 .0)))
-  pub parse-actions : Keeps F.seclang-parse-actions (With (Lent × List ℕ)) (With (Left ℕ × List ℕ)) fills-actions-promise
+  pub parse-actions : Keeps SeclangParseActions.ended SeclangParseActions.Statement.statement (With (Lent × List ℕ)) (With (Left ℕ × List ℕ)) fills-actions-promise
       (λ _ a. ((lent (now (a .0)) (now (a .1 .0)) (now (a .1 .1 .1 .0)), now (a .1 .1 .0)), now (a .1 .1 .1 .1 .0)))
       (λ _ r e. ((left r (now (e .1 .0)) (now (e .1 .1 .1 .0)), now (e .1 .1 .0)), now (e .1 .1 .1 .1 .0)))
-  pub parse-setvar : Keeps F.seclang-parse-setvar (With Lent) (With (Left ℕ)) (fills-promise (λ i. setvarOutcome (i .input) (length (i .text)) (length (i .records))))
+  pub parse-setvar : Keeps SeclangParseSetvar.ended SeclangParseSetvar.Statement.statement (With Lent) (With (Left ℕ)) (fills-promise (λ i. setvarOutcome (i .input) (length (i .text)) (length (i .records))))
       (λ _ a. (lent (now (a .0)) (now (a .1 .0)) (now (a .1 .1 .0)), now (a .1 .1 .1 .0)))
       (λ _ r e. (left r (now (e .1 .0)) (now (e .1 .1 .0)), now (e .1 .1 .1 .0)))
-  pub parse-variables : Keeps F.seclang-parse-variables (With Lent) (With (Left ℕ)) (fills-promise (λ i. variablesOutcome (i .input) (length (i .text)) (length (i .records))))
+  pub parse-variables : Keeps SeclangParseVariables.ended SeclangParseVariables.Statement.statement (With Lent) (With (Left ℕ)) (fills-promise (λ i. variablesOutcome (i .input) (length (i .text)) (length (i .records))))
       (λ _ a. (lent (now (a .0)) (now (a .1 .0)) (now (a .1 .1 .0)), now (a .1 .1 .1 .0)))
       (λ _ r e. (left r (now (e .1 .0)) (now (e .1 .1 .0)), now (e .1 .1 .1 .0)))
-  pub parse-update-targets : Keeps F.seclang-parse-update-targets (With Lent) (With (Left ℕ)) (fills-promise (λ i. updateOutcome (i .input) (length (i .text)) (length (i .records))))
+  pub parse-update-targets : Keeps SeclangParseUpdateTargets.ended SeclangParseUpdateTargets.Statement.statement (With Lent) (With (Left ℕ)) (fills-promise (λ i. updateOutcome (i .input) (length (i .text)) (length (i .records))))
       (λ _ a. (lent (now (a .0)) (now (a .1 .0)) (now (a .1 .1 .0)), now (a .1 .1 .1 .0)))
       (λ _ r e. (left r (now (e .1 .0)) (now (e .1 .1 .0)), now (e .1 .1 .1 .0)))
-  pub parse-operator : Keeps F.seclang-parse-operator (With (List ℕ)) (With ℕ) operator-promise (λ _ a. (now (a .0), now (a .1 .0))) (λ _ r e. (r, now (e .1 .0)))
-  pub lookup : Answers F.seclang-lookup (λ _ a. codeOf (lookupIn (a .0) (now (a .1 .0))))
-  pub test : Answers F.seclang-test (λ _ a. testOf (a .0) (a .1 .0))
-  pub xml-target : Answers F.seclang-xml-target (λ _ a. targetOf (xmlTarget (a .0) (now (a .1 .0))))
-  pub phase : Answers F.seclang-phase (λ _ a. phaseOf (entries (now (a .0))))
-  pub grade : Answers F.seclang-grade (λ _ a. grades (entries (now (a .0))))
-  pub version : Answers F.seclang-version (λ _ a. version)
-  pub matches : Answers F.seclang-matches (λ _ a. matched (selectorOf (a .0) (a .1 .0) (a .1 .1 .0)) (a .1 .1 .1 .0))
-  pub write-listing : Keeps F.seclang-write-listing (With Records) (With (Wrote ℕ)) (lists-promise recordsOutcome (λ i. i .buffer))
+  pub parse-operator : Keeps SeclangParseOperator.ended SeclangParseOperator.Statement.statement (With (List ℕ)) (With ℕ) operator-promise (λ _ a. (now (a .0), now (a .1 .0))) (λ _ r e. (r, now (e .1 .0)))
+  pub lookup : Answers SeclangLookup.ended SeclangLookup.Statement.statement (λ _ a. codeOf (lookupIn (a .0) (now (a .1 .0))))
+  pub test : Answers SeclangTest.ended SeclangTest.Statement.statement (λ _ a. testOf (a .0) (a .1 .0))
+  pub xml-target : Answers SeclangXmlTarget.ended SeclangXmlTarget.Statement.statement (λ _ a. targetOf (xmlTarget (a .0) (now (a .1 .0))))
+  pub phase : Answers SeclangPhase.ended SeclangPhase.Statement.statement (λ _ a. phaseOf (entries (now (a .0))))
+  pub grade : Answers SeclangGrade.ended SeclangGrade.Statement.statement (λ _ a. grades (entries (now (a .0))))
+  pub version : Answers SeclangVersion.ended SeclangVersion.Statement.statement (λ _ a. version)
+  pub matches : Answers SeclangMatches.ended SeclangMatches.Statement.statement (λ _ a. matched (selectorOf (a .0) (a .1 .0) (a .1 .1 .0)) (a .1 .1 .1 .0))
+  pub write-listing : Keeps SeclangWriteListing.ended SeclangWriteListing.Statement.statement (With Records) (With (Wrote ℕ)) (lists-promise recordsOutcome (λ i. i .buffer))
       (λ _ a. (
         record {
           words = now (a .0);
@@ -94,9 +110,9 @@ pub record OfLibrary : Type 2 where
         now (a .1 .1 .1 .1 .1 .1 .0),
       ))
       (λ _ r e. (wrote r (now (e .1 .1 .1 .1 .1 .0)), now (e .1 .1 .1 .1 .1 .1 .0)))
-  pub write-refusal : Keeps F.seclang-write-refusal (With Refusal) (With (Wrote ℕ)) (lists-promise refusalOutcome (λ i. i .buffer))
+  pub write-refusal : Keeps SeclangWriteRefusal.ended SeclangWriteRefusal.Statement.statement (With Refusal) (With (Wrote ℕ)) (lists-promise refusalOutcome (λ i. i .buffer))
       (λ _ a. (record { number = a .0; place = a .1 .0; buffer = now (a .1 .1 .0) }, now (a .1 .1 .1 .0)))
       (λ _ r e. (wrote r (now (e .1 .1 .0)), now (e .1 .1 .1 .0)))
-  pub list-text : Keeps F.seclang-list-text (With (Lent × List ℕ)) (With (Left ℕ × List ℕ)) lists-text-promise
+  pub list-text : Keeps SeclangListText.ended SeclangListText.Statement.statement (With (Lent × List ℕ)) (With (Left ℕ × List ℕ)) lists-text-promise
       (λ _ a. ((lent (now (a .0)) (now (a .1 .0)) (now (a .1 .1 .0)), now (a .1 .1 .1 .0)), now (a .1 .1 .1 .1 .0)))
       (λ _ r e. ((left r (now (e .1 .0)) (now (e .1 .1 .0)), now (e .1 .1 .1 .0)), now (e .1 .1 .1 .1 .0)))

@@ -10,13 +10,4 @@ returns c =
     record { fills = record { told = told-as (x .answer) (c .before .before .tell-acted .ensures); texts = x .texts; words = x .words }; scratch = x .scratch }
 
 pub seclang-parse-actions-spec : {M : Type 1} → statement M
-seclang-parse-actions-spec =
-    tie.close
-    (tie.spec
-    (λ c κs. search needs)
-    (λ c κs. search needs)
-    (λ c. search needs)
-    (λ c. search needs)
-    (λ c. search needs)
-    (λ c. search needs)
-    returns)
+seclang-parse-actions-spec = tie.close (tie.spec (λ c κs. search needs) (λ c κs. search needs) (λ c. search needs) (λ c. search needs) (λ c. search needs) (λ c. search needs) returns)
