@@ -81,106 +81,106 @@ use Rattle.demands.proofs.ListingCalls.{write-listing-fixed, write-refu
 
 of-bytes : OfBytes
 of-bytes = record {
-  is-white = record { promises = record { code = IsWhite.Symbol.routine; tied = λ M. refl; met = λ M. IsWhite.Met.met }; fixed = λ κs. gives _ };
-  ends-operator-name = record { promises = record { code = EndsOperatorName.Symbol.routine; tied = λ M. refl; met = λ M. EndsOperatorName.Met.met }; fixed = λ κs. gives _ };
-  is-digit = record { promises = record { code = IsDigit.Symbol.routine; tied = λ M. refl; met = λ M. IsDigit.Met.met }; fixed = λ κs. gives _ };
-  to-lower = record { promises = record { code = ToLower.Symbol.routine; tied = λ M. refl; met = λ M. ToLower.Met.met }; fixed = λ κs. gives _ };
-  to-upper = record { promises = record { code = ToUpper.Symbol.routine; tied = λ M. refl; met = λ M. ToUpper.Met.met }; fixed = λ κs. gives _ };
+  is-white = record { promises = record { tied = λ M 𝓤 H A mem run. refl; met = λ M 𝓤. IsWhite.Met.met 𝓤 }; fixed = λ κs. gives _ };
+  ends-operator-name = record { promises = record { tied = λ M 𝓤 H A mem run. refl; met = λ M 𝓤. EndsOperatorName.Met.met 𝓤 }; fixed = λ κs. gives _ };
+  is-digit = record { promises = record { tied = λ M 𝓤 H A mem run. refl; met = λ M 𝓤. IsDigit.Met.met 𝓤 }; fixed = λ κs. gives _ };
+  to-lower = record { promises = record { tied = λ M 𝓤 H A mem run. refl; met = λ M 𝓤. ToLower.Met.met 𝓤 }; fixed = λ κs. gives _ };
+  to-upper = record { promises = record { tied = λ M 𝓤 H A mem run. refl; met = λ M 𝓤. ToUpper.Met.met 𝓤 }; fixed = λ κs. gives _ };
 }
 
 of-texts : OfTexts
 of-texts = record {
-  is-same = record { promises = record { code = IsSame.Symbol.routine; tied = λ M. refl; met = λ M. IsSame.Met.met }; fixed = λ κs. gives _ };
-  same-lowered = record { promises = record { code = SameLowered.Symbol.routine; tied = λ M. refl; met = λ M. SameLowered.Met.met }; fixed = λ κs. gives _ };
-  leading-white = record { promises = record { code = LeadingWhite.Symbol.routine; tied = λ M. refl; met = λ M. LeadingWhite.Met.met }; fixed = λ κs. gives _ };
-  trimmed-len = record { promises = record { code = TrimmedLen.Symbol.routine; tied = λ M. refl; met = λ M. TrimmedLen.Met.met }; fixed = λ κs. gives _ };
-  trim-start = record { promises = record { code = TrimStart.Symbol.routine; tied = λ M. refl; met = λ M. TrimStart.Met.met }; fixed = gives _ };
-  trim-end = record { promises = record { code = TrimEnd.Symbol.routine; tied = λ M. refl; met = λ M. TrimEnd.Met.met }; fixed = gives _ };
-  trim = record { promises = record { code = Trim.Symbol.routine; tied = λ M. refl; met = λ M. Trim.Met.met }; fixed = gives _ };
-  trimmed = record { promises = record { code = Trimmed.Symbol.routine; tied = λ M. refl; met = λ M. Trimmed.Met.met }; fixed = λ κs. gives _ };
-  first-of = record { promises = record { code = FirstOf.Symbol.routine; tied = λ M. refl; met = λ M. FirstOf.Met.met }; fixed = λ κs. gives _ };
+  is-same = record { promises = record { tied = λ M 𝓤 H A mem run. refl; met = λ M 𝓤. IsSame.Met.met 𝓤 }; fixed = λ κs. gives _ };
+  same-lowered = record { promises = record { tied = λ M 𝓤 H A mem run. refl; met = λ M 𝓤. SameLowered.Met.met 𝓤 }; fixed = λ κs. gives _ };
+  leading-white = record { promises = record { tied = λ M 𝓤 H A mem run. refl; met = λ M 𝓤. LeadingWhite.Met.met 𝓤 }; fixed = λ κs. gives _ };
+  trimmed-len = record { promises = record { tied = λ M 𝓤 H A mem run. refl; met = λ M 𝓤. TrimmedLen.Met.met 𝓤 }; fixed = λ κs. gives _ };
+  trim-start = record { promises = record { tied = λ M 𝓤 H A mem run. refl; met = λ M 𝓤. TrimStart.Met.met 𝓤 }; fixed = gives _ };
+  trim-end = record { promises = record { tied = λ M 𝓤 H A mem run. refl; met = λ M 𝓤. TrimEnd.Met.met 𝓤 }; fixed = gives _ };
+  trim = record { promises = record { tied = λ M 𝓤 H A mem run. refl; met = λ M 𝓤. Trim.Met.met 𝓤 }; fixed = gives _ };
+  trimmed = record { promises = record { tied = λ M 𝓤 H A mem run. refl; met = λ M 𝓤. Trimmed.Met.met 𝓤 }; fixed = λ κs. gives _ };
+  first-of = record { promises = record { tied = λ M 𝓤 H A mem run. refl; met = λ M 𝓤. FirstOf.Met.met 𝓤 }; fixed = λ κs. gives _ };
 }
 
 of-numbers : OfNumbers
 of-numbers = record {
-  digits = record { promises = record { code = Digits.Symbol.routine; tied = λ M. refl; met = λ M. Digits.Met.met }; fixed = λ κs. gives _ };
-  unsigned = record { promises = record { code = Unsigned.Symbol.routine; tied = λ M. refl; met = λ M. Unsigned.Met.met }; fixed = λ κs. gives _ };
-  signed = record { promises = record { code = Signed.Symbol.routine; tied = λ M. refl; met = λ M. Signed.Met.met }; fixed = λ κs. gives _ };
+  digits = record { promises = record { tied = λ M 𝓤 H A mem run. refl; met = λ M 𝓤. Digits.Met.met 𝓤 }; fixed = λ κs. gives _ };
+  unsigned = record { promises = record { tied = λ M 𝓤 H A mem run. refl; met = λ M 𝓤. Unsigned.Met.met 𝓤 }; fixed = λ κs. gives _ };
+  signed = record { promises = record { tied = λ M 𝓤 H A mem run. refl; met = λ M 𝓤. Signed.Met.met 𝓤 }; fixed = λ κs. gives _ };
 }
 
 of-lent : OfLent
 of-lent = record {
-  admit = record { promises = record { code = Admit.Symbol.routine; tied = λ M. refl; met = λ M. Admit.Met.met }; fixed = λ κs. gives _ };
-  first-high = record { promises = record { code = FirstHigh.Symbol.routine; tied = λ M. refl; met = λ M. FirstHigh.Met.met }; fixed = λ κs. gives _ };
-  span = record { promises = record { code = Span.Symbol.routine; tied = λ M. refl; met = λ M. Span.Met.met }; fixed = λ κs. gives _ };
-  span-offset = record { promises = record { code = SpanOffset.Symbol.routine; tied = λ M. refl; met = λ M. SpanOffset.Met.met }; fixed = λ κs. gives _ };
-  span-length = record { promises = record { code = SpanLength.Symbol.routine; tied = λ M. refl; met = λ M. SpanLength.Met.met }; fixed = λ κs. gives _ };
-  room = record { promises = record { code = Room.Symbol.routine; tied = λ M. refl; met = λ M. Room.Met.met }; fixed = λ κs. gives _ };
-  clear-bytes = record { promises = record { code = ClearBytes.Symbol.routine; tied = λ M. refl; met = λ M. ClearBytes.Met.met }; fixed = gives _ };
-  clear-words = record { promises = record { code = ClearWords.Symbol.routine; tied = λ M. refl; met = λ M. ClearWords.Met.met }; fixed = gives _ };
-  store-bytes = record { promises = record { code = StoreBytes.Symbol.routine; tied = λ M. refl; met = λ M. StoreBytes.Met.met }; fixed = gives _ };
-  store-words = record { promises = record { code = StoreWords.Symbol.routine; tied = λ M. refl; met = λ M. StoreWords.Met.met }; fixed = gives _ };
-  starts = record { promises = record { code = Starts.Symbol.routine; tied = λ M. refl; met = λ M. Starts.Met.met }; fixed = λ κs. gives _ };
-  finish = record { promises = record { code = Finish.Symbol.routine; tied = λ M. refl; met = λ M. Finish.Met.met }; fixed = finish-fixed };
-  refuse-piece = record { promises = record { code = RefusePiece.Symbol.routine; tied = λ M. refl; met = λ M. RefusePiece.Met.met }; fixed = both-given _ _ };
+  admit = record { promises = record { tied = λ M 𝓤 H A mem run. refl; met = λ M 𝓤. Admit.Met.met 𝓤 }; fixed = λ κs. gives _ };
+  first-high = record { promises = record { tied = λ M 𝓤 H A mem run. refl; met = λ M 𝓤. FirstHigh.Met.met 𝓤 }; fixed = λ κs. gives _ };
+  span = record { promises = record { tied = λ M 𝓤 H A mem run. refl; met = λ M 𝓤. Span.Met.met 𝓤 }; fixed = λ κs. gives _ };
+  span-offset = record { promises = record { tied = λ M 𝓤 H A mem run. refl; met = λ M 𝓤. SpanOffset.Met.met 𝓤 }; fixed = λ κs. gives _ };
+  span-length = record { promises = record { tied = λ M 𝓤 H A mem run. refl; met = λ M 𝓤. SpanLength.Met.met 𝓤 }; fixed = λ κs. gives _ };
+  room = record { promises = record { tied = λ M 𝓤 H A mem run. refl; met = λ M 𝓤. Room.Met.met 𝓤 }; fixed = λ κs. gives _ };
+  clear-bytes = record { promises = record { tied = λ M 𝓤 H A mem run. refl; met = λ M 𝓤. ClearBytes.Met.met 𝓤 }; fixed = gives _ };
+  clear-words = record { promises = record { tied = λ M 𝓤 H A mem run. refl; met = λ M 𝓤. ClearWords.Met.met 𝓤 }; fixed = gives _ };
+  store-bytes = record { promises = record { tied = λ M 𝓤 H A mem run. refl; met = λ M 𝓤. StoreBytes.Met.met 𝓤 }; fixed = gives _ };
+  store-words = record { promises = record { tied = λ M 𝓤 H A mem run. refl; met = λ M 𝓤. StoreWords.Met.met 𝓤 }; fixed = gives _ };
+  starts = record { promises = record { tied = λ M 𝓤 H A mem run. refl; met = λ M 𝓤. Starts.Met.met 𝓤 }; fixed = λ κs. gives _ };
+  finish = record { promises = record { tied = λ M 𝓤 H A mem run. refl; met = λ M 𝓤. Finish.Met.met 𝓤 }; fixed = finish-fixed };
+  refuse-piece = record { promises = record { tied = λ M 𝓤 H A mem run. refl; met = λ M 𝓤. RefusePiece.Met.met 𝓤 }; fixed = both-given _ _ };
 }
 
 of-names : OfNames
 of-names = record {
-  variable-code = record { promises = record { code = VariableCode.Symbol.routine; tied = λ M. refl; met = λ M. VariableCode.Met.met }; fixed = λ κs. gives _ };
-  operator-code = record { promises = record { code = OperatorCode.Symbol.routine; tied = λ M. refl; met = λ M. OperatorCode.Met.met }; fixed = λ κs. gives _ };
-  severity-code = record { promises = record { code = SeverityCode.Symbol.routine; tied = λ M. refl; met = λ M. SeverityCode.Met.met }; fixed = λ κs. gives _ };
-  is-collection = record { promises = record { code = IsCollection.Symbol.routine; tied = λ M. refl; met = λ M. IsCollection.Met.met }; fixed = λ κs. gives _ };
-  is-implemented = record { promises = record { code = IsImplemented.Symbol.routine; tied = λ M. refl; met = λ M. IsImplemented.Met.met }; fixed = λ κs. gives _ };
-  requires-argument = record { promises = record { code = RequiresArgument.Symbol.routine; tied = λ M. refl; met = λ M. RequiresArgument.Met.met }; fixed = λ κs. gives _ };
-  xml-target = record { promises = record { code = XmlTarget.Symbol.routine; tied = λ M. refl; met = λ M. XmlTarget.Met.met }; fixed = λ κs. gives _ };
-  matches = record { promises = record { code = Matches.Symbol.routine; tied = λ M. refl; met = λ M. Matches.Met.met }; fixed = λ κs. gives _ };
-  phase = record { promises = record { code = Phase.Symbol.routine; tied = λ M. refl; met = λ M. Phase.Met.met }; fixed = λ κs. gives _ };
-  grade = record { promises = record { code = Grade.Symbol.routine; tied = λ M. refl; met = λ M. Grade.Met.met }; fixed = λ κs. gives _ };
-  is-text = record { promises = record { code = IsText.Symbol.routine; tied = λ M. refl; met = λ M. IsText.Met.met }; fixed = λ κs. gives _ };
+  variable-code = record { promises = record { tied = λ M 𝓤 H A mem run. refl; met = λ M 𝓤. VariableCode.Met.met 𝓤 }; fixed = λ κs. gives _ };
+  operator-code = record { promises = record { tied = λ M 𝓤 H A mem run. refl; met = λ M 𝓤. OperatorCode.Met.met 𝓤 }; fixed = λ κs. gives _ };
+  severity-code = record { promises = record { tied = λ M 𝓤 H A mem run. refl; met = λ M 𝓤. SeverityCode.Met.met 𝓤 }; fixed = λ κs. gives _ };
+  is-collection = record { promises = record { tied = λ M 𝓤 H A mem run. refl; met = λ M 𝓤. IsCollection.Met.met 𝓤 }; fixed = λ κs. gives _ };
+  is-implemented = record { promises = record { tied = λ M 𝓤 H A mem run. refl; met = λ M 𝓤. IsImplemented.Met.met 𝓤 }; fixed = λ κs. gives _ };
+  requires-argument = record { promises = record { tied = λ M 𝓤 H A mem run. refl; met = λ M 𝓤. RequiresArgument.Met.met 𝓤 }; fixed = λ κs. gives _ };
+  xml-target = record { promises = record { tied = λ M 𝓤 H A mem run. refl; met = λ M 𝓤. XmlTarget.Met.met 𝓤 }; fixed = λ κs. gives _ };
+  matches = record { promises = record { tied = λ M 𝓤 H A mem run. refl; met = λ M 𝓤. Matches.Met.met 𝓤 }; fixed = λ κs. gives _ };
+  phase = record { promises = record { tied = λ M 𝓤 H A mem run. refl; met = λ M 𝓤. Phase.Met.met 𝓤 }; fixed = λ κs. gives _ };
+  grade = record { promises = record { tied = λ M 𝓤 H A mem run. refl; met = λ M 𝓤. Grade.Met.met 𝓤 }; fixed = λ κs. gives _ };
+  is-text = record { promises = record { tied = λ M 𝓤 H A mem run. refl; met = λ M 𝓤. IsText.Met.met 𝓤 }; fixed = λ κs. gives _ };
 }
 
 of-lexer : OfLexer
 of-lexer = record {
-  start = record { promises = record { code = Start.Symbol.routine; tied = λ M. refl; met = λ M. Start.Met.met }; fixed = λ κs. gives _ };
-  step-in = record { promises = record { code = StepIn.Symbol.routine; tied = λ M. refl; met = λ M. StepIn.Met.met }; fixed = step-in-fixed };
-  next-token = record { promises = record { code = NextToken.Symbol.routine; tied = λ M. refl; met = λ M. NextToken.Met.met }; fixed = next-token-fixed };
-  tokens = record { promises = record { code = TokensOf.Symbol.routine; tied = λ M. refl; met = λ M. TokensOf.Met.met }; fixed = tokens-fixed };
-  reader-of = record { promises = record { code = ReaderOf.Symbol.routine; tied = λ M. refl; met = λ M. ReaderOf.Met.met }; fixed = λ κs. reader-fixed (λ a. a .0) (λ a. fresh) };
-  reader-at = record { promises = record { code = ReaderAt.Symbol.routine; tied = λ M. refl; met = λ M. ReaderAt.Met.met }; fixed = λ κs. reader-fixed (λ a. a .0 .text) (λ a. a .1 .0) };
-  next-of = record { promises = record { code = NextOf.Symbol.routine; tied = λ M. refl; met = λ M. NextOf.Met.met }; fixed = next-token-fixed };
-  token-at = record { promises = record { code = TokenAt.Symbol.routine; tied = λ M. refl; met = λ M. TokenAt.Met.met }; fixed = next-token-fixed };
-  first-token = record { promises = record { code = FirstToken.Symbol.routine; tied = λ M. refl; met = λ M. FirstToken.Met.met }; fixed = next-token-fixed };
+  start = record { promises = record { tied = λ M 𝓤 H A mem run. refl; met = λ M 𝓤. Start.Met.met 𝓤 }; fixed = λ κs. gives _ };
+  step-in = record { promises = record { tied = λ M 𝓤 H A mem run. refl; met = λ M 𝓤. StepIn.Met.met 𝓤 }; fixed = step-in-fixed };
+  next-token = record { promises = record { tied = λ M 𝓤 H A mem run. refl; met = λ M 𝓤. NextToken.Met.met 𝓤 }; fixed = next-token-fixed };
+  tokens = record { promises = record { tied = λ M 𝓤 H A mem run. refl; met = λ M 𝓤. TokensOf.Met.met 𝓤 }; fixed = tokens-fixed };
+  reader-of = record { promises = record { tied = λ M 𝓤 H A mem run. refl; met = λ M 𝓤. ReaderOf.Met.met 𝓤 }; fixed = λ κs. reader-fixed (λ a. a .0) (λ a. fresh) };
+  reader-at = record { promises = record { tied = λ M 𝓤 H A mem run. refl; met = λ M 𝓤. ReaderAt.Met.met 𝓤 }; fixed = λ κs. reader-fixed (λ a. a .0 .text) (λ a. a .1 .0) };
+  next-of = record { promises = record { tied = λ M 𝓤 H A mem run. refl; met = λ M 𝓤. NextOf.Met.met 𝓤 }; fixed = next-token-fixed };
+  token-at = record { promises = record { tied = λ M 𝓤 H A mem run. refl; met = λ M 𝓤. TokenAt.Met.met 𝓤 }; fixed = next-token-fixed };
+  first-token = record { promises = record { tied = λ M 𝓤 H A mem run. refl; met = λ M 𝓤. FirstToken.Met.met 𝓤 }; fixed = next-token-fixed };
 }
 
 of-singles : OfSingles
 of-singles = record {
-  read-single = record { code = ReadSingle.Symbol.routine; tied = λ M. refl; met = λ M. ReadSingle.Met.met };
+  read-single = record { tied = λ M 𝓤 H A mem run. refl; met = λ M 𝓤. ReadSingle.Met.met 𝓤 };
   single-once = λ s v w. verdict-said;
-  read-setvar = record { code = ReadSetvar.Symbol.routine; tied = λ M. refl; met = λ M. ReadSetvar.Met.met };
+  read-setvar = record { tied = λ M 𝓤 H A mem run. refl; met = λ M 𝓤. ReadSetvar.Met.met 𝓤 };
   setvar-once = λ s p q. plan-said;
-  put-name = record { promises = record { code = PutName.Symbol.routine; tied = λ M. refl; met = λ M. PutName.Met.met }; fixed = both-given _ _ };
+  put-name = record { promises = record { tied = λ M 𝓤 H A mem run. refl; met = λ M 𝓤. PutName.Met.met 𝓤 }; fixed = both-given _ _ };
 }
 
 of-parsers : OfParsers
 of-parsers = record {
-  parse-actions = record { promises = record { code = ParseActions.Symbol.routine; tied = λ M. refl; met = λ M. ParseActions.Met.met }; fixed = parse-actions-fixed };
-  normalise = record { promises = record { code = Normalise.Symbol.routine; tied = λ M. refl; met = λ M. Normalise.Met.met }; fixed = normalise-fixed };
-  read-actions = record { promises = record { code = ReadActions.Symbol.routine; tied = λ M. refl; met = λ M. ReadActions.Met.met }; fixed = read-actions-fixed };
-  parse-setvar = record { promises = record { code = ParseSetvar.Symbol.routine; tied = λ M. refl; met = λ M. ParseSetvar.Met.met }; fixed = parse-setvar-fixed };
-  parse-variables = record { promises = record { code = ParseVariables.Symbol.routine; tied = λ M. refl; met = λ M. ParseVariables.Met.met }; fixed = parse-variables-fixed };
-  parse-update-targets = record { promises = record { code = ParseUpdateTargets.Symbol.routine; tied = λ M. refl; met = λ M. ParseUpdateTargets.Met.met }; fixed = parse-update-targets-fixed };
-  read-targets = record { promises = record { code = ReadTargets.Symbol.routine; tied = λ M. refl; met = λ M. ReadTargets.Met.met }; fixed = read-targets-fixed };
-  operator-in = record { promises = record { code = OperatorIn.Symbol.routine; tied = λ M. refl; met = λ M. OperatorIn.Met.met }; fixed = operator-in-fixed };
-  parse-operator = record { promises = record { code = ParseOperator.Symbol.routine; tied = λ M. refl; met = λ M. ParseOperator.Met.met }; fixed = parse-operator-fixed };
-  operator-argument = record { promises = record { code = OperatorArgument.Symbol.routine; tied = λ M. refl; met = λ M. OperatorArgument.Met.met }; fixed = operator-argument-fixed };
+  parse-actions = record { promises = record { tied = λ M 𝓤 H A mem run. refl; met = λ M 𝓤. ParseActions.Met.met 𝓤 }; fixed = parse-actions-fixed };
+  normalise = record { promises = record { tied = λ M 𝓤 H A mem run. refl; met = λ M 𝓤. Normalise.Met.met 𝓤 }; fixed = normalise-fixed };
+  read-actions = record { promises = record { tied = λ M 𝓤 H A mem run. refl; met = λ M 𝓤. ReadActions.Met.met 𝓤 }; fixed = read-actions-fixed };
+  parse-setvar = record { promises = record { tied = λ M 𝓤 H A mem run. refl; met = λ M 𝓤. ParseSetvar.Met.met 𝓤 }; fixed = parse-setvar-fixed };
+  parse-variables = record { promises = record { tied = λ M 𝓤 H A mem run. refl; met = λ M 𝓤. ParseVariables.Met.met 𝓤 }; fixed = parse-variables-fixed };
+  parse-update-targets = record { promises = record { tied = λ M 𝓤 H A mem run. refl; met = λ M 𝓤. ParseUpdateTargets.Met.met 𝓤 }; fixed = parse-update-targets-fixed };
+  read-targets = record { promises = record { tied = λ M 𝓤 H A mem run. refl; met = λ M 𝓤. ReadTargets.Met.met 𝓤 }; fixed = read-targets-fixed };
+  operator-in = record { promises = record { tied = λ M 𝓤 H A mem run. refl; met = λ M 𝓤. OperatorIn.Met.met 𝓤 }; fixed = operator-in-fixed };
+  parse-operator = record { promises = record { tied = λ M 𝓤 H A mem run. refl; met = λ M 𝓤. ParseOperator.Met.met 𝓤 }; fixed = parse-operator-fixed };
+  operator-argument = record { promises = record { tied = λ M 𝓤 H A mem run. refl; met = λ M 𝓤. OperatorArgument.Met.met 𝓤 }; fixed = operator-argument-fixed };
 }
 
 of-listing : OfListing
 of-listing = record {
-  write-listing = record { promises = record { code = WriteListing.Symbol.routine; tied = λ M. refl; met = λ M. WriteListing.Met.met }; fixed = write-listing-fixed };
-  write-refusal = record { promises = record { code = WriteRefusal.Symbol.routine; tied = λ M. refl; met = λ M. WriteRefusal.Met.met }; fixed = write-refusal-fixed };
-  list-text = record { promises = record { code = ListText.Symbol.routine; tied = λ M. refl; met = λ M. ListText.Met.met }; fixed = list-text-fixed };
+  write-listing = record { promises = record { tied = λ M 𝓤 H A mem run. refl; met = λ M 𝓤. WriteListing.Met.met 𝓤 }; fixed = write-listing-fixed };
+  write-refusal = record { promises = record { tied = λ M 𝓤 H A mem run. refl; met = λ M 𝓤. WriteRefusal.Met.met 𝓤 }; fixed = write-refusal-fixed };
+  list-text = record { promises = record { tied = λ M 𝓤 H A mem run. refl; met = λ M 𝓤. ListText.Met.met 𝓤 }; fixed = list-text-fixed };
 }
 
 pub demand1 : Demand1

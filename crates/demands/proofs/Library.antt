@@ -123,21 +123,21 @@ lists-text-fixed = record {
 
 pub of-library : OfLibrary
 of-library = record {
-  next-token = record { promises = record { code = SeclangNextToken.Symbol.routine; tied = λ M. refl; met = λ M. SeclangNextToken.Met.met }; fixed = steps-fixed };
-  tokens = record { promises = record { code = SeclangTokens.Symbol.routine; tied = λ M. refl; met = λ M. SeclangTokens.Met.met }; fixed = fills-fixed _ };
-  parse-actions = record { promises = record { code = SeclangParseActions.Symbol.routine; tied = λ M. refl; met = λ M. SeclangParseActions.Met.met }; fixed = fills-actions-fixed };
-  parse-setvar = record { promises = record { code = SeclangParseSetvar.Symbol.routine; tied = λ M. refl; met = λ M. SeclangParseSetvar.Met.met }; fixed = fills-fixed _ };
-  parse-variables = record { promises = record { code = SeclangParseVariables.Symbol.routine; tied = λ M. refl; met = λ M. SeclangParseVariables.Met.met }; fixed = fills-fixed _ };
-  parse-update-targets = record { promises = record { code = SeclangParseUpdateTargets.Symbol.routine; tied = λ M. refl; met = λ M. SeclangParseUpdateTargets.Met.met }; fixed = fills-fixed _ };
-  parse-operator = record { promises = record { code = SeclangParseOperator.Symbol.routine; tied = λ M. refl; met = λ M. SeclangParseOperator.Met.met }; fixed = operator-fixed };
-  lookup = record { promises = record { code = SeclangLookup.Symbol.routine; tied = λ M. refl; met = λ M. SeclangLookup.Met.met }; fixed = λ κs. gives _ };
-  test = record { promises = record { code = SeclangTest.Symbol.routine; tied = λ M. refl; met = λ M. SeclangTest.Met.met }; fixed = λ κs. gives _ };
-  xml-target = record { promises = record { code = SeclangXmlTarget.Symbol.routine; tied = λ M. refl; met = λ M. SeclangXmlTarget.Met.met }; fixed = λ κs. gives _ };
-  phase = record { promises = record { code = SeclangPhase.Symbol.routine; tied = λ M. refl; met = λ M. SeclangPhase.Met.met }; fixed = λ κs. gives _ };
-  grade = record { promises = record { code = SeclangGrade.Symbol.routine; tied = λ M. refl; met = λ M. SeclangGrade.Met.met }; fixed = λ κs. gives _ };
-  version = record { promises = record { code = SeclangVersion.Symbol.routine; tied = λ M. refl; met = λ M. SeclangVersion.Met.met }; fixed = λ κs. gives _ };
-  matches = record { promises = record { code = SeclangMatches.Symbol.routine; tied = λ M. refl; met = λ M. SeclangMatches.Met.met }; fixed = λ κs. gives _ };
-  write-listing = record { promises = record { code = SeclangWriteListing.Symbol.routine; tied = λ M. refl; met = λ M. SeclangWriteListing.Met.met }; fixed = lists-fixed recordsOutcome (λ i. i .buffer) };
-  write-refusal = record { promises = record { code = SeclangWriteRefusal.Symbol.routine; tied = λ M. refl; met = λ M. SeclangWriteRefusal.Met.met }; fixed = lists-fixed refusalOutcome (λ i. i .buffer) };
-  list-text = record { promises = record { code = SeclangListText.Symbol.routine; tied = λ M. refl; met = λ M. SeclangListText.Met.met }; fixed = lists-text-fixed };
+  next-token = record { promises = record { tied = λ M 𝓤 H A mem run. refl; met = λ M 𝓤. SeclangNextToken.Met.met 𝓤 }; fixed = steps-fixed };
+  tokens = record { promises = record { tied = λ M 𝓤 H A mem run. refl; met = λ M 𝓤. SeclangTokens.Met.met 𝓤 }; fixed = fills-fixed _ };
+  parse-actions = record { promises = record { tied = λ M 𝓤 H A mem run. refl; met = λ M 𝓤. SeclangParseActions.Met.met 𝓤 }; fixed = fills-actions-fixed };
+  parse-setvar = record { promises = record { tied = λ M 𝓤 H A mem run. refl; met = λ M 𝓤. SeclangParseSetvar.Met.met 𝓤 }; fixed = fills-fixed _ };
+  parse-variables = record { promises = record { tied = λ M 𝓤 H A mem run. refl; met = λ M 𝓤. SeclangParseVariables.Met.met 𝓤 }; fixed = fills-fixed _ };
+  parse-update-targets = record { promises = record { tied = λ M 𝓤 H A mem run. refl; met = λ M 𝓤. SeclangParseUpdateTargets.Met.met 𝓤 }; fixed = fills-fixed _ };
+  parse-operator = record { promises = record { tied = λ M 𝓤 H A mem run. refl; met = λ M 𝓤. SeclangParseOperator.Met.met 𝓤 }; fixed = operator-fixed };
+  lookup = record { promises = record { tied = λ M 𝓤 H A mem run. refl; met = λ M 𝓤. SeclangLookup.Met.met 𝓤 }; fixed = λ κs. gives _ };
+  test = record { promises = record { tied = λ M 𝓤 H A mem run. refl; met = λ M 𝓤. SeclangTest.Met.met 𝓤 }; fixed = λ κs. gives _ };
+  xml-target = record { promises = record { tied = λ M 𝓤 H A mem run. refl; met = λ M 𝓤. SeclangXmlTarget.Met.met 𝓤 }; fixed = λ κs. gives _ };
+  phase = record { promises = record { tied = λ M 𝓤 H A mem run. refl; met = λ M 𝓤. SeclangPhase.Met.met 𝓤 }; fixed = λ κs. gives _ };
+  grade = record { promises = record { tied = λ M 𝓤 H A mem run. refl; met = λ M 𝓤. SeclangGrade.Met.met 𝓤 }; fixed = λ κs. gives _ };
+  version = record { promises = record { tied = λ M 𝓤 H A mem run. refl; met = λ M 𝓤. SeclangVersion.Met.met 𝓤 }; fixed = λ κs. gives _ };
+  matches = record { promises = record { tied = λ M 𝓤 H A mem run. refl; met = λ M 𝓤. SeclangMatches.Met.met 𝓤 }; fixed = λ κs. gives _ };
+  write-listing = record { promises = record { tied = λ M 𝓤 H A mem run. refl; met = λ M 𝓤. SeclangWriteListing.Met.met 𝓤 }; fixed = lists-fixed recordsOutcome (λ i. i .buffer) };
+  write-refusal = record { promises = record { tied = λ M 𝓤 H A mem run. refl; met = λ M 𝓤. SeclangWriteRefusal.Met.met 𝓤 }; fixed = lists-fixed refusalOutcome (λ i. i .buffer) };
+  list-text = record { promises = record { tied = λ M 𝓤 H A mem run. refl; met = λ M 𝓤. SeclangListText.Met.met 𝓤 }; fixed = lists-text-fixed };
 }

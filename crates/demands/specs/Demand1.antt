@@ -124,112 +124,112 @@ use Rattle.demands.specs.Library.{OfLibrary}
 
 -- Bytes: classes and letter case.
 pub record OfBytes : Type 3 where
-  pub is-white : Answers IsWhite.ended IsWhite.Statement.statement (λ _ a. white (a .0))
-  pub ends-operator-name : Answers EndsOperatorName.ended EndsOperatorName.Statement.statement (λ _ a. operatorNameEnd (a .0))
-  pub is-digit : Answers IsDigit.ended IsDigit.Statement.statement (λ _ a. digit (a .0))
-  pub to-lower : Answers ToLower.ended ToLower.Statement.statement (λ _ a. lower (a .0))
-  pub to-upper : Answers ToUpper.ended ToUpper.Statement.statement (λ _ a. upper (a .0))
+  pub is-white : Answers IsWhite.ended (λ M 𝓤. IsWhite.spec 𝓤) IsWhite.Symbol.routine (λ _ a. white (a .0))
+  pub ends-operator-name : Answers EndsOperatorName.ended (λ M 𝓤. EndsOperatorName.spec 𝓤) EndsOperatorName.Symbol.routine (λ _ a. operatorNameEnd (a .0))
+  pub is-digit : Answers IsDigit.ended (λ M 𝓤. IsDigit.spec 𝓤) IsDigit.Symbol.routine (λ _ a. digit (a .0))
+  pub to-lower : Answers ToLower.ended (λ M 𝓤. ToLower.spec 𝓤) ToLower.Symbol.routine (λ _ a. lower (a .0))
+  pub to-upper : Answers ToUpper.ended (λ M 𝓤. ToUpper.spec 𝓤) ToUpper.Symbol.routine (λ _ a. upper (a .0))
 
 -- Texts; a part handed back is a part of the caller's text, where it stands there.
 pub record OfTexts : Type 3 where
-  pub is-same : Answers IsSame.ended IsSame.Statement.statement (λ _ a. same (now (a .0)) (now (a .1 .0)))
-  pub same-lowered : Answers SameLowered.ended SameLowered.Statement.statement (λ _ a. sameLowered (now (a .0)) (now (a .1 .0)))
-  pub leading-white : Answers LeadingWhite.ended LeadingWhite.Statement.statement (λ _ a. leadingWhite (now (a .0)))
-  pub trimmed-len : Answers TrimmedLen.ended TrimmedLen.Statement.statement (λ _ a. length (trimEnd (now (a .0))))
-  pub trim-start : Keeps TrimStart.ended TrimStart.Statement.statement Standing Standing (λ s r. r ≡ trimStartOf s) (λ _ a. standing (a .0)) (λ _ r e. standing r)
-  pub trim-end : Keeps TrimEnd.ended TrimEnd.Statement.statement Standing Standing (λ s r. r ≡ trimEndOf s) (λ _ a. standing (a .0)) (λ _ r e. standing r)
-  pub trim : Keeps Trim.ended Trim.Statement.statement Standing Standing (λ s r. r ≡ trimEndsOf s) (λ _ a. standing (a .0)) (λ _ r e. standing r)
-  pub trimmed : Answers Trimmed.ended Trimmed.Statement.statement (λ _ a. trimmedPart (now (a .0)))
-  pub first-of : Answers FirstOf.ended FirstOf.Statement.statement (λ _ a. firstOf (a .1 .0) (now (a .0)))
+  pub is-same : Answers IsSame.ended (λ M 𝓤. IsSame.spec 𝓤) IsSame.Symbol.routine (λ _ a. same (now (a .0)) (now (a .1 .0)))
+  pub same-lowered : Answers SameLowered.ended (λ M 𝓤. SameLowered.spec 𝓤) SameLowered.Symbol.routine (λ _ a. sameLowered (now (a .0)) (now (a .1 .0)))
+  pub leading-white : Answers LeadingWhite.ended (λ M 𝓤. LeadingWhite.spec 𝓤) LeadingWhite.Symbol.routine (λ _ a. leadingWhite (now (a .0)))
+  pub trimmed-len : Answers TrimmedLen.ended (λ M 𝓤. TrimmedLen.spec 𝓤) TrimmedLen.Symbol.routine (λ _ a. length (trimEnd (now (a .0))))
+  pub trim-start : Keeps TrimStart.ended (λ M 𝓤. TrimStart.spec 𝓤) TrimStart.Symbol.routine Standing Standing (λ s r. r ≡ trimStartOf s) (λ _ a. standing (a .0)) (λ _ r e. standing r)
+  pub trim-end : Keeps TrimEnd.ended (λ M 𝓤. TrimEnd.spec 𝓤) TrimEnd.Symbol.routine Standing Standing (λ s r. r ≡ trimEndOf s) (λ _ a. standing (a .0)) (λ _ r e. standing r)
+  pub trim : Keeps Trim.ended (λ M 𝓤. Trim.spec 𝓤) Trim.Symbol.routine Standing Standing (λ s r. r ≡ trimEndsOf s) (λ _ a. standing (a .0)) (λ _ r e. standing r)
+  pub trimmed : Answers Trimmed.ended (λ M 𝓤. Trimmed.spec 𝓤) Trimmed.Symbol.routine (λ _ a. trimmedPart (now (a .0)))
+  pub first-of : Answers FirstOf.ended (λ M 𝓤. FirstOf.spec 𝓤) FirstOf.Symbol.routine (λ _ a. firstOf (a .1 .0) (now (a .0)))
 
 -- Numbers, over any width.
 pub record OfNumbers : Type 3 where
-  pub digits : Answers Digits.ended Digits.Statement.statement (λ _ a. digitsBy (a .1 .0) (now (a .0)))
-  pub unsigned : Answers Unsigned.ended Unsigned.Statement.statement (λ _ a. unsignedBy (a .1 .0) (now (a .0)))
-  pub signed : Answers Signed.ended Signed.Statement.statement (λ _ a. signedWord (now (a .0)))
+  pub digits : Answers Digits.ended (λ M 𝓤. Digits.spec 𝓤) Digits.Symbol.routine (λ _ a. digitsBy (a .1 .0) (now (a .0)))
+  pub unsigned : Answers Unsigned.ended (λ M 𝓤. Unsigned.spec 𝓤) Unsigned.Symbol.routine (λ _ a. unsignedBy (a .1 .0) (now (a .0)))
+  pub signed : Answers Signed.ended (λ M 𝓤. Signed.spec 𝓤) Signed.Symbol.routine (λ _ a. signedWord (now (a .0)))
 
 -- The gate, sizes and spans; what a buffer holds afterwards, bytes and words alike.
 pub record OfLent : Type 3 where
-  pub admit : Answers Admit.ended Admit.Statement.statement (λ _ a. gateOf (now (a .0)) (a .1 .0) (a .1 .1 .0))
-  pub first-high : Answers FirstHigh.ended FirstHigh.Statement.statement (λ _ a. firstHigh (now (a .0)))
-  pub span : Answers Span.ended Span.Statement.statement (λ _ a. spanWord (a .0) (a .1 .0))
-  pub span-offset : Answers SpanOffset.ended SpanOffset.Statement.statement (λ _ a. spanOffset (a .0))
-  pub span-length : Answers SpanLength.ended SpanLength.Statement.statement (λ _ a. spanLength (a .0))
-  pub room : Answers Room.ended Room.Statement.statement (λ _ a. roomFor (a .1 .0) (a .0))
-  pub clear-bytes : Keeps ClearBytes.ended ClearBytes.Statement.statement (List ℕ) (List ℕ) (λ out o. o ≡ zeros (length out)) (λ _ a. now (a .0)) (λ _ r e. now (e .0))
-  pub clear-words : Keeps ClearWords.ended ClearWords.Statement.statement (List ℕ) (List ℕ) (λ out o. o ≡ zeros (length out)) (λ _ a. now (a .0)) (λ _ r e. now (e .0))
-  pub store-bytes : Keeps StoreBytes.ended StoreBytes.Statement.statement (List ℕ × ℕ × List ℕ) (List ℕ) (λ i o. o ≡ stored (i .0) (i .1) (i .2))
+  pub admit : Answers Admit.ended (λ M 𝓤. Admit.spec 𝓤) Admit.Symbol.routine (λ _ a. gateOf (now (a .0)) (a .1 .0) (a .1 .1 .0))
+  pub first-high : Answers FirstHigh.ended (λ M 𝓤. FirstHigh.spec 𝓤) FirstHigh.Symbol.routine (λ _ a. firstHigh (now (a .0)))
+  pub span : Answers Span.ended (λ M 𝓤. Span.spec 𝓤) Span.Symbol.routine (λ _ a. spanWord (a .0) (a .1 .0))
+  pub span-offset : Answers SpanOffset.ended (λ M 𝓤. SpanOffset.spec 𝓤) SpanOffset.Symbol.routine (λ _ a. spanOffset (a .0))
+  pub span-length : Answers SpanLength.ended (λ M 𝓤. SpanLength.spec 𝓤) SpanLength.Symbol.routine (λ _ a. spanLength (a .0))
+  pub room : Answers Room.ended (λ M 𝓤. Room.spec 𝓤) Room.Symbol.routine (λ _ a. roomFor (a .1 .0) (a .0))
+  pub clear-bytes : Keeps ClearBytes.ended (λ M 𝓤. ClearBytes.spec 𝓤) ClearBytes.Symbol.routine (List ℕ) (List ℕ) (λ out o. o ≡ zeros (length out)) (λ _ a. now (a .0)) (λ _ r e. now (e .0))
+  pub clear-words : Keeps ClearWords.ended (λ M 𝓤. ClearWords.spec 𝓤) ClearWords.Symbol.routine (List ℕ) (List ℕ) (λ out o. o ≡ zeros (length out)) (λ _ a. now (a .0)) (λ _ r e. now (e .0))
+  pub store-bytes : Keeps StoreBytes.ended (λ M 𝓤. StoreBytes.spec 𝓤) StoreBytes.Symbol.routine (List ℕ × ℕ × List ℕ) (List ℕ) (λ i o. o ≡ stored (i .0) (i .1) (i .2))
       (λ _ a. (now (a .0), a .1 .0, now (a .1 .1 .0))) (λ _ r e. now (e .0))
-  pub store-words : Keeps StoreWords.ended StoreWords.Statement.statement (List ℕ × ℕ × List ℕ) (List ℕ) (λ i o. o ≡ stored (i .0) (i .1) (i .2))
+  pub store-words : Keeps StoreWords.ended (λ M 𝓤. StoreWords.spec 𝓤) StoreWords.Symbol.routine (List ℕ × ℕ × List ℕ) (List ℕ) (λ i o. o ≡ stored (i .0) (i .1) (i .2))
       (λ _ a. (now (a .0), a .1 .0, now (a .1 .1 .0))) (λ _ r e. now (e .0))
   -- where a reader may start, how it ends, and what a refusal by name leaves of both buffers
-  pub starts : Answers Starts.ended Starts.Statement.statement (λ _ a. startsAt (a .0) (a .1 .0) (a .1 .1 .0) (a .1 .1 .1 .0))
-  pub finish : Keeps Finish.ended Finish.Statement.statement Filling (Left Bool) finish-promise
+  pub starts : Answers Starts.ended (λ M 𝓤. Starts.spec 𝓤) Starts.Symbol.routine (λ _ a. startsAt (a .0) (a .1 .0) (a .1 .1 .0) (a .1 .1 .1 .0))
+  pub finish : Keeps Finish.ended (λ M 𝓤. Finish.spec 𝓤) Finish.Symbol.routine Filling (Left Bool) finish-promise
       (λ _ a. record { text = now (a .0); used = a .1 .0; records = now (a .1 .1 .0); count = a .1 .1 .1 .0; width = a .1 .1 .1 .1 .0 })
       (λ _ r e. left r (now (e .0)) (now (e .1 .1 .0)))
-  pub refuse-piece : Keeps RefusePiece.ended RefusePiece.Statement.statement Lent (List ℕ × List ℕ)
+  pub refuse-piece : Keeps RefusePiece.ended (λ M 𝓤. RefusePiece.spec 𝓤) RefusePiece.Symbol.routine Lent (List ℕ × List ℕ)
       (λ i o. (o .0 ≡ stored (zeros (length (i .text))) 0 (i .input)) × (o .1 ≡ zeros (length (i .records))))
       (λ _ a. lent (now (a .1 .1 .0)) (now (a .0)) (now (a .1 .0))) (λ _ r e. (now (e .0), now (e .1 .0)))
 
 -- Lookups, and tests on a code, a selection, an id, records or a word of one: they answer on anything, and never by the table.
 pub record OfNames : Type 3 where
-  pub variable-code : Answers VariableCode.ended VariableCode.Statement.statement (λ _ a. variableCode (now (a .0)))
-  pub operator-code : Answers OperatorCode.ended OperatorCode.Statement.statement (λ _ a. operatorCode (now (a .0)))
-  pub severity-code : Answers SeverityCode.ended SeverityCode.Statement.statement (λ _ a. severityCode (now (a .0)))
-  pub is-collection : Answers IsCollection.ended IsCollection.Statement.statement (λ _ a. isCollection (a .0))
-  pub is-implemented : Answers IsImplemented.ended IsImplemented.Statement.statement (λ _ a. isImplemented (a .0))
-  pub requires-argument : Answers RequiresArgument.ended RequiresArgument.Statement.statement (λ _ a. requiresArgument (a .0))
-  pub xml-target : Answers XmlTarget.ended XmlTarget.Statement.statement (λ _ a. xmlTarget (a .0) (now (a .1 .0)))
-  pub matches : Answers Matches.ended Matches.Statement.statement (λ _ a. matched (a .0) (a .1 .0))
-  pub phase : Answers Phase.ended Phase.Statement.statement (λ _ a. phaseOf (entries (now (a .0))))
-  pub grade : Answers Grade.ended Grade.Statement.statement (λ _ a. grades (entries (now (a .0))))
-  pub is-text : Answers IsText.ended IsText.Statement.statement (λ _ a. getD (marksFor (a .0) (a .1 .0)) (a .1 .1 .0) false)
+  pub variable-code : Answers VariableCode.ended (λ M 𝓤. VariableCode.spec 𝓤) VariableCode.Symbol.routine (λ _ a. variableCode (now (a .0)))
+  pub operator-code : Answers OperatorCode.ended (λ M 𝓤. OperatorCode.spec 𝓤) OperatorCode.Symbol.routine (λ _ a. operatorCode (now (a .0)))
+  pub severity-code : Answers SeverityCode.ended (λ M 𝓤. SeverityCode.spec 𝓤) SeverityCode.Symbol.routine (λ _ a. severityCode (now (a .0)))
+  pub is-collection : Answers IsCollection.ended (λ M 𝓤. IsCollection.spec 𝓤) IsCollection.Symbol.routine (λ _ a. isCollection (a .0))
+  pub is-implemented : Answers IsImplemented.ended (λ M 𝓤. IsImplemented.spec 𝓤) IsImplemented.Symbol.routine (λ _ a. isImplemented (a .0))
+  pub requires-argument : Answers RequiresArgument.ended (λ M 𝓤. RequiresArgument.spec 𝓤) RequiresArgument.Symbol.routine (λ _ a. requiresArgument (a .0))
+  pub xml-target : Answers XmlTarget.ended (λ M 𝓤. XmlTarget.spec 𝓤) XmlTarget.Symbol.routine (λ _ a. xmlTarget (a .0) (now (a .1 .0)))
+  pub matches : Answers Matches.ended (λ M 𝓤. Matches.spec 𝓤) Matches.Symbol.routine (λ _ a. matched (a .0) (a .1 .0))
+  pub phase : Answers Phase.ended (λ M 𝓤. Phase.spec 𝓤) Phase.Symbol.routine (λ _ a. phaseOf (entries (now (a .0))))
+  pub grade : Answers Grade.ended (λ M 𝓤. Grade.spec 𝓤) Grade.Symbol.routine (λ _ a. grades (entries (now (a .0))))
+  pub is-text : Answers IsText.ended (λ M 𝓤. IsText.spec 𝓤) IsText.Symbol.routine (λ _ a. getD (marksFor (a .0) (a .1 .0)) (a .1 .1 .0) false)
 
 -- ---- the readers
 
 -- The lexer, and the reader that holds a reference to its text, of whatever kind.
 pub record OfLexer : Type 3 where
-  pub start : Answers Start.ended Start.Statement.statement (λ _ a. fresh)
-  pub step-in : Keeps StepIn.ended StepIn.Statement.statement Place (Wrote Step) step-in-promise (λ _ a. place (now (a .0)) (a .1 .0) (now (a .1 .1 .0))) (λ _ r e. wrote r (now (e .1 .1 .0)))
-  pub next-token : Keeps NextToken.ended NextToken.Statement.statement Place (Wrote Step) next-token-promise
+  pub start : Answers Start.ended (λ M 𝓤. Start.spec 𝓤) Start.Symbol.routine (λ _ a. fresh)
+  pub step-in : Keeps StepIn.ended (λ M 𝓤. StepIn.spec 𝓤) StepIn.Symbol.routine Place (Wrote Step) step-in-promise (λ _ a. place (now (a .0)) (a .1 .0) (now (a .1 .1 .0))) (λ _ r e. wrote r (now (e .1 .1 .0)))
+  pub next-token : Keeps NextToken.ended (λ M 𝓤. NextToken.spec 𝓤) NextToken.Symbol.routine Place (Wrote Step) next-token-promise
       (λ _ a. place (now (a .0)) (a .1 .0) (now (a .1 .1 .0))) (λ _ r e. wrote r (now (e .1 .1 .0)))
-  pub tokens : Keeps TokensOf.ended TokensOf.Statement.statement Lent (Left Tokens.Answer) tokens-promise
+  pub tokens : Keeps TokensOf.ended (λ M 𝓤. TokensOf.spec 𝓤) TokensOf.Symbol.routine Lent (Left Tokens.Answer) tokens-promise
       (λ _ a. lent (now (a .0)) (now (a .1 .0)) (now (a .1 .1 .0))) (λ _ r e. left r (now (e .1 .0)) (now (e .1 .1 .0)))
-  pub reader-of : Decides ReaderOf.ended ReaderOf.Statement.statement (λ _ a r. (r .text ≡ a .0) × (r .cursor ≡ fresh))
-  pub reader-at : Decides ReaderAt.ended ReaderAt.Statement.statement (λ _ a r. (r .text ≡ a .0 .text) × (r .cursor ≡ a .1 .0))
-  pub next-of : Keeps NextOf.ended NextOf.Statement.statement Place (Wrote Step) next-token-promise
+  pub reader-of : Decides ReaderOf.ended (λ M 𝓤. ReaderOf.spec 𝓤) ReaderOf.Symbol.routine (λ _ a r. (r .text ≡ a .0) × (r .cursor ≡ fresh))
+  pub reader-at : Decides ReaderAt.ended (λ M 𝓤. ReaderAt.spec 𝓤) ReaderAt.Symbol.routine (λ _ a r. (r .text ≡ a .0 .text) × (r .cursor ≡ a .1 .0))
+  pub next-of : Keeps NextOf.ended (λ M 𝓤. NextOf.spec 𝓤) NextOf.Symbol.routine Place (Wrote Step) next-token-promise
       (λ _ a. place (now (a .0 .text)) (a .0 .cursor) (now (a .1 .0))) (λ _ r e. wrote r (now (e .1 .0)))
-  pub token-at : Keeps TokenAt.ended TokenAt.Statement.statement Place (Wrote Step) next-token-promise
+  pub token-at : Keeps TokenAt.ended (λ M 𝓤. TokenAt.spec 𝓤) TokenAt.Symbol.routine Place (Wrote Step) next-token-promise
       (λ _ a. place (now (a .0)) (a .1 .0) (now (a .1 .1 .0))) (λ _ r e. wrote r (now (e .1 .1 .0)))
-  pub first-token : Keeps FirstToken.ended FirstToken.Statement.statement Place (Wrote Step) next-token-promise
+  pub first-token : Keeps FirstToken.ended (λ M 𝓤. FirstToken.spec 𝓤) FirstToken.Symbol.routine Place (Wrote Step) next-token-promise
       (λ _ a. place (now (a .0)) fresh (now (a .1 .0))) (λ _ r e. wrote r (now (e .1 .0)))
 
 -- One action, by places in its piece. What is read is fixed, and not the places: equal bytes may stand at two of them.
 -- So these two are the exception: their promise says what a verdict means, and any two verdicts that meet it mean the same.
 pub record OfSingles : Type 3 where
-  pub read-single : Promises ReadSingle.ended ReadSingle.Statement.statement (λ _ a r e. Judged (now (a .0)) r (single (now (a .0))))
+  pub read-single : Promises ReadSingle.ended (λ M 𝓤. ReadSingle.spec 𝓤) ReadSingle.Symbol.routine (λ _ a r e. Judged (now (a .0)) r (single (now (a .0))))
   pub single-once : (s : List ℕ) (v w : Verdict) → Judged s v (single s) → Judged s w (single s) → verdictSingle s v ≡ verdictSingle s w
-  pub read-setvar : Promises ReadSetvar.ended ReadSetvar.Statement.statement (λ _ a r e. Planned (now (a .0)) r (setvarAction setVarCode (setvar (now (a .0)))))
+  pub read-setvar : Promises ReadSetvar.ended (λ M 𝓤. ReadSetvar.spec 𝓤) ReadSetvar.Symbol.routine (λ _ a r e. Planned (now (a .0)) r (setvarAction setVarCode (setvar (now (a .0)))))
   pub setvar-once : (s : List ℕ) (p q : Plan) → Planned s p (setvarAction setVarCode (setvar s)) → Planned s q (setvarAction setVarCode (setvar s)) → planAction s p ≡ planAction s q
-  pub put-name : Keeps PutName.ended PutName.Statement.statement (ℕ × List ℕ) (List ℕ × ℕ)
+  pub put-name : Keeps PutName.ended (λ M 𝓤. PutName.spec 𝓤) PutName.Symbol.routine (ℕ × List ℕ) (List ℕ × ℕ)
       (λ i o. (o .0 ≡ stored (i .1) 0 (rowAt (i .0) .name)) × (o .1 ≡ length (rowAt (i .0) .name)))
       (λ _ a. (a .0, now (a .1 .0))) (λ _ r e. (now (e .1 .0), r))
 
 pub record OfParsers : Type 3 where
-  pub parse-actions : Keeps ParseActions.ended ParseActions.Statement.statement (Lent × List ℕ) (Left Listed.Answer × List ℕ) parse-actions-promise
+  pub parse-actions : Keeps ParseActions.ended (λ M 𝓤. ParseActions.spec 𝓤) ParseActions.Symbol.routine (Lent × List ℕ) (Left Listed.Answer × List ℕ) parse-actions-promise
       (λ _ a. (lent (now (a .0)) (now (a .1 .0)) (now (a .1 .1 .1 .0)), now (a .1 .1 .0)))
       (λ _ r e. (left r (now (e .1 .0)) (now (e .1 .1 .1 .0)), now (e .1 .1 .0)))
-  pub normalise : Keeps Normalise.ended Normalise.Statement.statement (List ℕ × List ℕ) (Wrote Normal) normalise-promise (λ _ a. (now (a .0), now (a .1 .0))) (λ _ r e. wrote r (now (e .1 .0)))
-  pub read-actions : Keeps ReadActions.ended ReadActions.Statement.statement (Lent × (ℕ × ℕ)) (Left Acted.Reached) read-actions-promise
+  pub normalise : Keeps Normalise.ended (λ M 𝓤. Normalise.spec 𝓤) Normalise.Symbol.routine (List ℕ × List ℕ) (Wrote Normal) normalise-promise (λ _ a. (now (a .0), now (a .1 .0))) (λ _ r e. wrote r (now (e .1 .0)))
+  pub read-actions : Keeps ReadActions.ended (λ M 𝓤. ReadActions.spec 𝓤) ReadActions.Symbol.routine (Lent × (ℕ × ℕ)) (Left Acted.Reached) read-actions-promise
       (λ _ a. (lent (now (a .0)) (now (a .1 .0)) (now (a .1 .1 .1 .0)), (a .1 .1 .0, a .1 .1 .1 .1 .0)))
       (λ _ r e. left r (now (e .1 .0)) (now (e .1 .1 .1 .0)))
-  pub parse-setvar : Keeps ParseSetvar.ended ParseSetvar.Statement.statement Lent (Left Listed.Answer) parse-setvar-promise
+  pub parse-setvar : Keeps ParseSetvar.ended (λ M 𝓤. ParseSetvar.spec 𝓤) ParseSetvar.Symbol.routine Lent (Left Listed.Answer) parse-setvar-promise
       (λ _ a. lent (now (a .0)) (now (a .1 .0)) (now (a .1 .1 .0))) (λ _ r e. left r (now (e .1 .0)) (now (e .1 .1 .0)))
-  pub parse-variables : Keeps ParseVariables.ended ParseVariables.Statement.statement Lent (Left Targets.Answer) parse-variables-promise
+  pub parse-variables : Keeps ParseVariables.ended (λ M 𝓤. ParseVariables.spec 𝓤) ParseVariables.Symbol.routine Lent (Left Targets.Answer) parse-variables-promise
       (λ _ a. lent (now (a .0)) (now (a .1 .0)) (now (a .1 .1 .0))) (λ _ r e. left r (now (e .1 .0)) (now (e .1 .1 .0)))
-  pub parse-update-targets : Keeps ParseUpdateTargets.ended ParseUpdateTargets.Statement.statement Lent (Left Targets.Answer) parse-update-targets-promise
+  pub parse-update-targets : Keeps ParseUpdateTargets.ended (λ M 𝓤. ParseUpdateTargets.spec 𝓤) ParseUpdateTargets.Symbol.routine Lent (Left Targets.Answer) parse-update-targets-promise
       (λ _ a. lent (now (a .0)) (now (a .1 .0)) (now (a .1 .1 .0))) (λ _ r e. left r (now (e .1 .0)) (now (e .1 .1 .0)))
-  pub read-targets : Keeps ReadTargets.ended ReadTargets.Statement.statement From (Left Reached) read-targets-promise
+  pub read-targets : Keeps ReadTargets.ended (λ M 𝓤. ReadTargets.spec 𝓤) ReadTargets.Symbol.routine From (Left Reached) read-targets-promise
       (λ _ a.
       record {
         lent = lent (now (a .0)) (now (a .1 .1 .0)) (now (a .1 .1 .1 .1 .0));
@@ -238,16 +238,16 @@ pub record OfParsers : Type 3 where
         place = a .1 .1 .1 .1 .1 .0;
       })
       (λ _ r e. left r (now (e .1 .1 .0)) (now (e .1 .1 .1 .1 .0)))
-  pub operator-in : Keeps OperatorIn.ended OperatorIn.Statement.statement (List ℕ) Operator.Answer operator-in-promise (λ _ a. now (a .0)) (λ _ r e. r)
-  pub parse-operator : Keeps ParseOperator.ended ParseOperator.Statement.statement (List ℕ) Operator.Answer parse-operator-promise (λ _ a. now (a .0)) (λ _ r e. r)
-  pub operator-argument : Keeps OperatorArgument.ended OperatorArgument.Statement.statement Standing Standing operator-argument-promise (λ _ a. standing (a .0)) (λ _ r e. standing r)
+  pub operator-in : Keeps OperatorIn.ended (λ M 𝓤. OperatorIn.spec 𝓤) OperatorIn.Symbol.routine (List ℕ) Operator.Answer operator-in-promise (λ _ a. now (a .0)) (λ _ r e. r)
+  pub parse-operator : Keeps ParseOperator.ended (λ M 𝓤. ParseOperator.spec 𝓤) ParseOperator.Symbol.routine (List ℕ) Operator.Answer parse-operator-promise (λ _ a. now (a .0)) (λ _ r e. r)
+  pub operator-argument : Keeps OperatorArgument.ended (λ M 𝓤. OperatorArgument.spec 𝓤) OperatorArgument.Symbol.routine Standing Standing operator-argument-promise (λ _ a. standing (a .0)) (λ _ r e. standing r)
 
 pub record OfListing : Type 3 where
-  pub write-listing : Keeps WriteListing.ended WriteListing.Statement.statement Records (Wrote Listing.Answer) write-listing-promise
+  pub write-listing : Keeps WriteListing.ended (λ M 𝓤. WriteListing.spec 𝓤) WriteListing.Symbol.routine Records (Wrote Listing.Answer) write-listing-promise
       (λ _ a. record { words = now (a .0); texts = now (a .1 .0); stop = a .1 .1 .0; buffer = now (a .1 .1 .1 .0) }) (λ _ r e. wrote r (now (e .1 .1 .1 .0)))
-  pub write-refusal : Keeps WriteRefusal.ended WriteRefusal.Statement.statement Refusal (Wrote Listing.Answer) write-refusal-promise
+  pub write-refusal : Keeps WriteRefusal.ended (λ M 𝓤. WriteRefusal.spec 𝓤) WriteRefusal.Symbol.routine Refusal (Wrote Listing.Answer) write-refusal-promise
       (λ _ a. record { number = a .0; place = a .1 .0; buffer = now (a .1 .1 .0) }) (λ _ r e. wrote r (now (e .1 .1 .0)))
-  pub list-text : Keeps ListText.ended ListText.Statement.statement (Lent × List ℕ) (Left Listing.Answer × List ℕ) list-text-promise
+  pub list-text : Keeps ListText.ended (λ M 𝓤. ListText.spec 𝓤) ListText.Symbol.routine (Lent × List ℕ) (Left Listing.Answer × List ℕ) list-text-promise
       (λ _ a. (lent (now (a .0)) (now (a .1 .0)) (now (a .1 .1 .0)), now (a .1 .1 .1 .0)))
       (λ _ r e. (left r (now (e .1 .0)) (now (e .1 .1 .0)), now (e .1 .1 .1 .0)))
 

@@ -73,33 +73,33 @@ lists-text-promise i o =
     ListsText (i .0 .0 .input) (i .0 .0 .text) (o .0 .0 .text) (i .0 .0 .records) (o .0 .0 .records) (i .0 .1) (o .0 .1) (i .1) (o .1) (o .0 .0 .answer)
 
 pub record OfLibrary : Type 3 where
-  pub next-token : Keeps SeclangNextToken.ended SeclangNextToken.Statement.statement (With Place) (With (Wrote ℕ)) steps-promise
+  pub next-token : Keeps SeclangNextToken.ended (λ M 𝓤. SeclangNextToken.spec 𝓤) SeclangNextToken.Symbol.routine (With Place) (With (Wrote ℕ)) steps-promise
       (λ _ a. (place (now (a .0)) (cursor (a .1 .0) (a .1 .1 .0) (a .1 .1 .1 .0) (a .1 .1 .1 .1 .0)) (now (a .1 .1 .1 .1 .1 .0)), now (a .1 .1 .1 .1 .1 .1 .0)))
       (λ _ r e. (wrote r (now (e .1 .1 .1 .1 .1 .0)), now (e .1 .1 .1 .1 .1 .1 .0)))
-  pub tokens : Keeps SeclangTokens.ended SeclangTokens.Statement.statement (With Lent) (With (Left ℕ)) (fills-promise (λ i. tokensOutcome (i .input) (length (i .text)) (length (i .records))))
+  pub tokens : Keeps SeclangTokens.ended (λ M 𝓤. SeclangTokens.spec 𝓤) SeclangTokens.Symbol.routine (With Lent) (With (Left ℕ)) (fills-promise (λ i. tokensOutcome (i .input) (length (i .text)) (length (i .records))))
       (λ _ a. (lent (now (a .0)) (now (a .1 .0)) (now (a .1 .1 .0)), now (a .1 .1 .1 .0)))
       (λ _ r e. (left r (now (e .1 .0)) (now (e .1 .1 .0)), now (e .1 .1 .1 .0)))
-  pub parse-actions : Keeps SeclangParseActions.ended SeclangParseActions.Statement.statement (With (Lent × List ℕ)) (With (Left ℕ × List ℕ)) fills-actions-promise
+  pub parse-actions : Keeps SeclangParseActions.ended (λ M 𝓤. SeclangParseActions.spec 𝓤) SeclangParseActions.Symbol.routine (With (Lent × List ℕ)) (With (Left ℕ × List ℕ)) fills-actions-promise
       (λ _ a. ((lent (now (a .0)) (now (a .1 .0)) (now (a .1 .1 .1 .0)), now (a .1 .1 .0)), now (a .1 .1 .1 .1 .0)))
       (λ _ r e. ((left r (now (e .1 .0)) (now (e .1 .1 .1 .0)), now (e .1 .1 .0)), now (e .1 .1 .1 .1 .0)))
-  pub parse-setvar : Keeps SeclangParseSetvar.ended SeclangParseSetvar.Statement.statement (With Lent) (With (Left ℕ)) (fills-promise (λ i. setvarOutcome (i .input) (length (i .text)) (length (i .records))))
+  pub parse-setvar : Keeps SeclangParseSetvar.ended (λ M 𝓤. SeclangParseSetvar.spec 𝓤) SeclangParseSetvar.Symbol.routine (With Lent) (With (Left ℕ)) (fills-promise (λ i. setvarOutcome (i .input) (length (i .text)) (length (i .records))))
       (λ _ a. (lent (now (a .0)) (now (a .1 .0)) (now (a .1 .1 .0)), now (a .1 .1 .1 .0)))
       (λ _ r e. (left r (now (e .1 .0)) (now (e .1 .1 .0)), now (e .1 .1 .1 .0)))
-  pub parse-variables : Keeps SeclangParseVariables.ended SeclangParseVariables.Statement.statement (With Lent) (With (Left ℕ)) (fills-promise (λ i. variablesOutcome (i .input) (length (i .text)) (length (i .records))))
+  pub parse-variables : Keeps SeclangParseVariables.ended (λ M 𝓤. SeclangParseVariables.spec 𝓤) SeclangParseVariables.Symbol.routine (With Lent) (With (Left ℕ)) (fills-promise (λ i. variablesOutcome (i .input) (length (i .text)) (length (i .records))))
       (λ _ a. (lent (now (a .0)) (now (a .1 .0)) (now (a .1 .1 .0)), now (a .1 .1 .1 .0)))
       (λ _ r e. (left r (now (e .1 .0)) (now (e .1 .1 .0)), now (e .1 .1 .1 .0)))
-  pub parse-update-targets : Keeps SeclangParseUpdateTargets.ended SeclangParseUpdateTargets.Statement.statement (With Lent) (With (Left ℕ)) (fills-promise (λ i. updateOutcome (i .input) (length (i .text)) (length (i .records))))
+  pub parse-update-targets : Keeps SeclangParseUpdateTargets.ended (λ M 𝓤. SeclangParseUpdateTargets.spec 𝓤) SeclangParseUpdateTargets.Symbol.routine (With Lent) (With (Left ℕ)) (fills-promise (λ i. updateOutcome (i .input) (length (i .text)) (length (i .records))))
       (λ _ a. (lent (now (a .0)) (now (a .1 .0)) (now (a .1 .1 .0)), now (a .1 .1 .1 .0)))
       (λ _ r e. (left r (now (e .1 .0)) (now (e .1 .1 .0)), now (e .1 .1 .1 .0)))
-  pub parse-operator : Keeps SeclangParseOperator.ended SeclangParseOperator.Statement.statement (With (List ℕ)) (With ℕ) operator-promise (λ _ a. (now (a .0), now (a .1 .0))) (λ _ r e. (r, now (e .1 .0)))
-  pub lookup : Answers SeclangLookup.ended SeclangLookup.Statement.statement (λ _ a. codeOf (lookupIn (a .0) (now (a .1 .0))))
-  pub test : Answers SeclangTest.ended SeclangTest.Statement.statement (λ _ a. testOf (a .0) (a .1 .0))
-  pub xml-target : Answers SeclangXmlTarget.ended SeclangXmlTarget.Statement.statement (λ _ a. targetOf (xmlTarget (a .0) (now (a .1 .0))))
-  pub phase : Answers SeclangPhase.ended SeclangPhase.Statement.statement (λ _ a. phaseOf (entries (now (a .0))))
-  pub grade : Answers SeclangGrade.ended SeclangGrade.Statement.statement (λ _ a. grades (entries (now (a .0))))
-  pub version : Answers SeclangVersion.ended SeclangVersion.Statement.statement (λ _ a. version)
-  pub matches : Answers SeclangMatches.ended SeclangMatches.Statement.statement (λ _ a. matched (selectorOf (a .0) (a .1 .0) (a .1 .1 .0)) (a .1 .1 .1 .0))
-  pub write-listing : Keeps SeclangWriteListing.ended SeclangWriteListing.Statement.statement (With Records) (With (Wrote ℕ)) (lists-promise recordsOutcome (λ i. i .buffer))
+  pub parse-operator : Keeps SeclangParseOperator.ended (λ M 𝓤. SeclangParseOperator.spec 𝓤) SeclangParseOperator.Symbol.routine (With (List ℕ)) (With ℕ) operator-promise (λ _ a. (now (a .0), now (a .1 .0))) (λ _ r e. (r, now (e .1 .0)))
+  pub lookup : Answers SeclangLookup.ended (λ M 𝓤. SeclangLookup.spec 𝓤) SeclangLookup.Symbol.routine (λ _ a. codeOf (lookupIn (a .0) (now (a .1 .0))))
+  pub test : Answers SeclangTest.ended (λ M 𝓤. SeclangTest.spec 𝓤) SeclangTest.Symbol.routine (λ _ a. testOf (a .0) (a .1 .0))
+  pub xml-target : Answers SeclangXmlTarget.ended (λ M 𝓤. SeclangXmlTarget.spec 𝓤) SeclangXmlTarget.Symbol.routine (λ _ a. targetOf (xmlTarget (a .0) (now (a .1 .0))))
+  pub phase : Answers SeclangPhase.ended (λ M 𝓤. SeclangPhase.spec 𝓤) SeclangPhase.Symbol.routine (λ _ a. phaseOf (entries (now (a .0))))
+  pub grade : Answers SeclangGrade.ended (λ M 𝓤. SeclangGrade.spec 𝓤) SeclangGrade.Symbol.routine (λ _ a. grades (entries (now (a .0))))
+  pub version : Answers SeclangVersion.ended (λ M 𝓤. SeclangVersion.spec 𝓤) SeclangVersion.Symbol.routine (λ _ a. version)
+  pub matches : Answers SeclangMatches.ended (λ M 𝓤. SeclangMatches.spec 𝓤) SeclangMatches.Symbol.routine (λ _ a. matched (selectorOf (a .0) (a .1 .0) (a .1 .1 .0)) (a .1 .1 .1 .0))
+  pub write-listing : Keeps SeclangWriteListing.ended (λ M 𝓤. SeclangWriteListing.spec 𝓤) SeclangWriteListing.Symbol.routine (With Records) (With (Wrote ℕ)) (lists-promise recordsOutcome (λ i. i .buffer))
       (λ _ a. (
         record {
           words = now (a .0);
@@ -110,9 +110,9 @@ pub record OfLibrary : Type 3 where
         now (a .1 .1 .1 .1 .1 .1 .0),
       ))
       (λ _ r e. (wrote r (now (e .1 .1 .1 .1 .1 .0)), now (e .1 .1 .1 .1 .1 .1 .0)))
-  pub write-refusal : Keeps SeclangWriteRefusal.ended SeclangWriteRefusal.Statement.statement (With Refusal) (With (Wrote ℕ)) (lists-promise refusalOutcome (λ i. i .buffer))
+  pub write-refusal : Keeps SeclangWriteRefusal.ended (λ M 𝓤. SeclangWriteRefusal.spec 𝓤) SeclangWriteRefusal.Symbol.routine (With Refusal) (With (Wrote ℕ)) (lists-promise refusalOutcome (λ i. i .buffer))
       (λ _ a. (record { number = a .0; place = a .1 .0; buffer = now (a .1 .1 .0) }, now (a .1 .1 .1 .0)))
       (λ _ r e. (wrote r (now (e .1 .1 .0)), now (e .1 .1 .1 .0)))
-  pub list-text : Keeps SeclangListText.ended SeclangListText.Statement.statement (With (Lent × List ℕ)) (With (Left ℕ × List ℕ)) lists-text-promise
+  pub list-text : Keeps SeclangListText.ended (λ M 𝓤. SeclangListText.spec 𝓤) SeclangListText.Symbol.routine (With (Lent × List ℕ)) (With (Left ℕ × List ℕ)) lists-text-promise
       (λ _ a. ((lent (now (a .0)) (now (a .1 .0)) (now (a .1 .1 .0)), now (a .1 .1 .1 .0)), now (a .1 .1 .1 .1 .0)))
       (λ _ r e. ((left r (now (e .1 .0)) (now (e .1 .1 .0)), now (e .1 .1 .1 .0)), now (e .1 .1 .1 .1 .0)))
