@@ -28,3 +28,5 @@ pub const TOKEN_WORDS: usize = 5;
 pub const ACTION_WORDS: usize = 6;
 
 pub const VARIABLE_WORDS: usize = 5;
+
+pub const DIRECTIVE_WORDS: usize = 11;

@@ -9,16 +9,11 @@ use Rattle.lent.specs.Sizes.{limit}
 use Rattle.lexer.specs.Cursors.{Cursor, fresh, moves}
 use Rattle.lexer.specs.Runs.{Spot}
 use Rattle.lexer.specs.Tokens.{Token, next, token}
-use Rattle.lexer.specs.Calls.{Fit}
+use Rattle.lexer.specs.Calls.{Fit, Reached}
 use Rattle.lexer.proofs.MoveLaws.{moves-append, moves-line, moves-column}
 use Rattle.lexer.proofs.RunLaws.{Passed, passed-place, passed-length}
 use Rattle.lexer.proofs.NextLaws.{Of, Taken, next-taken, taken-over}
 use Rattle.lexer.proofs.LoopLaws.{feeds-few, since-few}
-
--- it stands in the text, where the bytes before its place lead
-pub record Reached (s : List ℕ) (c : Cursor) : Type 0 where
-  pub inside : c .place ≤ length s
-  pub here : c ≡ moves (take (c .place) s) fresh
 
 pub reached-start : (s : List ℕ) → Reached s fresh
 unfolding fresh moves

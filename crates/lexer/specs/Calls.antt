@@ -3,9 +3,9 @@ use mathlib.Core.Path.{_≡_}
 use Prim.Native.Nat.{ℕ, _+_, _*_, _≤_, _<_}
 use mathlib.Core.Bool.{false}
 use mathlib.Core.List.{List, _++_, map}
-use lib.ListN.{length, getD}
+use lib.ListN.{length, take, getD}
 use Rattle.lent.specs.Sizes.{limit, cursorMost, tokenWords}
-use Rattle.lexer.specs.Cursors.{Cursor, cursor}
+use Rattle.lexer.specs.Cursors.{Cursor, cursor, fresh, moves}
 use Rattle.lexer.specs.Tokens.{Token, Reading, reading}
 use Rattle.lexer.specs.Places.{feeds}
 use Rattle.lexer.specs.Parts.{raise, raised, puts, lineIn, restIn, bare}
@@ -30,6 +30,11 @@ pub record Fit (s : List ℕ) (c : Cursor) : Type 0 where
   pub inside : c .place ≤ length s
   pub lined : Counted (c .line .0)
   pub columned : Counted (c .column .0)
+
+-- A cursor that stands in the text where the bytes before its place lead.
+pub record Reached (s : List ℕ) (c : Cursor) : Type 0 where
+  pub inside : c .place ≤ length s
+  pub here : c ≡ moves (take (c .place) s) fresh
 
 -- Number 9: the place is past the end, or the line or the column is 0 or above the largest.
 pub data Astray (s : List ℕ) (c : Cursor) : Type 0 where
