@@ -70,13 +70,7 @@ add-at c =
     omega (arith, bar-fits (now (start .args .s)) (at-loop .loop .at) _ (at-loop-test .loop-test .taken) (at-first-of .first-of .ensures))
 
 loop-again : tie.Need-loop-again Inv-loop μ-loop
-loop-again c =
-    let at-trimmed = c .before .before in
-    let at-first-of = at-trimmed .before .before in
-    let at-loop-test = at-first-of .before .before in
-    let at-loop = at-loop-test .before in
-    let start = at-loop .before .before in
-    (omega arith, part-empty (now (start .args .s)) (at-loop .loop .at) _ (at-loop-test .loop-test .taken) (at-first-of .first-of .ensures) _ (at-trimmed .trimmed .ensures) (c .if1 .left) ∙ at-loop .loop .inv .1)
+loop-again c = (omega arith, part-empty (now (c .before .before .before .before .before .before .before .before .before .args .s)) (c .before .before .before .before .before .before .before .loop .at) _ (c .before .before .before .before .before .before .loop-test .taken) (c .before .before .before .before .first-of .ensures) _ (c .before .before .trimmed .ensures) (c .if1 .left) ∙ c .before .before .before .before .before .before .before .loop .inv .1)
 
 returns-2 : tie.Need-returns-2 Inv-loop μ-loop
 returns-2 c = pieces-end (now (c .before .before .before .args .s)) (c .before .loop .at) (c .before .before .before .args .from) (c .loop-test .left) (c .before .loop .inv .1)

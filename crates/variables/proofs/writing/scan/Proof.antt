@@ -47,24 +47,10 @@ add-t23 : tie.Need-add-t23 Inv-loop μ-loop
 add-t23 c = omega (arith, some-low (c .before .before .before .before .before .before .before .before .before .loop .inv) (c .before .before .before .before .before .before .before .before .before .before .before .before .before .pre .0) (c .before .before .before .before .before .before .before .before .before .before .before .before .before .pre .1))
 
 add-t24 : tie.Need-add-t24 Inv-loop μ-loop
-add-t24 c =
-    let at-begin = c .before in
-    let at-read-piece = at-begin .before .before in
-    let at-first = at-read-piece .before .before .before in
-    let at-next-piece = at-first .before .before in
-    let at-loop = at-next-piece .before in
-    let start = at-loop .before .before .before .before in
-    omega (arith, stopped (at-loop .loop .inv) (start .pre .0) (start .pre .1) _ _ _ (rw (at-first .first .given .1) at (at-next-piece .next-piece .ensures)) _ _ (rw (at-begin .begin .given .1) at (at-read-piece .read-piece .ensures)), start .pre .0)
+add-t24 c = omega (arith, stopped (c .before .before .before .before .before .before .before .before .before .loop .inv) (c .before .before .before .before .before .before .before .before .before .before .before .before .before .pre .0) (c .before .before .before .before .before .before .before .before .before .before .before .before .before .pre .1) _ _ _ (rw (c .before .before .before .before .before .before .first .given .1) at (c .before .before .before .before .before .before .before .before .next-piece .ensures)) _ _ (rw (c .before .begin .given .1) at (c .before .before .before .read-piece .ensures)), c .before .before .before .before .before .before .before .before .before .before .before .before .before .pre .0)
 
 add-t25 : tie.Need-add-t25 Inv-loop μ-loop
-add-t25 c =
-    let at-begin = c .before in
-    let at-read-piece = at-begin .before .before in
-    let at-first = at-read-piece .before .before .before in
-    let at-next-piece = at-first .before .before in
-    let at-loop = at-next-piece .before in
-    let start = at-loop .before .before .before .before in
-    omega (arith, stopped (at-loop .loop .inv) (start .pre .0) (start .pre .1) _ _ _ (rw (at-first .first .given .1) at (at-next-piece .next-piece .ensures)) _ _ (rw (at-begin .begin .given .1) at (at-read-piece .read-piece .ensures)), start .pre .0)
+add-t25 c = omega (arith, stopped (c .before .before .before .before .before .before .before .before .before .loop .inv) (c .before .before .before .before .before .before .before .before .before .before .before .before .before .pre .0) (c .before .before .before .before .before .before .before .before .before .before .before .before .before .pre .1) _ _ _ (rw (c .before .before .before .before .before .before .first .given .1) at (c .before .before .before .before .before .before .before .before .next-piece .ensures)) _ _ (rw (c .before .begin .given .1) at (c .before .before .before .read-piece .ensures)), c .before .before .before .before .before .before .before .before .before .before .before .before .before .pre .0)
 
 same-length-3 : tie.Need-same-length-3 Inv-loop μ-loop
 same-length-3 c = text-long (c .before .before .before .before .before .before .before .before .before .loop .inv .wrote)
