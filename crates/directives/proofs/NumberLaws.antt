@@ -1,0 +1,159 @@
+-- A fault's number is one of 5 to 8 and 13 to 15: no argument is refused for anything else.
+use mathlib.Core.Path.{_≡_, subst}
+use mathlib.Core.Logic.{_⊎_, inl, inr}
+use Prim.Native.Nat.{ℕ, _≤_}
+use native.Mathlib.Omega.{arith}
+use mathlib.Core.Bool.{Bool, true, false}
+use mathlib.Core.List.{List, [], _∷_, map}
+use lib.ListN.{length}
+use lib.Dec.{ltb}
+use Rattle.ascii.specs.Choice.{pick}
+use Rattle.lent.specs.Table.{Refusal, tooLong, notAscii, shortBuffer, noRoom, named, noAction, noArgument, noVariable, unknownOperator, badCursor, Outcome, refuses, reads}
+use Rattle.lexer.specs.declared.Cursor.{Cursor}
+use Rattle.lexer.specs.Tokens.{reading}
+use Rattle.lexer.specs.Layout.{textOf}
+use Rattle.variables.specs.Variables.{Targets, targets, refused}
+use Rattle.variables.specs.Steps.{targetsOf}
+use Rattle.variables.specs.declared.singles.Exclusions.the-variants.{AsWritten}
+use Rattle.operators.specs.Operators as Op
+use Rattle.operators.specs.Promises.{outcomeOf}
+use Rattle.records.specs.Actions.{Action}
+use Rattle.actions.specs.Normal.{normalised}
+use Rattle.actions.specs.Pieces as Pieces
+use Rattle.actions.specs.Lists.{actionsOf}
+use Rattle.actions.proofs.CountLaws.{Counted, actions-counted}
+use Rattle.directives.specs.Groups.{Item, joined, stray, items}
+use Rattle.directives.specs.Directives.{Listed, Body, act, defaults, Directive, Fault, wrongCount, untaken, stopped, within, Result, bad, good, listedBy, variablesRead, operatorRead, actionsRead, Shape, ofRule, ofAction, ofMarker, ofDefaults, ofOther, shapeOf, ruleBy, actBy, told, bodyBy, lastPast, placed, directiveOf, itemRead, before, ending, endOf, directives}
+use Rattle.directives.specs.Table.{faultGiven}
+
+-- ---- an argument
+
+-- what an argument can be refused for
+abbrev pub Known : Refusal → Type 0
+Known tooLong = ⊥
+Known (notAscii p) = ⊥
+Known shortBuffer = ⊥
+Known (noRoom n) = ⊥
+Known (named why p name) = Unit {0}
+Known (unknownOperator p n) = Unit {0}
+Known badCursor = ⊥
+
+abbrev KnownIn : {A : Type 0} → Outcome A → Type 0
+KnownIn (refuses f) = Known f
+KnownIn (reads x) = Unit {0}
+
+listed-known : (ts : Targets) → KnownIn (listedBy ts)
+listed-known (targets vs es) = tt
+listed-known (refused i name) = tt
+
+operator-known : (s : List ℕ) (x : Op.Reading) → KnownIn (outcomeOf s x)
+operator-known s (Op.accepted x) = tt
+operator-known s (Op.unknown name) = tt
+
+counted-known : (n : ℕ) (o : Outcome (List Action)) → Counted 0 n o → KnownIn o
+counted-known n (reads xs) h = tt
+counted-known n (refuses (named why p name)) h = tt
+counted-known n (refuses tooLong) h = h
+counted-known n (refuses (notAscii p)) h = h
+counted-known n (refuses shortBuffer) h = h
+counted-known n (refuses (noRoom p)) h = h
+counted-known n (refuses (unknownOperator p l)) h = absurd h
+counted-known n (refuses badCursor) h = h
+
+actions-known : (s : List ℕ) → KnownIn (actionsRead s)
+actions-known s = counted-known (length (Pieces.pieces (normalised s))) (actionsOf s) (actions-counted s)
+
+-- ---- a directive
+
+abbrev pub KnownFault : Fault → Type 0
+KnownFault (wrongCount l) = Unit {0}
+KnownFault (untaken l) = Unit {0}
+KnownFault (stopped l) = Unit {0}
+KnownFault (within l f) = Known f
+
+abbrev KnownResult : {A : Type 0} → Result A → Type 0
+KnownResult (bad f) = KnownFault f
+KnownResult (good x) = Unit {0}
+
+told-known : (l : ℕ) (o : Outcome Body) → KnownIn o → KnownResult (told l o)
+told-known l (refuses f) h = h
+told-known l (reads x) h = tt
+
+rule-known : (l : ℕ) (v : Outcome Listed) (o : Outcome Op.Spec) (a : Outcome (List Action)) → KnownIn v → KnownIn o → KnownIn a → KnownResult (told l (ruleBy v o a))
+rule-known l (refuses f) o a h i j = h
+rule-known l (reads v) (refuses f) a h i j = i
+rule-known l (reads v) (reads o) (refuses f) h i j = j
+rule-known l (reads v) (reads o) (reads a) h i j = tt
+
+act-known : (l : ℕ) (make : List Action → Body) (o : Outcome (List Action)) → KnownIn o → KnownResult (told l (actBy make o))
+act-known l make (refuses f) h = h
+act-known l make (reads xs) h = tt
+
+body-known : (l : ℕ) (name : List ℕ) (k : Shape) (args : List (List ℕ)) → KnownResult (bodyBy k l name args)
+body-known l name ofRule [] = tt
+body-known l name ofRule (v ∷ []) = tt
+body-known l name ofRule (v ∷ o ∷ []) = rule-known l (variablesRead v) (operatorRead o) (reads []) (listed-known (targetsOf AsWritten v)) (operator-known o (Op.operator o)) tt
+body-known l name ofRule (v ∷ o ∷ a ∷ []) = rule-known l (variablesRead v) (operatorRead o) (actionsRead a) (listed-known (targetsOf AsWritten v)) (operator-known o (Op.operator o)) (actions-known a)
+body-known l name ofRule (v ∷ o ∷ a ∷ x ∷ xs) = tt
+body-known l name ofAction [] = tt
+body-known l name ofAction (a ∷ []) = act-known l act (actionsRead a) (actions-known a)
+body-known l name ofAction (a ∷ x ∷ xs) = tt
+body-known l name ofMarker [] = tt
+body-known l name ofMarker (m ∷ []) = tt
+body-known l name ofMarker (m ∷ x ∷ xs) = tt
+body-known l name ofDefaults [] = tt
+body-known l name ofDefaults (a ∷ []) = act-known l defaults (actionsRead a) (actions-known a)
+body-known l name ofDefaults (a ∷ x ∷ xs) = tt
+body-known l name ofOther xs = tt
+
+placed-known : (l first past : ℕ) (x : Result Body) → KnownResult x → KnownResult (placed l first past x)
+placed-known l first past (bad f) h = h
+placed-known l first past (good x) h = tt
+
+item-known : (x : Item) → KnownResult (itemRead x)
+unfolding itemRead directiveOf
+item-known (stray t) = tt
+item-known (joined t args) =
+    placed-known (t .line .0) (t .first) (lastPast (t .past) args) (bodyBy (shapeOf (t .text)) (t .line .0) (t .text) (map textOf args))
+    (body-known (t .line .0) (t .text) (shapeOf (t .text)) (map textOf args))
+
+-- ---- a whole text
+
+before-known : (x : Result Directive) (o : Result (List Directive)) → KnownResult x → KnownResult o → KnownResult (before x o)
+before-known (bad f) o h k = h
+before-known (good d) (bad f) h k = k
+before-known (good d) (good ds) h k = tt
+
+ending-known : (o : Result (List Directive)) (xs : List Item) → KnownResult o → KnownResult (ending o xs)
+unfolding ending
+ending-known o [] h = h
+ending-known o (x ∷ xs) h = before-known (itemRead x) (ending o xs) (item-known x) (ending-known o xs h)
+
+end-known : (n : ℕ) (c : Cursor) → KnownResult (endOf n c)
+unfolding endOf
+end-known n c = go (ltb (c .place) n)
+  where
+    go : (t : Bool) → KnownResult {A = List Directive} (pick t (bad (stopped (c .line .0))) (good []))
+    go true = tt
+    go false = tt
+
+pub directives-known : (s : List ℕ) (f : Fault) → directives s ≡ bad f → KnownFault f
+unfolding directives
+directives-known s f e =
+    subst (KnownResult {A = List Directive}) e (ending-known (endOf (length s) (reading s .stop)) (items false (reading s .tokens)) (end-known (length s) (reading s .stop)))
+
+-- ---- the number
+
+pub fault-number : (f : Fault) → KnownFault f → ((5 ≤ faultGiven f .number) × (faultGiven f .number ≤ 8)) ⊎ ((13 ≤ faultGiven f .number) × (faultGiven f .number ≤ 15))
+fault-number (wrongCount l) h = inr (omega arith, omega arith)
+fault-number (untaken l) h = inr (omega arith, omega arith)
+fault-number (stopped l) h = inr (omega arith, omega arith)
+fault-number (within l tooLong) h = absurd h
+fault-number (within l (notAscii p)) h = absurd h
+fault-number (within l shortBuffer) h = absurd h
+fault-number (within l (noRoom n)) h = absurd h
+fault-number (within l (named noAction p name)) h = inl (omega arith, omega arith)
+fault-number (within l (named noArgument p name)) h = inl (omega arith, omega arith)
+fault-number (within l (named noVariable p name)) h = inl (omega arith, omega arith)
+fault-number (within l (unknownOperator p n)) h = inl (omega arith, omega arith)
+fault-number (within l badCursor) h = absurd h

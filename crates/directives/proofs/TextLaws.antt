@@ -1,0 +1,408 @@
+-- The loop over a whole text: the directives read so far are in the buffers, and what is still to come follows from the cursor.
+use mathlib.Core.Path.{_≡_, refl, sym, ap, ap₂, _∙_, subst}
+use mathlib.Core.Bool.{false}
+use mathlib.Core.List.{List, [], _∷_, _++_, append-assoc, append-nil, map}
+use Prim.Native.Nat.{ℕ, _+_, _*_, _≤_, _<_}
+use native.Mathlib.Omega.{arith}
+use native.Mathlib.Nat.{zero-add}
+use lib.ListN.{length, take, drop, length-append}
+use lib.Seq.{take-all}
+use borrow.Author.Tests.{lt-ltb, le-ltb}
+use Rattle.ascii.specs.Choice.{pick}
+use Rattle.lent.specs.Sizes.{limit, variableWords, actionWords, directiveWords}
+use Rattle.lent.specs.Buffers.{zeros, padded, stored, storedEach, joined as joinedWords}
+use Rattle.lent.specs.Layout.{textsOf}
+use Rattle.lent.specs.Table.{given}
+use Rattle.lent.proofs.BufferLaws.{padded-none, each-more, each-append, each-length}
+use Rattle.lent.proofs.LayoutLaws.{count-more}
+use Rattle.lexer.specs.declared.Cursor.{Cursor}
+use Rattle.lexer.specs.declared.stepping.Lexeme.{Lexeme}
+use Rattle.lexer.specs.Cursors.{fresh}
+use Rattle.lexer.specs.Tokens.{Token, Reading, reading}
+use Rattle.lexer.specs.Layout as Lexed
+use Rattle.lexer.specs.Layout.{textOf}
+use Rattle.lexer.specs.Calls.{Reached as Arrived}
+use Rattle.lexer.proofs.ReachLaws.{reached-start}
+use Rattle.directives.specs.Groups.{Item, items}
+use Rattle.directives.specs.Directives.{Body, Directive, Fault, untaken, stopped, Result, bad, good, Shape, shapeOf, bodyBy, lastPast, placed as placedAt, directiveOf, itemRead, before, ending, endOf, directives}
+use Rattle.directives.specs.Layout.{Reached, reached, bodyText, directiveRecord, texts, listedCount, actionCount, listedCounts, actionCounts}
+use Rattle.directives.specs.Table.{faultName}
+use Rattle.directives.specs.Promises.{naming}
+use Rattle.directives.specs.Steps.{Laid, roleOf, onward, Token-is, None-is, argumentsAs, endsAt, takenFrom, Took, reachedBy, entryOf, listedEach, actedEach, Faulted, Wrote, Bodied, heldArguments, Ready, entryRecord, tallyOf, countedOn, directiveEach, eachFrom, Written, AllRead, FirstFault}
+use Rattle.directives.specs.declared.Fault.{Fault as Told}
+use Rattle.directives.specs.declared.LineFault.the-variants.{Stopped, Untaken}
+use Rattle.directives.specs.declared.Fault.the-variants as Told
+use Rattle.directives.specs.declared.tokens.Role.the-variants.{Opens, Argues, Closes}
+use Rattle.directives.specs.declared.arguments.Arguments.{Arguments}
+use Rattle.directives.specs.declared.arguments.Taken.{Taken}
+use Rattle.directives.specs.declared.parts.Tally.{Tally}
+use Rattle.directives.specs.declared.parts.Entry.{Entry}
+use Rattle.directives.specs.declared.parts.Judged.{Judged}
+use Rattle.directives.specs.declared.parts.Judged.the-variants as Judged
+use Rattle.directives.proofs.LaidLaws.{laid-none, laid-placed, laid-more, laid-first, front-of}
+use Rattle.directives.proofs.LayoutLaws.{pastAll, texts-more, listed-more, acted-more, past-is}
+use Rattle.directives.proofs.EachLaws.{directive-each-more, each-from-more, directive-each-long, listed-each-long, acted-each-long}
+use Rattle.directives.proofs.FitLaws.{BodyFits, body-fits, all, texts-long}
+use Rattle.directives.proofs.ArgumentLaws.{argues, closes, opens}
+use Rattle.directives.proofs.BodyLaws.{same-entry, never}
+use Rattle.directives.proofs.HeldLaws.{texts-grow, texts-few, held-are, same-body}
+
+-- ---- directives read before
+
+abbrev pub onto : List Directive → Result (List Directive) → Result (List Directive)
+onto ds (bad f) = bad f
+onto ds (good es) = good (ds ++ es)
+
+onto-none : (o : Result (List Directive)) → onto [] o ≡ o
+onto-none (bad f) = refl
+onto-none (good ds) = refl
+
+onto-good : (ds : List Directive) (d : Directive) (o : Result (List Directive)) → onto ds (before (good d) o) ≡ onto (ds ++ d ∷ []) o
+onto-good ds d (bad f) = refl
+onto-good ds d (good es) = ap (λ (l : List Directive). good l) (sym (append-assoc ds (d ∷ []) es))
+
+same-record : (t : Tally) {l l′ i i′ j j′ : ℕ} {e e′ : Entry} → l ≡ l′ → i ≡ i′ → j ≡ j′ → e ≡ e′ → entryRecord l i j t e ≡ entryRecord l′ i′ j′ t e′
+same-record t a b c d = rw (a, b, c, d)
+
+same-tally : {a a′ b b′ c c′ d d′ : ℕ} → a ≡ a′ → b ≡ b′ → c ≡ c′ → d ≡ d′
+    → _≡_ {A = Tally} (record { directives = a; text = b; variables = c; actions = d }) (record { directives = a′; text = b′; variables = c′; actions = d′ })
+same-tally a b c d = rw (a, b, c, d)
+
+same-stored : {old old′ : List ℕ} {i i′ : ℕ} {w w′ : List ℕ} → old ≡ old′ → i ≡ i′ → w ≡ w′ → stored old i w ≡ stored old′ i′ w′
+same-stored a b c = rw (a, b, c)
+
+same-each : {old old′ : List ℕ} {i i′ : ℕ} {w w′ : List (List ℕ)} → old ≡ old′ → i ≡ i′ → w ≡ w′ → storedEach old i w ≡ storedEach old′ i′ w′
+same-each a b c = rw (a, b, c)
+
+-- ---- faults
+
+told-or : Told → Judged → Told
+told-or d (Judged.Good e) = d
+told-or d (Judged.Bad f) = f
+
+same-told : {f h : Told} → Judged.Bad f ≡ Judged.Bad h → f ≡ h
+unfolding told-or
+same-told {f} {h} p = ap (told-or h) p
+
+same-fault : {q : Fault} {text text₀ text′ : List ℕ} {f : Told} → length text ≡ length text₀ → Faulted q text text′ f → Faulted q text₀ text′ f
+same-fault {q} {text} {text₀} {text′} {f} e x = record {
+  given = x .given;
+  left = subst (λ (n : ℕ). pick (naming f) text′ (zeros n) ≡ padded n (faultName q)) e (x .left);
+}
+
+-- ---- what the loop keeps
+
+pub record Sofar (s text₀ records₀ variables₀ actions₀ text records variables actions : List ℕ) (here : Cursor) (t : Tally) : Type 0 where
+  pub ds : List Directive
+  pub whole : directives s ≡ onto ds (ending (endOf (length s) (onward s here .stop)) (items false (onward s here .tokens)))
+  pub tally-is : t ≡ tallyOf ds
+  pub written : Written ds text₀ text records₀ records variables₀ variables actions₀ actions
+  pub arrived : Arrived s here
+  pub text-low : t .text ≤ here .place
+  pub directives-low : t .directives ≤ here .place
+  pub variables-low : t .variables ≤ here .place
+  pub actions-low : t .actions ≤ here .place
+
+module _ (s text₀ records₀ variables₀ actions₀ : List ℕ) (within : length s ≤ limit) (text-room : length s ≤ length text₀) where
+  abbrev Now : List ℕ → List ℕ → List ℕ → List ℕ → Cursor → Tally → Type 0
+  Now = Sofar s text₀ records₀ variables₀ actions₀
+
+  pub begun : (here : Cursor) → here ≡ fresh → Now text₀ records₀ variables₀ actions₀ here (record { directives = 0; text = 0; variables = 0; actions = 0 })
+  unfolding directives reading fresh textsOf listedCounts actionCounts directiveEach eachFrom storedEach
+  begun here e = rw e (record {
+    ds = [];
+    whole = sym (onto-none _);
+    tally-is = refl;
+    written = record { laid = laid-none text₀ 0 (omega arith); recorded = refl; listed = refl; acted = refl };
+    arrived = reached-start s;
+    text-low = omega arith;
+    directives-low = omega arith;
+    variables-low = omega arith;
+    actions-low = omega arith;
+  })
+
+  module _ {text records variables actions : List ℕ} {here : Cursor} {t : Tally} (g : Now text records variables actions here t) where
+    text-is : t .text ≡ length (texts (g .ds))
+    text-is = ap (λ (u : Tally). u .text) (g .tally-is)
+
+    long : length text ≡ length text₀
+    long = g .written .laid .long
+
+    -- the buffers are as long as they were
+    pub lengths : (length text ≡ length text₀) × ((length records ≡ length records₀) × ((length variables ≡ length variables₀) × (length actions ≡ length actions₀)))
+    lengths = (
+      long,
+      (
+        ap length (g .written .recorded) ∙ each-length records₀ 0 (directiveEach (reached 0 0 0) (g .ds)),
+        (ap length (g .written .listed) ∙ each-length variables₀ 0 (eachFrom listedEach 0 (g .ds)), ap length (g .written .acted) ∙ each-length actions₀ 0 (eachFrom actedEach 0 (g .ds))),
+      ),
+    )
+
+    -- ---- the end of the text
+
+    module _ {scratch scratch′ : List ℕ} {stop : Cursor} (x : None-is s here scratch scratch′ stop) where
+      ends-in : directives s ≡ onto (g .ds) (endOf (length s) stop)
+      unfolding ending items
+      ends-in = g .whole ∙ ap (λ (r : Reading). onto (g .ds) (ending (endOf (length s) (r .stop)) (items false (r .tokens)))) (x .none)
+
+      pub stopped-early : stop .place < length s → FirstFault s text₀ text (Told.Line Stopped (stop .line .0))
+      unfolding endOf
+      stopped-early h = record {
+        fault = stopped (stop .line .0);
+        read = ends-in ∙ rw (lt-ltb (stop .place) (length s) h);
+        faulted = record { given = refl; left = sym (padded-none (length text₀)) };
+      }
+
+      pub all-read : length s ≤ stop .place → AllRead s text₀ text records₀ records variables₀ variables actions₀ actions t
+      unfolding endOf
+      all-read h = record {
+        ds = g .ds;
+        read = ends-in ∙ rw (le-ltb (stop .place) (length s) h) (ap (λ (l : List Directive). good l) (append-nil (g .ds)));
+        tally-is = g .tally-is;
+        written = g .written;
+      }
+
+    -- ---- a token
+
+    module _ {scratch scratch₁ : List ℕ} {l : Lexeme} (x : Token-is s here 0 scratch scratch₁ l) where
+      abbrev u : Token
+      u = x .t
+
+      abbrev ts : List Token
+      ts = onward s (l .next) .tokens
+
+      kind-is : l .kind ≡ u .kind
+      kind-is = ap (λ (m : Lexeme). m .kind) (x .is)
+
+      line-is : l .line .0 ≡ u .line .0
+      line-is = ap (λ (m : Lexeme). m .line .0) (x .is)
+
+      goes-on : directives s ≡ onto (g .ds) (ending (endOf (length s) (onward s (l .next) .stop)) (items false (u ∷ ts)))
+      goes-on = g .whole ∙ ap (λ (r : Reading). onto (g .ds) (ending (endOf (length s) (r .stop)) (items false (r .tokens)))) (x .more)
+
+      -- a Newline or a Comment is passed
+      pub passed : roleOf (l .kind) ≡ Closes → Now text records variables actions (l .next) t
+      passed e =
+          let c = closes u ts (ap roleOf (sym kind-is) ∙ e) in
+          record {
+            ds = g .ds;
+            whole = goes-on ∙ ap (λ (i : List Item). onto (g .ds) (ending (endOf (length s) (onward s (l .next) .stop)) i)) (c .1 false);
+            tally-is = g .tally-is;
+            written = g .written;
+            arrived = x .arrived;
+            text-low = omega (arith, g .text-low, x .ahead);
+            directives-low = omega (arith, g .directives-low, x .ahead);
+            variables-low = omega (arith, g .variables-low, x .ahead);
+            actions-low = omega (arith, g .actions-low, x .ahead);
+          }
+
+      -- no directive takes it
+      pub not-taken : roleOf (l .kind) ≡ Argues → FirstFault s text₀ text (Told.Line Untaken (l .line .0))
+      unfolding ending itemRead
+      not-taken e =
+          let c = argues u ts (ap roleOf (sym kind-is) ∙ e) in
+          record {
+            fault = untaken (u .line .0);
+            read = goes-on ∙ ap (λ (i : List Item). onto (g .ds) (ending (endOf (length s) (onward s (l .next) .stop)) i)) (c .2);
+            faulted = record { given = ap (λ (n : ℕ). given 14 (n ∷ [])) line-is; left = sym (padded-none (length text₀)) };
+          }
+
+      -- ---- a directive with its arguments
+
+      module _ {scratch₂ : List ℕ} {r : Taken} (scratch-room : length s ≤ length scratch) (o : roleOf (l .kind) ≡ Opens) (y : Took s (l .next) (l .next .place) (l .len) scratch₁ scratch₂ r) where
+        abbrev args : List Token
+        args = takenFrom s (l .next)
+
+        abbrev name : List ℕ
+        name = u .text
+
+        abbrev a : Arguments
+        a = r .arguments
+
+        len-is : l .len ≡ length name
+        len-is = ap (λ (m : Lexeme). m .len) (x .is)
+
+        first-is : l .first ≡ u .first
+        first-is = ap (λ (m : Lexeme). m .first) (x .is)
+
+        name-laid : Laid scratch scratch₁ 0 name
+        name-laid = subst (λ (m : List ℕ). Laid scratch m 0 name) (sym (x .text)) (laid-placed scratch 0 name (omega (arith, x .short, x .arrived .inside)))
+
+        both-laid : Laid scratch scratch₂ 0 (name ++ Lexed.texts args)
+        both-laid = laid-more name-laid (subst (λ (i : ℕ). Laid scratch₁ scratch₂ i (Lexed.texts args)) (len-is ∙ sym (zero-add (length name))) (y .laid))
+
+        abbrev rest : List ℕ
+        rest = drop (length (name ++ Lexed.texts args)) scratch₂
+
+        scratch-is : scratch₂ ≡ name ++ (Lexed.texts args ++ rest)
+        scratch-is = laid-first both-laid ∙ append-assoc name (Lexed.texts args) rest
+
+        -- the name stands at the front of scratch
+        name-is : take (l .len) scratch₂ ≡ name
+        name-is = front-of name (Lexed.texts args ++ rest) scratch-is len-is
+
+        arguments-are : a ≡ argumentsAs (length name) (u .past) args
+        arguments-are = y .arguments-are ∙ ap₂ (λ (i j : ℕ). argumentsAs i j args) len-is (sym (x .ends))
+
+        one-is : a .one ≡ endsAt (length name) 1 args
+        one-is = ap (λ (b : Arguments). b .one) arguments-are
+
+        two-is : a .two ≡ endsAt (length name) 2 args
+        two-is = ap (λ (b : Arguments). b .two) arguments-are
+
+        three-is : a .three ≡ endsAt (length name) 3 args
+        three-is = ap (λ (b : Arguments). b .three) arguments-are
+
+        past-is′ : a .past ≡ lastPast (u .past) args
+        past-is′ = ap (λ (b : Arguments). b .past) arguments-are
+
+        -- what is reached, with all that the directive has, is not past the next cursor
+        low : t .text + a .three ≤ r .next .place
+        low = omega (arith, three-is, texts-few 3 args, g .text-low, x .short, y .short)
+
+        pub ready : Ready scratch₂ text (l .len) a t
+        ready = record {
+          first = omega (arith, len-is, one-is);
+          second = omega (arith, one-is, two-is, texts-grow 1 args);
+          third = omega (arith, two-is, three-is, texts-grow 2 args);
+          pair = λ e.
+              let c : length args ≡ 2 = sym (ap (λ (b : Arguments). b .count) arguments-are) ∙ e in
+              three-is ∙ ap (λ (m : List Token). length name + length (Lexed.texts m)) (take-all 3 args (omega arith) ∙ sym (take-all 2 args (omega arith))) ∙ sym two-is;
+          inside = omega (arith, three-is, texts-few 3 args, both-laid .long, both-laid .fits, length-append name (Lexed.texts args));
+          short = omega (arith, low, y .arrived .inside);
+          room = omega (arith, low, y .arrived .inside, long);
+          variables-low = omega (arith, g .variables-low, g .arrived .inside);
+          actions-low = omega (arith, g .actions-low, g .arrived .inside);
+        }
+
+        body-is : (shape : Shape) → shape ≡ shapeOf (take (l .len) scratch₂)
+            → bodyBy shape (l .line .0) (take (l .len) scratch₂) (heldArguments scratch₂ (l .len) a) ≡ bodyBy (shapeOf name) (u .line .0) name (map textOf args)
+        body-is shape e =
+            same-body (e ∙ ap shapeOf name-is) line-is name-is (ap₂ (heldArguments scratch₂) len-is arguments-are)
+            ∙ held-are (shapeOf name) (u .line .0) name (u .past) args rest scratch₂ scratch-is
+
+        abbrev behind : Result (List Directive)
+        behind = ending (endOf (length s) (onward s (r .next) .stop)) (items false (onward s (r .next) .tokens))
+
+        abbrev made : Result Body → Result Directive
+        made = placedAt (u .line .0) (u .first) (lastPast (u .past) args)
+
+        comes-to : (b : Result Body) → bodyBy (shapeOf name) (u .line .0) name (map textOf args) ≡ b → directives s ≡ onto (g .ds) (before (made b) behind)
+        unfolding ending itemRead directiveOf
+        comes-to b e =
+            goes-on
+            ∙ ap (λ (i : List Item). onto (g .ds) (ending (endOf (length s) (onward s (l .next) .stop)) i)) (opens u ts (ap roleOf (sym kind-is) ∙ o) .1 false)
+            ∙ ap₂ (λ (c : Cursor) (i : List Item). onto (g .ds) (before (directiveOf u args) (ending (endOf (length s) c) i))) (y .stop) (y .rest)
+            ∙ ap (λ (c : Result Body). onto (g .ds) (before (made c) behind)) e
+
+        module _ (shape : Shape) (shape-is : shape ≡ shapeOf (take (l .len) scratch₂)) (text′ variables′ actions′ : List ℕ) where
+          abbrev Told-of : Judged → Type 0
+          Told-of j = Bodied (bodyBy shape (l .line .0) (take (l .len) scratch₂) (heldArguments scratch₂ (l .len) a)) t text text′ variables variables′ actions actions′ j
+
+          pub faulty : (f : Told) → Told-of (Judged.Bad f) → FirstFault s text₀ text′ f
+          faulty f z =
+              go (bodyBy (shapeOf name) (u .line .0) name (map textOf args)) refl
+              (subst (λ (b : Result Body). Bodied b t text text′ variables variables′ actions actions′ (Judged.Bad f)) (body-is shape shape-is) z)
+            where
+              go : (b : Result Body) → bodyBy (shapeOf name) (u .line .0) name (map textOf args) ≡ b → Bodied b t text text′ variables variables′ actions actions′ (Judged.Bad f) → FirstFault s text₀ text′ f
+              go (good b) e w = absurd (never (sym (w .is)))
+              go (bad q) e w = record {
+                fault = q;
+                read = comes-to (bad q) e;
+                faulted = same-fault long (subst (Faulted q text text′) (same-told (sym (w .is))) (w .faulted));
+              }
+
+          module _ (e : Entry) (z : Told-of (Judged.Good e)) where
+            -- the body that was read
+            record Read-is : Type 0 where
+              pub whole : Body
+              pub is : bodyBy (shapeOf name) (u .line .0) name (map textOf args) ≡ good whole
+              pub entry : e ≡ entryOf (reachedBy t) whole
+              pub wrote : Wrote whole t text text′ variables variables′ actions actions′ (Judged.Good e)
+
+            read-is : Read-is
+            read-is =
+                go (bodyBy (shapeOf name) (u .line .0) name (map textOf args)) refl
+                (subst (λ (b : Result Body). Bodied b t text text′ variables variables′ actions actions′ (Judged.Good e)) (body-is shape shape-is) z)
+              where
+                go : (b : Result Body) → bodyBy (shapeOf name) (u .line .0) name (map textOf args) ≡ b → Bodied b t text text′ variables variables′ actions actions′ (Judged.Good e) → Read-is
+                go (good b) q w = record { whole = b; is = q; entry = same-entry (w .is); wrote = w }
+                go (bad f) q w = absurd (never (w .is))
+
+            abbrev d : Directive
+            d = record { line = u .line .0; first = u .first; past = lastPast (u .past) args; body = read-is .whole }
+
+            fits : BodyFits (length name + all (map textOf args)) (good (read-is .whole))
+            fits = subst (BodyFits (length name + all (map textOf args))) (read-is .is) (body-fits (u .line .0) name (shapeOf name) (map textOf args))
+
+            -- its texts and records are no more than its own bytes
+            fits-on : (length (bodyText (read-is .whole)) + here .place ≤ r .next .place) × (listedCount (read-is .whole) + actionCount (read-is .whole) + here .place ≤ r .next .place)
+            fits-on = (omega (arith, fits .0, texts-long args, x .short, y .short), omega (arith, fits .1, texts-long args, x .short, y .short))
+
+            entry-text : e .text ≡ t .text + length (bodyText (read-is .whole))
+            entry-text = ap (λ (i : Entry). i .text) (read-is .entry)
+
+            entry-variables : e .variables ≡ listedCount (read-is .whole)
+            entry-variables = ap (λ (i : Entry). i .variables) (read-is .entry)
+
+            entry-actions : e .actions ≡ actionCount (read-is .whole)
+            entry-actions = ap (λ (i : Entry). i .actions) (read-is .entry)
+
+            -- what the record and the count ask
+            pub put-fits : (l .first ≤ a .past) × ((a .past ≤ limit) × (t .directives ≤ limit))
+            put-fits = (omega (arith, first-is, x .ordered, x .ends, y .past-low), (omega (arith, y .past-high, y .arrived .inside), omega (arith, g .directives-low, g .arrived .inside)))
+
+            pub count-fits : (t .directives ≤ limit) × ((t .variables + e .variables ≤ limit) × (t .actions + e .actions ≤ limit))
+            count-fits = (
+              omega (arith, g .directives-low, g .arrived .inside),
+              (omega (arith, entry-variables, fits-on .1, g .variables-low, y .arrived .inside), omega (arith, entry-actions, fits-on .1, g .actions-low, y .arrived .inside)),
+            )
+
+            reached-is : reachedBy t ≡ pastAll (reached 0 0 0) (g .ds)
+            reached-is = ap reachedBy (g .tally-is) ∙ sym (past-is 0 0 0 (g .ds) ∙ rw (zero-add (length (texts (g .ds))), zero-add (listedCounts (g .ds)), zero-add (actionCounts (g .ds))))
+
+            record-is : entryRecord (l .line .0) (l .first) (a .past) t e ≡ directiveRecord (pastAll (reached 0 0 0) (g .ds)) d
+            record-is =
+                same-record t line-is first-is past-is′ (read-is .entry) ∙ ap (λ (m : Reached). directiveRecord m d) reached-is
+
+            text-front : t .text ≡ 0 + length (texts (g .ds))
+            text-front = text-is ∙ sym (zero-add (length (texts (g .ds))))
+
+            -- one directive more
+            pub turned : (records′ : List ℕ) → records′ ≡ stored records (t .directives * directiveWords) (entryRecord (l .line .0) (l .first) (a .past) t e) → (v : Tally) → v ≡ countedOn t e
+                → Now text′ records′ variables′ actions′ (r .next) v
+            turned records′ p v q =
+                let w = read-is .wrote in
+                let more = g .ds ++ d ∷ [] in
+                let n-text : length (texts more) ≡ length (texts (g .ds)) + length (bodyText (read-is .whole)) = ap length (texts-more (g .ds) d) ∙ length-append (texts (g .ds)) (bodyText (read-is .whole)) in
+                let c-directives : t .directives ≡ length (g .ds) = ap (λ (i : Tally). i .directives) (g .tally-is) in
+                let c-variables : t .variables ≡ listedCounts (g .ds) = ap (λ (i : Tally). i .variables) (g .tally-is) in
+                let c-actions : t .actions ≡ actionCounts (g .ds) = ap (λ (i : Tally). i .actions) (g .tally-is) in
+                let at-record : t .directives * directiveWords ≡ 0 + length (joinedWords (directiveEach (reached 0 0 0) (g .ds))) = omega (arith, c-directives, directive-each-long (reached 0 0 0) (g .ds)) in
+                let at-variable : t .variables * variableWords ≡ 0 + length (joinedWords (eachFrom listedEach 0 (g .ds))) = omega (arith, c-variables, listed-each-long 0 (g .ds)) in
+                let at-action : t .actions * actionWords ≡ 0 + length (joinedWords (eachFrom actedEach 0 (g .ds))) = omega (arith, c-actions, acted-each-long 0 (g .ds)) in
+                record {
+                  ds = more;
+                  whole = comes-to (good (read-is .whole)) (read-is .is) ∙ onto-good (g .ds) d behind;
+                  tally-is = q ∙ same-tally
+                      (omega (arith, c-directives, count-more (g .ds) d))
+                      (omega (arith, entry-text, text-is, n-text))
+                      (omega (arith, entry-variables, c-variables, listed-more (g .ds) d))
+                      (omega (arith, entry-actions, c-actions, acted-more (g .ds) d));
+                  written = record {
+                    laid = subst (Laid text₀ text′ 0) (sym (texts-more (g .ds) d)) (laid-more (g .written .laid) (subst (λ (i : ℕ). Laid text text′ i (bodyText (read-is .whole))) text-front (w .laid)));
+                    recorded = p ∙ same-stored (g .written .recorded) at-record record-is ∙ sym (each-more records₀ 0 (directiveEach (reached 0 0 0) (g .ds)) (directiveRecord (pastAll (reached 0 0 0) (g .ds)) d))
+                        ∙ ap (storedEach records₀ 0) (sym (directive-each-more (reached 0 0 0) (g .ds) d));
+                    listed = w .listed ∙ same-each (g .written .listed) at-variable (ap (λ (i : ℕ). listedEach i (read-is .whole)) text-front)
+                        ∙ sym (each-append variables₀ 0 (eachFrom listedEach 0 (g .ds)) (listedEach (0 + length (texts (g .ds))) (read-is .whole)))
+                        ∙ ap (storedEach variables₀ 0) (sym (each-from-more listedEach 0 (g .ds) d));
+                    acted = w .acted ∙ same-each (g .written .acted) at-action (ap (λ (i : ℕ). actedEach i (read-is .whole)) text-front)
+                        ∙ sym (each-append actions₀ 0 (eachFrom actedEach 0 (g .ds)) (actedEach (0 + length (texts (g .ds))) (read-is .whole)))
+                        ∙ ap (storedEach actions₀ 0) (sym (each-from-more actedEach 0 (g .ds) d));
+                  };
+                  arrived = y .arrived;
+                  text-low = omega (arith, ap (λ (i : Tally). i .text) q, entry-text, fits-on .0, g .text-low);
+                  directives-low = omega (arith, ap (λ (i : Tally). i .directives) q, g .directives-low, x .ahead, y .short);
+                  variables-low = omega (arith, ap (λ (i : Tally). i .variables) q, entry-variables, fits-on .1, g .variables-low);
+                  actions-low = omega (arith, ap (λ (i : Tally). i .actions) q, entry-actions, fits-on .1, g .actions-low);
+                }

@@ -1,0 +1,68 @@
+// Whole directives (document 02, M-100): the tokens of a text joined, their arguments read by the parsers, and all of it laid out in lent memory.
+mod arguments;
+mod bodies;
+mod parts;
+mod reading;
+mod shapes;
+mod tokens;
+mod writing;
+
+pub use reading::directives;
+
+// Why a line is refused.
+pub enum LineFault {
+    // 13, 14 and 15
+    WrongCount,
+    Untaken,
+    Stopped,
+}
+
+// Why an argument of a directive is refused.
+pub enum ArgumentFault {
+    // 7, 8, 5 and 6
+    UnknownVariable,
+    UnknownOperator,
+    UnknownAction,
+    BadArgument,
+}
+
+// What no directive is read for.
+pub enum Fault {
+    // the line of the directive, the token or the stop
+    Line {
+        why: LineFault,
+        line: usize,
+    },
+    // the directive's line; the piece, or of 8 the name's place in the argument; the length of the name
+    Argument {
+        why: ArgumentFault,
+        line: usize,
+        at: usize,
+        len: usize,
+    },
+}
+
+// The paper's numbers, by name.
+pub enum Answer {
+    // 0: how many records of each kind, and bytes of text
+    Read {
+        directives: usize,
+        variables: usize,
+        actions: usize,
+        text: usize,
+    },
+    // 1
+    TooLong,
+    // 2: the place of the first byte past ASCII
+    NotAscii(usize),
+    // 3
+    Short,
+    // 5 to 8 and 13 to 15
+    Refused(Fault),
+    // 4: the records needed of each kind
+    NoRoom {
+        directives: usize,
+        variables: usize,
+        actions: usize,
+    },
+}

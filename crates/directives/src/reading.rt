@@ -1,0 +1,147 @@
+// The directives of a whole text, after the checks 1, 2 and 3.
+ghost use mathlib.Core.Path.{_≡_};
+ghost use Prim.Native.Nat.{_+_, _≤_, min};
+ghost use lib.ListN.{length};
+ghost use Rattle.lent.specs.Sizes.{limit};
+ghost use Rattle.lent.specs.Gates.{gateOf};
+ghost use Rattle.directives.specs.Promises.{lentOf, Directives};
+ghost use Rattle.directives.specs.Steps.{endedAt, emptyTally, countedOn, Ends};
+use crate::Answer;
+use crate::Fault;
+use crate::LineFault;
+use crate::arguments::take_arguments;
+use crate::bodies::read_body;
+use crate::parts::Entry;
+use crate::parts::Judged;
+use crate::parts::Tally;
+use crate::tokens::Next;
+use crate::tokens::Role;
+use crate::tokens::role_of;
+use crate::tokens::token_from;
+use crate::writing::finish;
+use crate::writing::put_directive;
+use crate::writing::refuse;
+use lent::Gate;
+
+// How reading ends: with what all directives come to, or at the first fault in text order.
+pub enum Ended {
+    All(Tally),
+    First(Fault),
+}
+
+fn ended_at(why: LineFault, line: usize) -> Ended
+    ensures { λ r. ⌜ r ≡ endedAt why line ⌝ }
+{
+    Ended::First(Fault::Line { why, line })
+}
+
+fn nothing_yet() -> Tally
+    ensures { λ r. ⌜ r ≡ emptyTally ⌝ }
+{
+    Tally {
+        directives: 0,
+        text: 0,
+        variables: 0,
+        actions: 0,
+    }
+}
+
+// What is reached behind one directive more.
+fn counted(t: Tally, e: Entry) -> Tally
+    requires { ⌜ (t .directives ≤ limit) × ((t .variables + e .variables ≤ limit) × (t .actions + e .actions ≤ limit)) ⌝ }
+    ensures { λ r. ⌜ r ≡ countedOn t e ⌝ }
+{
+    Tally {
+        directives: t.directives + 1,
+        text: e.text,
+        variables: t.variables + e.variables,
+        actions: t.actions + e.actions,
+    }
+}
+
+// Writes every directive's texts, and its records where they fit; stops at the first fault.
+fn read_all(
+    s: &[u8],
+    text: &mut [u8],
+    scratch: &mut [u8],
+    records: &mut [u64],
+    variables: &mut [u64],
+    actions: &mut [u64],
+) -> Ended
+    requires { ⌜ (length (now s) ≤ limit) × ((length (now s) ≤ length (now text)) × (length (now s) ≤ length (now scratch))) ⌝ }
+    ensures { λ r. ⌜ Ends (now (s .entry)) (now (text .entry)) (now (text .exit)) (now (records .entry)) (now (records .exit)) (now (variables .entry)) (now (variables .exit)) (now (actions .entry)) (now (actions .exit)) r ⌝ }
+{
+    let mut here = lexer::start();
+    let mut t = nothing_yet();
+    loop {
+        match token_from(s, here, scratch, 0) {
+            Next::Nothing(stop) => {
+                if stop.place < s.len() {
+                    return ended_at(LineFault::Stopped, stop.line.0);
+                }
+                return Ended::All(t);
+            }
+            Next::Token(token) => {
+                let kind = token.kind;
+                let next = token.next;
+                match role_of(kind) {
+                    Role::Argues => return ended_at(LineFault::Untaken, token.line.0),
+                    Role::Closes => here = next,
+                    Role::Opens => {
+                        let name = token.len;
+                        let line = token.line.0;
+                        let taken = take_arguments(s, next, next.place, scratch, name);
+                        let a = taken.arguments;
+                        match read_body(line, scratch, name, a, text, variables, actions, t) {
+                            Judged::Bad(f) => return Ended::First(f),
+                            Judged::Good(e) => {
+                                put_directive(records, line, token.first, a.past, t, e);
+                                t = counted(t, e);
+                                here = taken.next;
+                            }
+                        }
+                    }
+                }
+            }
+        }
+    }
+}
+
+// The checks 1, 2 and 3, of which the last is about two buffers.
+fn admit(input: &[u8], text: usize, scratch: usize) -> Gate
+    ensures { λ r. ⌜ r ≡ gateOf (now (input .entry)) (min text scratch) (length (now (input .entry))) ⌝ }
+{
+    if text < scratch {
+        return lent::admit(input, text, input.len());
+    }
+    lent::admit(input, scratch, input.len())
+}
+
+// The directives of a text: their records and texts with zeros beyond; or the first fault; or, where the records do not fit, how many
+// there are. Scratch is all zero past the checks 1, 2 and 3.
+pub fn directives(
+    input: &[u8],
+    text: &mut [u8],
+    scratch: &mut [u8],
+    records: &mut [u64],
+    variables: &mut [u64],
+    actions: &mut [u64],
+) -> Answer
+    ensures { λ r. ⌜ Directives (now (input .entry)) (lentOf (now (text .entry)) (now (scratch .entry)) (now (records .entry)) (now (variables .entry)) (now (actions .entry))) (lentOf (now (text .exit)) (now (scratch .exit)) (now (records .exit)) (now (variables .exit)) (now (actions .exit))) r ⌝ }
+{
+    match admit(input, text.len(), scratch.len()) {
+        Gate::TooLong => return Answer::TooLong,
+        Gate::NotAscii(place) => return Answer::NotAscii(place),
+        Gate::Short => return Answer::Short,
+        Gate::Open => {}
+    }
+    let ended = read_all(input, text, scratch, records, variables, actions);
+    lent::clear_bytes(scratch);
+    match ended {
+        Ended::First(f) => {
+            refuse(f, text, records, variables, actions);
+            Answer::Refused(f)
+        }
+        Ended::All(t) => finish(text, records, variables, actions, t),
+    }
+}
