@@ -12,7 +12,8 @@
  * NUMBERS AND VALUES. A reader returns a number and stores its values at the front of `values` where they fit whole;
  * no other word of `values` is touched, and none at all where they do not fit. SECLANG_VALUES_MOST words are enough
  * for every reader. The numbers are tried in the order 1, 2, 3, 9, then 5 to 8 at the first bad piece, then 19, then
- * 4.
+ * 4. In a package 5 to 8, 13, 14 and 15 come in the order of the text; of one directive 13 first, then its variables,
+ * its operator and its actions.
  *
  *   number  given exactly when                                values          text and records afterwards
  *   0       none below                                        by reader       what was read, and zeros beyond
@@ -26,9 +27,15 @@
  *   8       unknown operator                                  place, length   nothing is lent
  *   9       a cursor past the end, or a line or column that   0               untouched
  *           is 0 or above 16385
+ *   13      a directive with a wrong count of arguments       line            all zero
+ *   14      a word or string that no directive takes          line            all zero
+ *   15      reading stopped early, and all before is good     line            all zero
  *   19      a record that no reader makes (listings)          its number      all zero
  *
  * A place is counted from 0, and so is a piece, among those of a list that are not empty. The length is the name's.
+ * seclang_directives gives 5 to 8 with the directive's line before these values; there the place of 8 is in the
+ * operator's argument as it was read, 8 leaves all lent memory zero, and the values of 4 are directive, variable and
+ * action records.
  *
  * RECORDS are whole u64 words. A text is told by a span, offset * 65536 + length, the offset into `text` unless said;
  * SECLANG_SPAN_OFFSET and SECLANG_SPAN_LENGTH take it apart. Texts have no zero byte at their end.
@@ -39,11 +46,17 @@
  *   variable, 5 words:  1, code, counted (`&`: 1, else 0), selection, text of the selection.
  *   exclusion, 5 words: 2, 0, 0, 0, text behind the `!`. They stand behind all variables; those of
  *                       seclang_parse_variables hold for every variable of the list.
+ *   directive, 11 words: kind, line, span in the input from the first byte of its name to the last of its last
+ *                       argument, name, negated (`!`: 1, else 0), operator's code, text of the operator's argument,
+ *                       first variable record, variable records, first action record, action records. Beside each
+ *                       kind below stands which of these it has; the last four stand for every kind, with the numbers
+ *                       reached so far, and any other word is 0.
  *
  * HOW MUCH TO LEND. A text as long as the input is always enough (a setvar alone: three bytes more). For records,
  * SECLANG_TOKENS_MOST and the like say how many an input of n bytes can need at most: with room for these, 4 is never
- * given. That is proved (BoundLaws in the proofs of lexer, actions and variables); that some input of each length
- * needs as many is tested. With less room, 4 says how many records this input needs, and the call can be made again.
+ * given. That is proved (BoundLaws in the proofs of lexer, actions, variables and directives); that some input of each
+ * length needs as many is tested, but for whole directives, where fewer may do. With less room, 4 says how many records
+ * this input needs, and the call can be made again.
  * Zeros are written to the end of what is lent, so a large buffer for a small input costs time.
  */
 #ifndef SECLANG_H
@@ -70,6 +83,7 @@ extern "C" {
 #define SECLANG_TOKEN_WORDS 5
 #define SECLANG_ACTION_WORDS 6
 #define SECLANG_VARIABLE_WORDS 5
+#define SECLANG_DIRECTIVE_WORDS 11
 /* end */
 
 #define SECLANG_VALUES_MOST 10
@@ -82,6 +96,11 @@ extern "C" {
 #define SECLANG_ACTIONS_MOST(n) (((n) + 1) / 3)
 #define SECLANG_VARIABLES_MOST(n) ((n) / 2)
 #define SECLANG_UPDATE_TARGETS_MOST(n) (((n) + 1) / 3)
+
+/* No package of n bytes needs more records than these. */
+#define SECLANG_DIRECTIVES_MOST(n) ((n) / 3)
+#define SECLANG_DIRECTIVES_VARIABLES_MOST(n) ((n) / 2)
+#define SECLANG_DIRECTIVES_ACTIONS_MOST(n) ((n) / 3)
 
 /* The line of seclang_list_text for n bytes of text is never longer: proved for a text that is read, in
  * listing/proofs/BoundLaws, and a line feed; the line of a refusal is shorter. */
@@ -99,6 +118,9 @@ enum seclang_number {
     SECLANG_UNKNOWN_VARIABLE = 7,
     SECLANG_UNKNOWN_OPERATOR = 8,
     SECLANG_BAD_CURSOR = 9,
+    SECLANG_WRONG_COUNT = 13,
+    SECLANG_UNTAKEN = 14,
+    SECLANG_STOPPED = 15,
     SECLANG_NO_TOKEN = 19
 };
 /* end */
@@ -112,6 +134,33 @@ enum seclang_token {
     SECLANG_TOKEN_NEWLINE = 5
 };
 /* end */
+
+/* The first word of a directive's record. Names are compared in any letter case: SecRule, SecAction, SecMarker,
+ * SecDefaultAction; every other directive is of the last kind, whatever its arguments, and keeps none of them. */
+/* made: directives */
+enum seclang_directive {
+    SECLANG_DIRECTIVE_RULE = 1,     /* operator and its argument, variables, actions */
+    SECLANG_DIRECTIVE_ACTION = 2,   /* actions */
+    SECLANG_DIRECTIVE_MARKER = 3,   /* name: the argument as it stands */
+    SECLANG_DIRECTIVE_DEFAULTS = 4, /* actions */
+    SECLANG_DIRECTIVE_UNKNOWN = 5   /* name: the directive's own, as written */
+};
+/* end */
+
+/* The places of the words in a directive's record. */
+enum seclang_directive_word {
+    SECLANG_AT_KIND = 0,
+    SECLANG_AT_LINE = 1,
+    SECLANG_AT_SPAN = 2,
+    SECLANG_AT_NAME = 3,
+    SECLANG_AT_NEGATED = 4,
+    SECLANG_AT_OPERATOR = 5,
+    SECLANG_AT_ARGUMENT = 6,
+    SECLANG_AT_FIRST_VARIABLE = 7,
+    SECLANG_AT_VARIABLES = 8,
+    SECLANG_AT_FIRST_ACTION = 9,
+    SECLANG_AT_ACTIONS = 10
+};
 
 /* In all that follows, behind the prefix stands the name as a rule writes it, in capitals; in a rule, letter case does
  * not matter, but for `t:`, which is small. An action without a remark has its code alone. */
@@ -375,6 +424,17 @@ uint64_t seclang_next_token(const uint8_t *input, size_t input_len, size_t place
  * reading stopped: the input's length, or a vertical tab or a form feed where a token would start. */
 uint64_t seclang_tokens(const uint8_t *input, size_t input_len, uint8_t *text, size_t text_len, uint64_t *records,
                         size_t records_len, uint64_t *values, size_t values_len);
+
+/* The directives of a package, with their arguments read. Numbers 0 to 8 and 13 to 15. A directive takes the words and
+ * strings up to the next newline, comment or directive, or the end, which a stop is too: SecRule two or three, a list
+ * of variables, an operator and an action list, the last of which may be left out; SecAction and SecDefaultAction an
+ * action list; SecMarker a name; any other as many as there are. `scratch` too is asked to be as long as the input;
+ * past the numbers 1 to 3 it is all zero. Texts stand directive by directive: the name, its variables and exclusions,
+ * the operator's argument, its actions. Values with 0: directive, variable and action records, bytes of text. */
+uint64_t seclang_directives(const uint8_t *input, size_t input_len, uint8_t *text, size_t text_len, uint8_t *scratch,
+                            size_t scratch_len, uint64_t *directives, size_t directives_len, uint64_t *variables,
+                            size_t variables_len, uint64_t *actions, size_t actions_len, uint64_t *values,
+                            size_t values_len);
 
 /* An action list, as the text of its string token has it. Numbers 0 to 6. `scratch` too is asked to be as long as the
  * input; past the numbers 1 to 3 it holds the list without its line continuations and then zeros, refused or not.

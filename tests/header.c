@@ -11,6 +11,11 @@ enum { ROOM = SECLANG_LIMIT + 1, WORDS = SECLANG_TOKENS_MOST(ROOM) * SECLANG_TOK
 
 static uint8_t input[ROOM], text[ROOM + 3], scratch[ROOM], out[SECLANG_LISTING_MOST(ROOM)];
 static uint64_t records[WORDS], values[SECLANG_VALUES_MOST];
+static uint64_t heads[SECLANG_DIRECTIVES_MOST(ROOM) * SECLANG_DIRECTIVE_WORDS];
+static uint64_t targets[SECLANG_DIRECTIVES_VARIABLES_MOST(ROOM) * SECLANG_VARIABLE_WORDS];
+static uint64_t acts[SECLANG_DIRECTIVES_ACTIONS_MOST(ROOM) * SECLANG_ACTION_WORDS];
+
+enum { WORD = sizeof *heads, HEADS = sizeof heads / WORD, TARGETS = sizeof targets / WORD, ACTS = sizeof acts / WORD };
 static int checked, failed;
 
 static void check(bool holds, const char *what, int line)
@@ -58,6 +63,12 @@ static uint64_t updates(const char *s)
 static uint64_t operator_of(const char *s)
 {
     return seclang_parse_operator(bytes(s), strlen(s), values, SECLANG_VALUES_MOST);
+}
+
+static uint64_t directives(const char *s)
+{
+    return seclang_directives(bytes(s), strlen(s), text, ROOM, scratch, ROOM, heads, HEADS, targets, TARGETS, acts,
+                              ACTS, values, SECLANG_VALUES_MOST);
 }
 
 /* ---- what is answered */
@@ -325,6 +336,97 @@ static void check_operators(void)
           !seclang_matches(true, 9, 5, 7));
 }
 
+/* ---- whole directives */
+
+static bool four_values(uint64_t a, uint64_t b, uint64_t c, uint64_t d)
+{
+    return first_values(a, b) && values[2] == c && values[3] == d;
+}
+
+static bool zero_words(const uint64_t *words, size_t n)
+{
+    for (size_t i = 0; i < n; i++)
+        if (words[i] != 0) return false;
+    return true;
+}
+
+/* Text holds a name, if any, and zeros, and all else that is lent is zero. */
+static bool cleared(const char *name)
+{
+    bool zero = memcmp(text, name, strlen(name)) == 0;
+    for (size_t i = strlen(name); i < ROOM; i++) zero = zero && text[i] == 0;
+    for (size_t i = 0; i < ROOM; i++) zero = zero && scratch[i] == 0;
+    return zero && zero_words(heads, HEADS) && zero_words(targets, TARGETS) && zero_words(acts, ACTS);
+}
+
+static bool head(size_t k, const uint64_t *want)
+{
+    return memcmp(heads + k * SECLANG_DIRECTIVE_WORDS, want, SECLANG_DIRECTIVE_WORDS * sizeof *want) == 0;
+}
+
+static void check_directives(void)
+{
+    const uint64_t rule_words[] = {
+        SECLANG_DIRECTIVE_RULE, 1, span(0, 39), 0, 1, SECLANG_OPERATOR_PM, span(2, 1), 0, 3, 0, 1};
+    const uint64_t marker[] = {SECLANG_DIRECTIVE_MARKER, 3, span(41, 13), span(7, 1), 0, 0, 0, 3, 0, 1, 0};
+    const uint64_t action[] = {SECLANG_DIRECTIVE_ACTION, 4, span(55, 13), 0, 0, 0, 0, 3, 0, 1, 1};
+    const uint64_t defaults[] = {SECLANG_DIRECTIVE_DEFAULTS, 5, span(69, 20), 0, 0, 0, 0, 3, 0, 2, 1};
+    const uint64_t unknown[] = {SECLANG_DIRECTIVE_UNKNOWN, 6, span(90, 11), span(8, 7), 0, 0, 0, 3, 0, 3, 0};
+    memset(scratch, 'x', ROOM);
+    CHECK(directives("SecRule !a|TX:k|ARGS \"!@pm x \" setvar:y\n\nSecMarker 'm'\nSECACTION log\nSecDefaultAction "
+                     "log\nInclude a b") == SECLANG_READ);
+    CHECK(four_values(5, 3, 3, 15) && memcmp(text, "kaxtxy1mInclude", 16) == 0);
+    CHECK(head(0, rule_words) && head(1, marker) && head(2, action) && head(3, defaults) && head(4, unknown));
+    CHECK(heads[5 * SECLANG_DIRECTIVE_WORDS] == 0 && scratch[0] == 0 && scratch[ROOM - 1] == 0);
+    CHECK(targets[0] == SECLANG_TARGET_VARIABLE && shows(targets[4], "k") && shows(targets[14], "a"));
+    CHECK(acts[0] == SECLANG_ACTION_SETVAR && shows(acts[2], "tx") && shows(acts[3], "y") && shows(acts[5], "1"));
+    CHECK(shows(heads[SECLANG_AT_ARGUMENT], "x") && heads[SECLANG_AT_OPERATOR] == SECLANG_OPERATOR_PM &&
+          heads[SECLANG_AT_NEGATED] == 1 && heads[SECLANG_AT_VARIABLES] == 3 && heads[SECLANG_AT_ACTIONS] == 1);
+    CHECK(shows(heads[SECLANG_DIRECTIVE_WORDS + SECLANG_AT_NAME], "m") &&
+          heads[SECLANG_DIRECTIVE_WORDS + SECLANG_AT_FIRST_VARIABLE] == 3 &&
+          heads[SECLANG_DIRECTIVE_WORDS + SECLANG_AT_FIRST_ACTION] == 1);
+    CHECK(heads[SECLANG_AT_KIND] == SECLANG_DIRECTIVE_RULE && heads[SECLANG_AT_LINE] == 1 &&
+          SECLANG_SPAN_LENGTH(heads[SECLANG_AT_SPAN]) == 39);
+    CHECK(directives("") == SECLANG_READ && four_values(0, 0, 0, 0) && cleared(""));
+}
+
+static void check_faults(void)
+{
+    CHECK(directives("SecRule ARGS\f") == SECLANG_WRONG_COUNT && values[0] == 1 && cleared(""));
+    CHECK(directives("SecRule ARGS \"@rx a\" \\\n# why\n\"deny\"") == SECLANG_UNTAKEN && values[0] == 3 && cleared(""));
+    CHECK(directives("SecAction deny\n\f") == SECLANG_STOPPED && values[0] == 2 && cleared(""));
+    CHECK(directives("SecAction Bogus\nSecRule x") == SECLANG_UNKNOWN_ACTION && first_values(1, 0) && values[2] == 5 &&
+          cleared("bogus"));
+    CHECK(directives("\nSecAction log,skipafter") == SECLANG_BAD_ARGUMENT && first_values(2, 1) && values[2] == 9 &&
+          cleared("skipAfter"));
+    CHECK(directives("SecRule TX|Nope a") == SECLANG_UNKNOWN_VARIABLE && first_values(1, 1) && values[2] == 4 &&
+          cleared("Nope"));
+    CHECK(directives("SecRule ARGS \"\\t!@x\"") == SECLANG_UNKNOWN_OPERATOR && first_values(1, 3) && values[2] == 1 &&
+          cleared(""));
+}
+
+/* Too little of each buffer in turn: 3 touches nothing, 4 has all three counts. */
+static void check_lent(void)
+{
+    const uint8_t *s = bytes("SecRule ARGS a deny");
+    for (size_t lack = 0; lack < 3; lack++) {
+        memset(acts, 1, sizeof acts);
+        CHECK(seclang_directives(s, 19, text, 19, scratch, 19, heads, 11 - (lack == 0), targets, 5 - (lack == 1), acts,
+                                 6 - (lack == 2), values, 10) == SECLANG_NO_ROOM &&
+              first_values(1, 1) && values[2] == 1 && acts[0] == 0 && text[0] == 0);
+    }
+    memset(text, 'x', ROOM);
+    memset(scratch, 'x', ROOM);
+    CHECK(seclang_directives(s, 19, text, 18, scratch, 19, heads, 0, targets, 0, acts, 0, values, 10) ==
+              SECLANG_SHORT_BUFFER &&
+          values[0] == 0 && text[0] == 'x');
+    CHECK(seclang_directives(s, 19, text, 19, scratch, 18, heads, 0, targets, 0, acts, 0, values, 10) ==
+              SECLANG_SHORT_BUFFER &&
+          scratch[0] == 'x');
+    CHECK(seclang_directives(s, 19, text, 19, scratch, 19, heads, 11, targets, 5, acts, 6, values, 4) == SECLANG_READ &&
+          four_values(1, 1, 1, 1) && text[0] == 'a' && text[1] == 0 && text[19] == 'x' && scratch[19] == 'x');
+}
+
 /* ---- listings */
 
 static bool wrote(const char *s)
@@ -428,6 +530,33 @@ static void check_bounds_at(size_t n)
           SECLANG_VARIABLE_WORDS);
 }
 
+/* A package with many records of one kind: with room for the most it is read, with a word less than it needs it is not. */
+static void check_crowded(size_t n, size_t which)
+{
+    size_t room[3] = {SECLANG_DIRECTIVES_MOST(n) * SECLANG_DIRECTIVE_WORDS,
+                      SECLANG_DIRECTIVES_VARIABLES_MOST(n) * SECLANG_VARIABLE_WORDS,
+                      SECLANG_DIRECTIVES_ACTIONS_MOST(n) * SECLANG_ACTION_WORDS};
+    const size_t width[3] = {SECLANG_DIRECTIVE_WORDS, SECLANG_VARIABLE_WORDS, SECLANG_ACTION_WORDS};
+    for (size_t less = 0; less < 2; less++) {
+        const bool fits = less == 0 || values[which] == 0;
+        if (!fits) room[which] = values[which] * width[which] - 1;
+        CHECK(seclang_directives(input, n, text, n, scratch, n, heads, room[0], targets, room[1], acts, room[2], values,
+                                 10) == (fits ? SECLANG_READ : SECLANG_NO_ROOM));
+    }
+}
+
+static void check_package_bounds_at(size_t n)
+{
+    fill(n, "sec", "\nsec");
+    check_crowded(n, 0);
+    fill(n, "", " ");
+    if (n >= 11) fill(n - 1, "SecRule TX", "|!"), input[n - 1] = '"';
+    check_crowded(n, 1);
+    fill(n, "", " ");
+    if (n >= 12) fill(n, "SecAction t:", ",t:");
+    check_crowded(n, 2);
+}
+
 int main(void)
 {
     CHECK(seclang_version() == SECLANG_VERSION);
@@ -439,10 +568,13 @@ int main(void)
     check_setvars();
     check_targets();
     check_operators();
+    check_directives();
+    check_faults();
+    check_lent();
     check_listings();
     check_numbers();
-    for (size_t n = 0; n <= 100; n++) check_bounds_at(n);
-    for (size_t n = SECLANG_LIMIT - 5; n <= SECLANG_LIMIT; n++) check_bounds_at(n);
+    for (size_t n = 0; n <= 100; n++) check_bounds_at(n), check_package_bounds_at(n);
+    for (size_t n = SECLANG_LIMIT - 5; n <= SECLANG_LIMIT; n++) check_bounds_at(n), check_package_bounds_at(n);
     printf("tests/header.c: %d checks, %d failed\n", checked, failed);
     return failed != 0;
 }

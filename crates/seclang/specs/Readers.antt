@@ -10,6 +10,8 @@ use Rattle.lexer.specs.declared.Cursor.{Cursor}
 use Rattle.lexer.specs.Cursors.{line, column}
 use Rattle.lexer.specs.Promises.{nextOutcome, nextGivenBy, nextTextBy, tokensOutcome}
 use Rattle.actions.specs.Promises.{actionsGate, actionsOutcome, scratchBy}
+use Rattle.directives.specs.Table as Directing
+use Rattle.directives.specs.Promises as Whole
 use Rattle.listing.specs.declared.Stop.{Stop}
 use Rattle.listing.specs.declared.Stop.the-variants as Stop
 use Rattle.listing.specs.Listings.{lineOf}
@@ -27,6 +29,15 @@ pub record Fills (o : Outcome Filled) (text text′ records records′ old new :
 pub record FillsActions (s text text′ work work′ records records′ old new : List ℕ) (r : ℕ) : Type 0 where
   pub fills : Fills (actionsOutcome s (length text) (length work) (length records)) text text′ records records′ old new r
   pub scratch : work′ ≡ scratchBy (actionsGate s (length text) (length work)) s work
+
+-- whole directives: two byte buffers and three record buffers
+pub record FillsDirectives (s : List ℕ) (m m′ : Whole.Lent) (old new : List ℕ) (r : ℕ) : Type 0 where
+  pub told : Told (Directing.givenBy (Whole.outcomeOn s m)) old new r
+  pub text : m′ .text ≡ Directing.textBy (Whole.outcomeOn s m) (m .text)
+  pub scratch : m′ .scratch ≡ Directing.scratchBy (Whole.outcomeOn s m) (m .scratch)
+  pub directives : m′ .directives ≡ Directing.recordsBy (λ x. x .directives) (Whole.outcomeOn s m) (m .directives)
+  pub variables : m′ .variables ≡ Directing.recordsBy (λ x. x .variables) (Whole.outcomeOn s m) (m .variables)
+  pub actions : m′ .actions ≡ Directing.recordsBy (λ x. x .actions) (Whole.outcomeOn s m) (m .actions)
 
 -- ---- one token
 

@@ -14,6 +14,7 @@ pub use looking::seclang_xml_target;
 pub use printing::seclang_list_text;
 pub use printing::seclang_write_listing;
 pub use printing::seclang_write_refusal;
+pub use reading::seclang_directives;
 pub use reading::seclang_next_token;
 pub use reading::seclang_parse_actions;
 pub use reading::seclang_parse_operator;

@@ -6,9 +6,11 @@ ghost use Rattle.lexer.specs.Promises.{tokensOutcome};
 ghost use Rattle.actions.specs.Promises.{setvarOutcome};
 ghost use Rattle.variables.specs.Promises.{variablesOutcome, updateOutcome};
 ghost use Rattle.operators.specs.Promises as Operating;
+ghost use Rattle.directives.specs.Promises.{lentOf};
 ghost use Rattle.seclang.specs.Told.{Told};
-ghost use Rattle.seclang.specs.Readers.{Steps, Fills, FillsActions};
+ghost use Rattle.seclang.specs.Readers.{Steps, Fills, FillsActions, FillsDirectives};
 use crate::telling::tell_acted;
+use crate::telling::tell_directed;
 use crate::telling::tell_operated;
 use crate::telling::tell_reading;
 use crate::telling::tell_step;
@@ -110,4 +112,22 @@ pub extern "C" fn seclang_parse_operator(input: &[u8], values: &mut [u64]) -> u6
     ensures { λ r. ⌜ Told (Operating.givenBy (now (input .entry)) (Operating.operatorOutcome (now (input .entry)))) (now (values .entry)) (now (values .exit)) r ⌝ }
 {
     tell_operated(operators::parse_operator(input), values)
+}
+
+#[no_mangle]
+pub extern "C" fn seclang_directives(
+    input: &[u8],
+    text: &mut [u8],
+    scratch: &mut [u8],
+    directives: &mut [u64],
+    variables: &mut [u64],
+    actions: &mut [u64],
+    values: &mut [u64],
+) -> u64
+    ensures { λ r. ⌜ FillsDirectives (now (input .entry)) (lentOf (now (text .entry)) (now (scratch .entry)) (now (directives .entry)) (now (variables .entry)) (now (actions .entry))) (lentOf (now (text .exit)) (now (scratch .exit)) (now (directives .exit)) (now (variables .exit)) (now (actions .exit))) (now (values .entry)) (now (values .exit)) r ⌝ }
+{
+    tell_directed(
+        directives::directives(input, text, scratch, directives, variables, actions),
+        values,
+    )
 }

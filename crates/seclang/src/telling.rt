@@ -9,8 +9,13 @@ ghost use Rattle.actions.specs.Promises as Acting;
 ghost use Rattle.variables.specs.Promises as Targeting;
 ghost use Rattle.operators.specs.Promises as Operating;
 ghost use Rattle.listing.specs.Promises as Listing;
+ghost use Rattle.directives.specs.Promises as Directing;
 ghost use Rattle.seclang.specs.Told.{Told};
 use actions::Answer as Acted;
+use directives::Answer as Directed;
+use directives::ArgumentFault;
+use directives::Fault;
+use directives::LineFault;
 use lexer::Answer as Reading;
 use lexer::Cursor;
 use lexer::Kind;
@@ -39,6 +44,13 @@ pub fn tell_two(number: u64, first: usize, second: usize, values: &mut [u64]) ->
     ensures { λ r. ⌜ Told (given number (first ∷ second ∷ [])) (now (values .entry)) (now (values .exit)) r ⌝ }
 {
     let words = [first as u64, second as u64];
+    tell(number, &words, values)
+}
+
+fn tell_three(number: u64, first: usize, second: usize, third: usize, values: &mut [u64]) -> u64
+    ensures { λ r. ⌜ Told (given number (first ∷ second ∷ third ∷ [])) (now (values .entry)) (now (values .exit)) r ⌝ }
+{
+    let words = [first as u64, second as u64, third as u64];
     tell(number, &words, values)
 }
 
@@ -185,5 +197,68 @@ pub fn tell_listed(answer: Listed, values: &mut [u64]) -> u64
         Listed::Written(n) => tell_one(0, n, values),
         Listed::NoRoom(needed) => tell_one(4, needed, values),
         Listed::NoToken(place) => tell_one(19, place, values),
+    }
+}
+
+fn line_number(why: LineFault) -> u64
+    ensures { λ r. ⌜ r ≡ Directing.lineNumber why ⌝ }
+{
+    match why {
+        LineFault::WrongCount => 13,
+        LineFault::Untaken => 14,
+        LineFault::Stopped => 15,
+    }
+}
+
+fn argument_number(why: ArgumentFault) -> u64
+    ensures { λ r. ⌜ r ≡ Directing.argumentNumber why ⌝ }
+{
+    match why {
+        ArgumentFault::UnknownVariable => 7,
+        ArgumentFault::UnknownOperator => 8,
+        ArgumentFault::UnknownAction => 5,
+        ArgumentFault::BadArgument => 6,
+    }
+}
+
+// A fault stands inside an answer, and is told by itself: it has the line first.
+fn tell_fault(fault: Fault, values: &mut [u64]) -> u64
+    ensures { λ r. ⌜ Told (Directing.faultTold fault) (now (values .entry)) (now (values .exit)) r ⌝ }
+{
+    match fault {
+        Fault::Line { why, line } => tell_one(line_number(why), line, values),
+        Fault::Argument { why, line, at, len } => {
+            tell_three(argument_number(why), line, at, len, values)
+        }
+    }
+}
+
+pub fn tell_directed(answer: Directed, values: &mut [u64]) -> u64
+    ensures { λ r. ⌜ Told (Directing.answerGiven answer) (now (values .entry)) (now (values .exit)) r ⌝ }
+{
+    match answer {
+        Directed::Read {
+            directives,
+            variables,
+            actions,
+            text,
+        } => {
+            let words = [
+                directives as u64,
+                variables as u64,
+                actions as u64,
+                text as u64,
+            ];
+            tell(0, &words, values)
+        }
+        Directed::TooLong => tell_one(1, lent::LIMIT, values),
+        Directed::NotAscii(place) => tell_one(2, place, values),
+        Directed::Short => tell_one(3, 0, values),
+        Directed::Refused(fault) => tell_fault(fault, values),
+        Directed::NoRoom {
+            directives,
+            variables,
+            actions,
+        } => tell_three(4, directives, variables, actions, values),
     }
 }
