@@ -64,18 +64,20 @@ use Rattle.xml.proofs.xml_target as XmlTarget
 use Rattle.operators.proofs.operator_argument as OperatorArgument
 use Rattle.operators.proofs.operator_in as OperatorIn
 use Rattle.operators.proofs.parse_operator as ParseOperator
+use Rattle.directives.proofs.directives as DirectivesOf
 use Rattle.rules.proofs.grade as Grade
 use Rattle.rules.proofs.phase as Phase
 use Rattle.rules.proofs.selecting.RuleIdSelector.matches as Matches
 use Rattle.listing.proofs.list_text as ListText
 use Rattle.listing.proofs.write_listing as WriteListing
 use Rattle.listing.proofs.write_refusal as WriteRefusal
-use Rattle.demands.specs.Demand1.{OfBytes, OfTexts, OfNumbers, OfLent, OfNames, OfLexer, OfSingles, OfParsers, OfListing, Demand1}
+use Rattle.demands.specs.Demand1.{OfBytes, OfTexts, OfNumbers, OfLent, OfNames, OfLexer, OfSingles, OfParsers, OfDirectives, OfListing, Demand1}
 use Rattle.demands.proofs.FixedLaws.{gives, both-given, finish-fixed, reader-fixed}
 use Rattle.demands.proofs.TokenCalls.{step-in-fixed, next-token-fixed, tokens-fixed, tokens-row}
 use Rattle.demands.proofs.ActionCalls.{parse-actions-fixed, normalise-fixed, read-actions-fixed, parse-setvar-fixed, parse-actions-row, parse-setvar-row}
 use Rattle.demands.proofs.VariableCalls.{read-targets-fixed, parse-variables-fixed, parse-update-targets-fixed, parse-variables-row, parse-update-targets-row}
 use Rattle.demands.proofs.OperatorCalls.{operator-in-fixed, parse-operator-fixed, operator-argument-fixed}
+use Rattle.demands.proofs.DirectiveCalls.{directives-fixed, directives-row}
 use Rattle.demands.proofs.Library.{of-library}
 use Rattle.demands.proofs.ListingCalls.{write-listing-fixed, write-refusal-fixed, list-text-fixed}
 
@@ -176,6 +178,9 @@ of-parsers = record {
   operator-argument = record { promises = record { tied = λ M 𝓤 H A mem run. refl; met = λ M 𝓤. OperatorArgument.Met.met 𝓤 }; fixed = operator-argument-fixed };
 }
 
+of-directives : OfDirectives
+of-directives = record { directives = record { promises = record { tied = λ M 𝓤 H A mem run. refl; met = λ M 𝓤. DirectivesOf.Met.met 𝓤 }; fixed = directives-fixed } }
+
 of-listing : OfListing
 of-listing = record {
   write-listing = record { promises = record { tied = λ M 𝓤 H A mem run. refl; met = λ M 𝓤. WriteListing.Met.met 𝓤 }; fixed = write-listing-fixed };
@@ -193,6 +198,7 @@ demand1 = record {
   of-lexer = of-lexer;
   of-singles = of-singles;
   of-parsers = of-parsers;
+  of-directives = of-directives;
   of-listing = of-listing;
   of-library = of-library;
   by-table = record {
@@ -201,5 +207,6 @@ demand1 = record {
     parse-setvar = parse-setvar-row;
     parse-variables = parse-variables-row;
     parse-update-targets = parse-update-targets-row;
+    directives = directives-row;
   };
 }

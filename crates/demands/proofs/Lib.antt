@@ -3,6 +3,7 @@ pub mod TokenCalls
 pub mod ActionCalls
 pub mod VariableCalls
 pub mod OperatorCalls
+pub mod DirectiveCalls
 pub mod ListingCalls
 pub mod RowLaws
 pub mod AnswerLaws
@@ -11,3 +12,4 @@ pub mod Demand1
 pub mod Worked
 pub mod Demand3
 pub mod Demand2
+pub mod WholeDirectives

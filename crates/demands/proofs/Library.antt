@@ -9,6 +9,8 @@ use Rattle.lent.specs.Table.{Given, Outcome, Filled, givenBy, textBy, recordsBy
 use Rattle.lexer.specs.Promises.{nextOutcome, nextGivenBy, nextTextBy, tokensOutcome}
 use Rattle.actions.specs.Promises.{actionsGate, actionsOutcome, scratchBy}
 use Rattle.operators.specs.Promises as Operators
+use Rattle.directives.specs.Table as Directing
+use Rattle.directives.specs.Promises as Whole
 use Rattle.listing.specs.Listings.{lineOf}
 use Rattle.listing.specs.Promises as Listing
 use Rattle.seclang.specs.Told.{Told}
@@ -22,6 +24,7 @@ use Rattle.seclang.proofs.seclang_xml_target as SeclangXmlTarget
 use Rattle.seclang.proofs.seclang_list_text as SeclangListText
 use Rattle.seclang.proofs.seclang_write_listing as SeclangWriteListing
 use Rattle.seclang.proofs.seclang_write_refusal as SeclangWriteRefusal
+use Rattle.seclang.proofs.seclang_directives as SeclangDirectives
 use Rattle.seclang.proofs.seclang_next_token as SeclangNextToken
 use Rattle.seclang.proofs.seclang_parse_actions as SeclangParseActions
 use Rattle.seclang.proofs.seclang_parse_operator as SeclangParseOperator
@@ -32,8 +35,9 @@ use Rattle.seclang.proofs.seclang_tokens as SeclangTokens
 use Rattle.seclang.proofs.seclang_version as SeclangVersion
 use Rattle.demands.specs.Fixed.{Fixed}
 use Rattle.demands.specs.Calls.{Lent, Left, left, Wrote, wrote, Place}
-use Rattle.demands.specs.Library.{With, fills-promise, fills-actions-promise, steps-promise, operator-promise, lists-promise, recordsOutcome, refusalOutcome, lists-text-promise, OfLibrary}
+use Rattle.demands.specs.Library.{With, fills-promise, fills-actions-promise, fills-directives-promise, steps-promise, operator-promise, lists-promise, recordsOutcome, refusalOutcome, lists-text-promise, OfLibrary}
 use Rattle.demands.proofs.FixedLaws.{gives, left-same, wrote-same}
+use Rattle.demands.proofs.DirectiveCalls.{all-left}
 
 -- two pairs with equal parts are equal
 pair : {A B : Type 0} {a c : A} {b d : B} → a ≡ c → b ≡ d → _≡_ {A = A × B} (a, b) (c, d)
@@ -75,6 +79,23 @@ fills-actions-fixed = record {
         record { fills = record { told = record { number = refl; values = refl }; texts = refl; words = refl }; scratch = refl },
       );
   once = λ i o p a b. let e = fills-same (a .fills) (b .fills) in pair (pair (e .0) (one-answer (a .scratch) (b .scratch))) (e .1);
+}
+
+fills-directives-left : (i : With (List ℕ × Whole.Lent)) (o : With (ℕ × Whole.Lent)) → fills-directives-promise i o
+    → o .0 .1 ≡ Whole.leftBy (Whole.outcomeOn (i .0 .0) (i .0 .1)) (i .0 .1)
+fills-directives-left i o x = all-left (Whole.outcomeOn (i .0 .0) (i .0 .1)) (i .0 .1) (o .0 .1) (x .text) (x .scratch) (x .directives) (x .variables) (x .actions)
+
+fills-directives-fixed : Fixed (With (List ℕ × Whole.Lent)) (With (ℕ × Whole.Lent)) fills-directives-promise
+fills-directives-fixed = record {
+  total = λ i.
+      let x = Whole.outcomeOn (i .0 .0) (i .0 .1) in
+      let g = Directing.givenBy x in (
+        ((g .number, Whole.leftBy x (i .0 .1)), told g (i .1)),
+        record { told = record { number = refl; values = refl }; text = refl; scratch = refl; directives = refl; variables = refl; actions = refl },
+      );
+  once = λ i o p a b.
+      pair (pair (one-answer (a .told .number) (b .told .number)) (one-answer (fills-directives-left i o a) (fills-directives-left i p b)))
+      (one-answer (a .told .values) (b .told .values));
 }
 
 steps-fixed : Fixed (With Place) (With (Wrote ℕ)) steps-promise
@@ -130,6 +151,7 @@ of-library = record {
   parse-variables = record { promises = record { tied = λ M 𝓤 H A mem run. refl; met = λ M 𝓤. SeclangParseVariables.Met.met 𝓤 }; fixed = fills-fixed _ };
   parse-update-targets = record { promises = record { tied = λ M 𝓤 H A mem run. refl; met = λ M 𝓤. SeclangParseUpdateTargets.Met.met 𝓤 }; fixed = fills-fixed _ };
   parse-operator = record { promises = record { tied = λ M 𝓤 H A mem run. refl; met = λ M 𝓤. SeclangParseOperator.Met.met 𝓤 }; fixed = operator-fixed };
+  directives = record { promises = record { tied = λ M 𝓤 H A mem run. refl; met = λ M 𝓤. SeclangDirectives.Met.met 𝓤 }; fixed = fills-directives-fixed };
   lookup = record { promises = record { tied = λ M 𝓤 H A mem run. refl; met = λ M 𝓤. SeclangLookup.Met.met 𝓤 }; fixed = λ κs. gives _ };
   test = record { promises = record { tied = λ M 𝓤 H A mem run. refl; met = λ M 𝓤. SeclangTest.Met.met 𝓤 }; fixed = λ κs. gives _ };
   xml-target = record { promises = record { tied = λ M 𝓤 H A mem run. refl; met = λ M 𝓤. SeclangXmlTarget.Met.met 𝓤 }; fixed = λ κs. gives _ };

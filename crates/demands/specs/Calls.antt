@@ -20,6 +20,8 @@ use Rattle.variables.specs.declared.Reached.{Reached}
 use Rattle.variables.specs.declared.singles.Exclusions.{Exclusions}
 use Rattle.operators.specs.Promises.{OperatorIn, ParseOperator, OperatorArgument}
 use Rattle.operators.specs.declared.Answer as Operators
+use Rattle.directives.specs.Promises as Whole
+use Rattle.directives.specs.declared.Answer as Directives
 use Rattle.listing.specs.declared.Stop.{Stop}
 use Rattle.listing.specs.Promises.{WriteListing, WriteRefusal, ListText}
 use Rattle.listing.specs.declared.Answer as Listing
@@ -129,6 +131,10 @@ parse-operator-promise = ParseOperator
 -- the input and the argument, each where it stands in memory
 abbrev pub operator-argument-promise : Standing → Standing → Type 0
 operator-argument-promise = OperatorArgument
+
+-- A package, and lent to its reader two byte buffers and three record buffers.
+abbrev pub directives-promise : List ℕ × Whole.Lent → Directives.Answer × Whole.Lent → Type 0
+directives-promise i o = Whole.Directives (i .0) (i .1) (o .1) (o .0)
 
 -- ---- the listings
 

@@ -37,6 +37,8 @@ use Rattle.actions.specs.Promises as Actions
 use Rattle.actions.specs.declared.Answer as Listed
 use Rattle.actions.specs.declared.Reached as Acted
 use Rattle.actions.specs.declared.normalising.Normal.{Normal}
+use Rattle.directives.specs.Promises as Whole
+use Rattle.directives.specs.declared.Answer as Directives
 use Rattle.xml.specs.Xml.{xmlTarget}
 use Rattle.variables.specs.Promises as Variables
 use Rattle.variables.specs.declared.Answer as Targets
@@ -107,6 +109,7 @@ use Rattle.xml.proofs.xml_target as XmlTarget
 use Rattle.operators.proofs.operator_argument as OperatorArgument
 use Rattle.operators.proofs.operator_in as OperatorIn
 use Rattle.operators.proofs.parse_operator as ParseOperator
+use Rattle.directives.proofs.directives as DirectivesOf
 use Rattle.rules.proofs.grade as Grade
 use Rattle.rules.proofs.phase as Phase
 use Rattle.rules.proofs.selecting.RuleIdSelector.matches as Matches
@@ -114,8 +117,9 @@ use Rattle.listing.proofs.list_text as ListText
 use Rattle.listing.proofs.write_listing as WriteListing
 use Rattle.listing.proofs.write_refusal as WriteRefusal
 use Rattle.demands.specs.Contracts.{Promises, Decides, Answers, Keeps}
-use Rattle.demands.specs.Calls.{Lent, lent, Left, left, Wrote, wrote, Filling, finish-promise, Place, place, Records, Refusal, step-in-promise, next-token-promise, tokens-promise, parse-actions-promise, normalise-promise, read-actions-promise, parse-setvar-promise, parse-variables-promise, parse-update-targets-promise, From, read-targets-promise, operator-in-promise, parse-operator-promise, operator-argument-promise, write-listing-promise, write-refusal-promise, list-text-promise}
+use Rattle.demands.specs.Calls.{Lent, lent, Left, left, Wrote, wrote, Filling, finish-promise, Place, place, Records, Refusal, step-in-promise, next-token-promise, tokens-promise, parse-actions-promise, normalise-promise, read-actions-promise, parse-setvar-promise, parse-variables-promise, parse-update-targets-promise, From, read-targets-promise, operator-in-promise, parse-operator-promise, operator-argument-promise, directives-promise, write-listing-promise, write-refusal-promise, list-text-promise}
 use Rattle.demands.specs.Rows.{Row}
+use Rattle.demands.specs.DirectiveRows as Directive
 use Rattle.demands.specs.Library.{OfLibrary}
 
 -- Of what is passed, `a`, the first is `a .0`, the second `a .1 .0`, the third `a .1 .1 .0`; so too of `e`, the same at exit.
@@ -242,6 +246,12 @@ pub record OfParsers : Type 3 where
   pub parse-operator : Keeps ParseOperator.ended (λ M 𝓤. ParseOperator.spec 𝓤) ParseOperator.Symbol.routine (List ℕ) Operator.Answer parse-operator-promise (λ _ a. now (a .0)) (λ _ r e. r)
   pub operator-argument : Keeps OperatorArgument.ended (λ M 𝓤. OperatorArgument.spec 𝓤) OperatorArgument.Symbol.routine Standing Standing operator-argument-promise (λ _ a. standing (a .0)) (λ _ r e. standing r)
 
+-- Whole directives.
+pub record OfDirectives : Type 3 where
+  pub directives : Keeps DirectivesOf.ended (λ M 𝓤. DirectivesOf.spec 𝓤) DirectivesOf.Symbol.routine (List ℕ × Whole.Lent) (Directives.Answer × Whole.Lent) directives-promise
+      (λ _ a. (now (a .0), Whole.lentOf (now (a .1 .0)) (now (a .1 .1 .0)) (now (a .1 .1 .1 .0)) (now (a .1 .1 .1 .1 .0)) (now (a .1 .1 .1 .1 .1 .0))))
+      (λ _ r e. (r, Whole.lentOf (now (e .1 .0)) (now (e .1 .1 .0)) (now (e .1 .1 .1 .0)) (now (e .1 .1 .1 .1 .0)) (now (e .1 .1 .1 .1 .1 .0))))
+
 pub record OfListing : Type 3 where
   pub write-listing : Keeps WriteListing.ended (λ M 𝓤. WriteListing.spec 𝓤) WriteListing.Symbol.routine Records (Wrote Listing.Answer) write-listing-promise
       (λ _ a. record { words = now (a .0); texts = now (a .1 .0); stop = a .1 .1 .0; buffer = now (a .1 .1 .1 .0) }) (λ _ r e. wrote r (now (e .1 .1 .1 .0)))
@@ -253,7 +263,7 @@ pub record OfListing : Type 3 where
 
 -- ---- the table
 
--- Each reader that fills two buffers comes to a row of document 01's table, whatever is lent.
+-- Each reader that fills two buffers comes to a row of document 01's table, whatever is lent; that of whole directives to one of document 02's.
 pub record ByTable : Type 0 where
   pub tokens : (i : Lent) (o : Left Tokens.Answer) → tokens-promise i o
       → Row tokenWords (Lexer.answerGiven (o .answer)) (i .text) (o .text) (i .records) (o .records)
@@ -265,6 +275,8 @@ pub record ByTable : Type 0 where
       → Row variableWords (Variables.answerGiven (o .answer)) (i .text) (o .text) (i .records) (o .records)
   pub parse-update-targets : (i : Lent) (o : Left Targets.Answer) → parse-update-targets-promise i o
       → Row variableWords (Variables.answerGiven (o .answer)) (i .text) (o .text) (i .records) (o .records)
+  pub directives : (i : List ℕ × Whole.Lent) (o : Directives.Answer × Whole.Lent) → directives-promise i o
+      → Directive.Row (Whole.answerGiven (o .0)) (i .1) (o .1)
 
 pub record Demand1 : Type 3 where
   pub of-bytes : OfBytes
@@ -275,6 +287,7 @@ pub record Demand1 : Type 3 where
   pub of-lexer : OfLexer
   pub of-singles : OfSingles
   pub of-parsers : OfParsers
+  pub of-directives : OfDirectives
   pub of-listing : OfListing
   pub of-library : OfLibrary
   pub by-table : ByTable

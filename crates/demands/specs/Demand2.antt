@@ -1,7 +1,8 @@
 -- Demand 2. Within 16,384 ASCII bytes tokens, records and the first error equal the Rust's: by differential runs, and by proof against
 -- definitions of its rules. Severity words follow the ModSecurity Reference Manual, listings RFC 8259.
--- Said here of every reader, in two parts. What is given back and left is what the definitions say (`Equals`): `reading`, `actionsOf`,
--- `setvar`, `readAll` and `operator` are the Rust's rules. And each number is given exactly when document 01 says so (`Exact`).
+-- Said here of every reader that document 01 names, in two parts (of whole directives: `WholeDirectives`). What is given back and left
+-- is what the definitions say (`Equals`): `reading`, `actionsOf`, `setvar`, `readAll` and `operator` are the Rust's rules. And each number
+-- is given exactly when document 01 says so (`Exact`).
 use mathlib.Core.Path.{_≡_}
 use mathlib.Core.List.{List, _++_}
 use mathlib.Core.Logic.{_↔_}

@@ -2,8 +2,10 @@ pub mod Fixed
 pub mod Contracts
 pub mod Calls
 pub mod Rows
+pub mod DirectiveRows
 pub mod Library
 pub mod Demand1
 pub mod Worked
 pub mod Demand3
 pub mod Demand2
+pub mod WholeDirectives

@@ -14,10 +14,11 @@ use Rattle.rules.specs.Entries.{entries}
 use Rattle.rules.specs.Phases.{phaseOf}
 use Rattle.rules.specs.Grades.{grades}
 use Rattle.rules.specs.Selectors.{matched}
+use Rattle.directives.specs.Promises as Whole
 use Rattle.listing.specs.Listings.{refusal}
 use Rattle.listing.specs.Promises as Listing
 use Rattle.seclang.specs.Told.{Told}
-use Rattle.seclang.specs.Readers.{Fills, FillsActions, Steps, Lists, ListsText, stopOf}
+use Rattle.seclang.specs.Readers.{Fills, FillsActions, FillsDirectives, Steps, Lists, ListsText, stopOf}
 use Rattle.seclang.specs.Codes.{codeOf, lookupIn, testOf, targetOf, selectorOf, version}
 use Rattle.seclang.proofs.seclang_grade as SeclangGrade
 use Rattle.seclang.proofs.seclang_lookup as SeclangLookup
@@ -28,6 +29,7 @@ use Rattle.seclang.proofs.seclang_xml_target as SeclangXmlTarget
 use Rattle.seclang.proofs.seclang_list_text as SeclangListText
 use Rattle.seclang.proofs.seclang_write_listing as SeclangWriteListing
 use Rattle.seclang.proofs.seclang_write_refusal as SeclangWriteRefusal
+use Rattle.seclang.proofs.seclang_directives as SeclangDirectives
 use Rattle.seclang.proofs.seclang_next_token as SeclangNextToken
 use Rattle.seclang.proofs.seclang_parse_actions as SeclangParseActions
 use Rattle.seclang.proofs.seclang_parse_operator as SeclangParseOperator
@@ -50,6 +52,10 @@ fills-promise outcome i o = Fills (outcome (i .0)) (i .0 .text) (o .0 .text) (i 
 abbrev pub fills-actions-promise : With (Lent × List ℕ) → With (Left ℕ × List ℕ) → Type 0
 fills-actions-promise i o =
     FillsActions (i .0 .0 .input) (i .0 .0 .text) (o .0 .0 .text) (i .0 .1) (o .0 .1) (i .0 .0 .records) (o .0 .0 .records) (i .1) (o .1) (o .0 .0 .answer)
+
+-- whole directives, with all that is lent for them
+abbrev pub fills-directives-promise : With (List ℕ × Whole.Lent) → With (ℕ × Whole.Lent) → Type 0
+fills-directives-promise i o = FillsDirectives (i .0 .0) (i .0 .1) (o .0 .1) (i .1) (o .1) (o .0 .0)
 
 abbrev pub steps-promise : With Place → With (Wrote ℕ) → Type 0
 steps-promise i o = Steps (i .0 .input) (i .0 .from) (i .0 .buffer) (o .0 .buffer) (i .1) (o .1) (o .0 .answer)
@@ -92,6 +98,9 @@ pub record OfLibrary : Type 3 where
       (λ _ a. (lent (now (a .0)) (now (a .1 .0)) (now (a .1 .1 .0)), now (a .1 .1 .1 .0)))
       (λ _ r e. (left r (now (e .1 .0)) (now (e .1 .1 .0)), now (e .1 .1 .1 .0)))
   pub parse-operator : Keeps SeclangParseOperator.ended (λ M 𝓤. SeclangParseOperator.spec 𝓤) SeclangParseOperator.Symbol.routine (With (List ℕ)) (With ℕ) operator-promise (λ _ a. (now (a .0), now (a .1 .0))) (λ _ r e. (r, now (e .1 .0)))
+  pub directives : Keeps SeclangDirectives.ended (λ M 𝓤. SeclangDirectives.spec 𝓤) SeclangDirectives.Symbol.routine (With (List ℕ × Whole.Lent)) (With (ℕ × Whole.Lent)) fills-directives-promise
+      (λ _ a. ((now (a .0), Whole.lentOf (now (a .1 .0)) (now (a .1 .1 .0)) (now (a .1 .1 .1 .0)) (now (a .1 .1 .1 .1 .0)) (now (a .1 .1 .1 .1 .1 .0))), now (a .1 .1 .1 .1 .1 .1 .0)))
+      (λ _ r e. ((r, Whole.lentOf (now (e .1 .0)) (now (e .1 .1 .0)) (now (e .1 .1 .1 .0)) (now (e .1 .1 .1 .1 .0)) (now (e .1 .1 .1 .1 .1 .0))), now (e .1 .1 .1 .1 .1 .1 .0)))
   pub lookup : Answers SeclangLookup.ended (λ M 𝓤. SeclangLookup.spec 𝓤) SeclangLookup.Symbol.routine (λ _ a. codeOf (lookupIn (a .0) (now (a .1 .0))))
   pub test : Answers SeclangTest.ended (λ M 𝓤. SeclangTest.spec 𝓤) SeclangTest.Symbol.routine (λ _ a. testOf (a .0) (a .1 .0))
   pub xml-target : Answers SeclangXmlTarget.ended (λ M 𝓤. SeclangXmlTarget.spec 𝓤) SeclangXmlTarget.Symbol.routine (λ _ a. targetOf (xmlTarget (a .0) (now (a .1 .0))))
