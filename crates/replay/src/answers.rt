@@ -1,5 +1,6 @@
 // One answer, by the question's letter. docs/VECTORS.md lists the letters.
 use crate::acting;
+use crate::directing;
 use crate::hexes;
 use crate::lexing;
 use crate::listings;
@@ -83,6 +84,7 @@ pub fn answer(letter: u8, body: &[u8]) {
         b'u' => targeting::print_update(body),
         b'a' => acting::print_actions(body),
         b'e' => acting::print_setvar(body),
+        b'D' => directing::print_directives(body),
         b'L' => listings::print_listing(body),
         b'm' => matching::print_match(body),
         b'h' => phasing::print_phase(body),

@@ -2,6 +2,7 @@
 // has the original's answers, and the check compares the two.
 mod acting;
 mod answers;
+mod directing;
 mod hexes;
 mod lexing;
 mod lines;

@@ -9,6 +9,11 @@ pub const RECORDS: usize = 20480;
 
 pub const ACTIONS: usize = 32768;
 
+// The same for a package of as many directives, and of as many variables, as its bytes can name.
+pub const DIRECTIVES: usize = 45056;
+
+pub const VARIABLES: usize = 27310;
+
 // A span word's base in the stored answers.
 pub const SPAN: u64 = 65536;
 
