@@ -6,7 +6,7 @@ use crate::parser::lexer::{Lexer, TokenKind};
 use crate::parser::operator::{parse_operator, OperatorName};
 use crate::parser::variable::{parse_update_targets, parse_variables, VariableName};
 use crate::readers::Reader;
-use crate::{original, ours, real};
+use crate::{directives, original, ours, real};
 use std::hint::black_box;
 use std::path::PathBuf;
 
@@ -20,6 +20,7 @@ const ROUND: f64 = 1e8;
 #[derive(Default)]
 struct Inputs {
     texts: Vec<String>,
+    packages: Vec<String>,
     actions: Vec<String>,
     plain: Vec<String>,
     excluding: Vec<String>,
@@ -56,16 +57,22 @@ impl Inputs {
     }
 
     fn of(folders: &[PathBuf]) -> Self {
-        let mut inputs = Inputs::default();
-        for text in real::read(folders).texts.into_iter().filter(|text| text.is_ascii()) {
+        let (mut inputs, real) = (Inputs::default(), real::read(folders));
+        for text in real.texts.into_iter().filter(|text| text.is_ascii()) {
             let text = String::from_utf8(text).expect("ASCII");
             inputs.rules(&text);
             inputs.texts.push(text);
         }
+        // a package that is refused ends both sides' work at its fault: only those that are read are timed
+        let packages = real.packages.into_iter().map(|text| String::from_utf8(text).expect("ASCII"));
+        inputs.packages.extend(packages.filter(|text| text.len() <= original::LIMIT && directives::read(text).number == 0));
         if folders.is_empty() {
             for (reader, rule) in RULES {
                 match reader {
-                    Reader::Tokens => inputs.texts.push(rule.repeat(80)),
+                    Reader::Tokens => {
+                        inputs.texts.push(rule.repeat(80));
+                        inputs.packages.push(rule.repeat(80));
+                    }
                     Reader::Actions => inputs.actions.push(rule.to_string()),
                     Reader::Variables | Reader::Updates => inputs.variables(rule.to_string()),
                     Reader::Operator => inputs.operators.push(rule.to_string()),
@@ -83,12 +90,18 @@ struct Room {
     text: Vec<u8>,
     scratch: Vec<u8>,
     records: Vec<u64>,
+    variables: Vec<u64>,
+    actions: Vec<u64>,
     values: [u64; 16],
 }
 
+/// Words of records: of the one buffer, or of directives, variables and actions.
+type Needs = [usize; 3];
+
 impl Room {
     fn new() -> Self {
-        Room { text: vec![1; 16_400], scratch: vec![1; 16_400], records: vec![1; 20_480], values: [0; 16] }
+        let (bytes, words) = (|| vec![1; 16_400], |n| vec![1; n]);
+        Room { text: bytes(), scratch: bytes(), records: words(45_056), variables: words(40_960), actions: words(32_768), values: [0; 16] }
     }
 }
 
@@ -111,21 +124,38 @@ struct Row<'a> {
     name: &'a str,
     inputs: &'a [String],
     /// The words of records that each input asks for.
-    words: Vec<usize>,
-    ours: fn(&[u8], usize, &mut Room) -> u64,
+    words: Vec<Needs>,
+    ours: fn(&[u8], Needs, &mut Room) -> u64,
     original: fn(&str),
 }
 
-fn needs(inputs: &[String], of: fn(&str) -> original::Outcome) -> Vec<usize> {
-    inputs.iter().map(|text| of(text).words.len()).collect()
+fn needs(inputs: &[String], of: fn(&str) -> original::Outcome) -> Vec<Needs> {
+    inputs.iter().map(|text| [of(text).words.len(), 0, 0]).collect()
+}
+
+fn needed(package: &str) -> Needs {
+    let read = directives::read(package);
+    assert_eq!(read.number, 0, "a package that is refused");
+    [read.directives.len(), read.variables.len(), read.actions.len()]
 }
 
 fn look<T>(found: Option<T>) {
     black_box(found);
 }
 
-fn fills(call: ours::Filler, input: &[u8], words: usize, room: &mut Room) -> u64 {
+fn fills(call: ours::Filler, input: &[u8], [words, ..]: Needs, room: &mut Room) -> u64 {
     call(input, &mut room.text[..input.len()], &mut room.records[..words], &mut room.values)
+}
+
+fn listed(input: &[u8], [words, ..]: Needs, room: &mut Room) -> u64 {
+    let (text, scratch) = (&mut room.text[..input.len()], &mut room.scratch[..input.len()]);
+    ours::parse_actions(input, text, scratch, &mut room.records[..words], &mut room.values)
+}
+
+fn whole(input: &[u8], [d, v, a]: Needs, room: &mut Room) -> u64 {
+    let (text, scratch) = (&mut room.text[..input.len()], &mut room.scratch[..input.len()]);
+    let (variables, actions) = (&mut room.variables[..v], &mut room.actions[..a]);
+    ours::directives(input, text, scratch, &mut room.records[..d], variables, actions, &mut room.values)
 }
 
 fn all_tokens(text: &str) {
@@ -137,71 +167,71 @@ fn all_tokens(text: &str) {
     black_box(list);
 }
 
-fn rows<'a>(inputs: &'a Inputs, names: &'a [Vec<String>; 2]) -> Vec<Row<'a>> {
-    let none = |list: &[String]| vec![0; list.len()];
-    let roomy = |list: &[String]| vec![20_480; list.len()];
+/// Whole texts: tokens, and whole directives.
+fn text_rows(inputs: &Inputs) -> Vec<Row<'_>> {
+    let roomy = |list: &[String]| vec![[20_480, 0, 0]; list.len()];
     let tokens = |input: &[u8], words, room: &mut Room| fills(ours::tokens, input, words, room);
-    let variables = |input: &[u8], words, room: &mut Room| fills(ours::parse_variables, input, words, room);
-    let updates = |input: &[u8], words, room: &mut Room| fills(ours::parse_update_targets, input, words, room);
-    let actions = |input: &[u8], words, room: &mut Room| {
-        let n = input.len();
-        ours::parse_actions(input, &mut room.text[..n], &mut room.scratch[..n], &mut room.records[..words], &mut room.values)
-    };
-    let by_variables = |text: &str| drop(black_box(parse_variables(text)));
-    let by_updates = |text: &str| drop(black_box(parse_update_targets(text)));
     vec![
         Row { name: "tokens", inputs: &inputs.texts, words: needs(&inputs.texts, original::tokens), ours: tokens, original: all_tokens },
         Row { name: "tokens-roomy", inputs: &inputs.texts, words: roomy(&inputs.texts), ours: tokens, original: all_tokens },
         Row {
-            name: "parse_actions",
-            inputs: &inputs.actions,
-            words: needs(&inputs.actions, original::actions),
-            ours: actions,
-            original: |text| drop(black_box(parse_actions(text))),
-        },
-        Row {
-            name: "parse_variables",
-            inputs: &inputs.plain,
-            words: needs(&inputs.plain, original::parsed_variables),
-            ours: variables,
-            original: by_variables,
-        },
-        Row {
-            name: "parse_variables-excluding",
-            inputs: &inputs.excluding,
-            words: needs(&inputs.excluding, original::parsed_variables),
-            ours: variables,
-            original: by_variables,
-        },
-        Row {
-            name: "parse_update_targets",
-            inputs: &inputs.excluding,
-            words: needs(&inputs.excluding, original::parsed_updates),
-            ours: updates,
-            original: by_updates,
-        },
-        Row {
-            name: "parse_operator",
-            inputs: &inputs.operators,
-            words: none(&inputs.operators),
-            ours: |input, _, room| ours::parse_operator(input, &mut room.values),
-            original: |text| drop(black_box(parse_operator(text))),
-        },
-        Row {
-            name: "lookup-variables",
-            inputs: &names[0],
-            words: none(&names[0]),
-            ours: |name, _, _| ours::lookup(0, name),
-            original: |name| look(VariableName::from_str(name)),
-        },
-        Row {
-            name: "lookup-operators",
-            inputs: &names[1],
-            words: none(&names[1]),
-            ours: |name, _, _| ours::lookup(1, name),
-            original: |name| look(OperatorName::from_str(name)),
+            name: "directives",
+            inputs: &inputs.packages,
+            words: inputs.packages.iter().map(|text| needed(text)).collect(),
+            ours: whole,
+            original: |text| drop(black_box(directives::owned(text))),
         },
     ]
+}
+
+fn target_rows(inputs: &Inputs) -> Vec<Row<'_>> {
+    let variables = |input: &[u8], words, room: &mut Room| fills(ours::parse_variables, input, words, room);
+    let updates = |input: &[u8], words, room: &mut Room| fills(ours::parse_update_targets, input, words, room);
+    let by_variables = |text: &str| drop(black_box(parse_variables(text)));
+    let by_updates = |text: &str| drop(black_box(parse_update_targets(text)));
+    let (plain, excluding) = (&inputs.plain, &inputs.excluding);
+    let (of_plain, of_excluding) = (needs(plain, original::parsed_variables), needs(excluding, original::parsed_variables));
+    let of_updates = needs(excluding, original::parsed_updates);
+    vec![
+        Row { name: "parse_variables", inputs: plain, words: of_plain, ours: variables, original: by_variables },
+        Row { name: "parse_variables-excluding", inputs: excluding, words: of_excluding, ours: variables, original: by_variables },
+        Row { name: "parse_update_targets", inputs: excluding, words: of_updates, ours: updates, original: by_updates },
+    ]
+}
+
+fn rows<'a>(inputs: &'a Inputs, names: &'a [Vec<String>; 2]) -> Vec<Row<'a>> {
+    let none = |list: &[String]| vec![[0; 3]; list.len()];
+    let mut all = text_rows(inputs);
+    all.push(Row {
+        name: "parse_actions",
+        inputs: &inputs.actions,
+        words: needs(&inputs.actions, original::actions),
+        ours: listed,
+        original: |text| drop(black_box(parse_actions(text))),
+    });
+    all.extend(target_rows(inputs));
+    all.push(Row {
+        name: "parse_operator",
+        inputs: &inputs.operators,
+        words: none(&inputs.operators),
+        ours: |input, _, room| ours::parse_operator(input, &mut room.values),
+        original: |text| drop(black_box(parse_operator(text))),
+    });
+    all.push(Row {
+        name: "lookup-variables",
+        inputs: &names[0],
+        words: none(&names[0]),
+        ours: |name, _, _| ours::lookup(0, name),
+        original: |name| look(VariableName::from_str(name)),
+    });
+    all.push(Row {
+        name: "lookup-operators",
+        inputs: &names[1],
+        words: none(&names[1]),
+        ours: |name, _, _| ours::lookup(1, name),
+        original: |name| look(OperatorName::from_str(name)),
+    });
+    all
 }
 
 impl Row<'_> {

@@ -1,5 +1,6 @@
 //! The inputs: every text over an alphabet of awkward pieces, random texts around each boundary, damaged and real rules.
 
+use crate::packages::{ARGUMENTS, JOINTS, LINES};
 use crate::readers::Reader;
 
 /// Every text of up to `longest` pieces over an alphabet, for some readers.
@@ -109,10 +110,13 @@ pub const SETS: &[Set] = &[
     Set { readers: &[Reader::Operator], alphabet: OPERATORS, quick: 5, full: 7 },
     Set { readers: &[Reader::Lookup], alphabet: NAMES, quick: 3, full: 5 },
     Set { readers: &[Reader::XmlTarget], alphabet: SELECTIONS, quick: 4, full: 6 },
+    Set { readers: &[Reader::Directives], alphabet: JOINTS, quick: 3, full: 4 },
+    Set { readers: &[Reader::Directives], alphabet: LINES, quick: 3, full: 5 },
+    Set { readers: &[Reader::Directives], alphabet: ARGUMENTS, quick: 4, full: 5 },
 ];
 
 /// Readers that take a text.
-pub const TEXT_READERS: [Reader; 10] = [
+pub const TEXT_READERS: [Reader; 11] = [
     Reader::Tokens,
     Reader::NextToken,
     Reader::Actions,
@@ -123,6 +127,7 @@ pub const TEXT_READERS: [Reader; 10] = [
     Reader::ListText,
     Reader::Lookup,
     Reader::XmlTarget,
+    Reader::Directives,
 ];
 
 /// The pieces of a reader's random texts: those of its sets, and every name that it looks up.
@@ -211,6 +216,14 @@ impl Random {
             text[place] = 128 + self.below(128) as u8;
         }
         text
+    }
+
+    /// A bit or two of a text turned over, past ASCII now and then.
+    pub fn flipped(&mut self, text: &mut [u8]) {
+        for _ in 0..(1 + self.below(2)).min(text.len()) {
+            let (place, bit) = (self.below(text.len()), if self.below(9) == 0 { 7 } else { self.below(7) });
+            text[place] ^= 1 << bit;
+        }
     }
 
     /// A copy with a few bytes or parts taken out, put in, changed, doubled or exchanged.

@@ -5,11 +5,15 @@ use crate::original::{self, Cursor, Outcome, LIMIT};
 use crate::ours;
 use crate::readers::{sized, Reader, Shape, READERS, SHAPES};
 
+mod packages;
+
 pub struct Checker {
     text: Lent<u8>,
     scratch: Lent<u8>,
     out: Lent<u8>,
     records: Lent<u64>,
+    variables: Lent<u64>,
+    actions: Lent<u64>,
     values: Lent<u64>,
     alone: bool,
     pub shape: usize,
@@ -60,6 +64,8 @@ impl Checker {
             scratch: bytes(),
             out: bytes(),
             records: words(),
+            variables: words(),
+            actions: words(),
             values: words(),
             alone,
             shape: 0,
@@ -319,6 +325,7 @@ impl Checker {
             Reader::Lookup => self.lookups(input),
             Reader::XmlTarget => self.xml(input),
             Reader::ListText | Reader::WriteListing => self.listing(input),
+            Reader::Directives => self.packages(input),
             Reader::Test | Reader::Matches | Reader::WriteRefusal => unreachable!("these take no text"),
         }
     }

@@ -5,19 +5,33 @@ include!(concat!(env!("OUT_DIR"), "/original.rs"));
 mod bench;
 mod cases;
 mod check;
+mod directives;
+mod edges;
 mod lent;
 mod original;
 mod ours;
+mod packages;
 mod readers;
 mod real;
 mod run;
+mod stored;
 
 use std::path::PathBuf;
 
 const USAGE: &str = "\
 compare [--quick] [--seed N] [--random N] [--real FOLDER].. [--alone]    compare; --quick takes under two minutes
 compare bench [--real FOLDER]..                                          bytes and calls a second, ours and the original's
-compare again CASE TIMES                                                 one case of the benchmark, for callgrind; CASE: ours/tokens ..";
+compare again CASE TIMES                                                 one case of the benchmark, for callgrind; CASE: ours/tokens ..
+compare stored FOLDER                                                    writes the stored questions on whole directives, and the answers";
+
+fn stored(folder: &str) -> bool {
+    let written = stored::write(folder.as_ref());
+    match &written {
+        Ok(count) => println!("{count} cases"),
+        Err(error) => eprintln!("{folder}: {error}"),
+    }
+    written.is_ok()
+}
 
 fn main() {
     let mut wanted = run::Wanted { quick: false, seed: 1, random: None, real: Vec::new(), alone: false };
@@ -38,6 +52,7 @@ fn main() {
     let work = move || match rest.iter().map(String::as_str).collect::<Vec<_>>()[..] {
         [] => run::all(&wanted),
         ["bench"] => bench::table(&wanted.real),
+        ["stored", folder] => stored(folder),
         ["again", case, times] => bench::again(case, times.parse().expect("a number"), &wanted.real),
         _ => {
             eprintln!("{USAGE}");

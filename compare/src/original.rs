@@ -25,7 +25,7 @@ pub struct Outcome {
 
 impl Outcome {
     /// One more text behind the others, as a span word.
-    fn push(&mut self, text: &str) -> u64 {
+    pub fn push(&mut self, text: &str) -> u64 {
         let word = (self.texts.len() * 65_536 + text.len()) as u64;
         self.texts.extend_from_slice(text.as_bytes());
         word
@@ -211,16 +211,15 @@ pub fn normalised(text: &str) -> String {
     acting::normalised(text)
 }
 
-pub fn actions(text: &str) -> Outcome {
-    let mut out = Outcome::default();
+/// The records of an action list behind what `out` has, or its refusal.
+pub fn actions_behind(out: &mut Outcome, text: &str) -> Result<usize, Outcome> {
     match parse_actions(text) {
         Ok(list) => {
             for action in &list {
-                let words = action_words(action, &mut out);
+                let words = action_words(action, out);
                 out.words.extend(words);
             }
-            out.values = vec![list.len() as u64, out.texts.len() as u64];
-            out
+            Ok(list.len())
         }
         Err(error) => {
             let told = action_refusal(error);
@@ -228,9 +227,22 @@ pub fn actions(text: &str) -> Outcome {
             let bad = pieces(&list).enumerate().find_map(|(i, piece)| acting::single(piece).err().map(|e| (i, action_refusal(e))));
             let (piece, again) = bad.expect("a piece is bad");
             assert_eq!(told, again, "the pieces are cut another way than the original's");
-            Outcome::refused(told.0, piece, told.1)
+            Err(Outcome::refused(told.0, piece, told.1))
         }
     }
+}
+
+/// A reader's own outcome, where its records stand first.
+fn alone(behind: impl Fn(&mut Outcome) -> Result<usize, Outcome>) -> Outcome {
+    let mut out = Outcome::default();
+    match behind(&mut out) {
+        Ok(count) => Outcome { values: vec![count as u64, out.texts.len() as u64], ..out },
+        Err(refused) => refused,
+    }
+}
+
+pub fn actions(text: &str) -> Outcome {
+    alone(|out| actions_behind(out, text))
 }
 
 pub fn setvar(text: &str) -> Outcome {
@@ -254,8 +266,7 @@ pub fn matches(ranged: bool, start: u64, end: u64, id: u64) -> bool {
 
 // ---- variables
 
-fn laid_out(list: &[VariableSpec], exclusions: &[String]) -> Outcome {
-    let mut out = Outcome::default();
+fn laid_out(out: &mut Outcome, list: &[VariableSpec], exclusions: &[String]) -> usize {
     for v in list {
         let (kind, word) = match &v.selection {
             None => (0, 0),
@@ -268,8 +279,7 @@ fn laid_out(list: &[VariableSpec], exclusions: &[String]) -> Outcome {
         let word = out.push(text);
         out.words.extend([2, 0, 0, 0, word]);
     }
-    out.values = vec![(list.len() + exclusions.len()) as u64, out.texts.len() as u64];
-    out
+    list.len() + exclusions.len()
 }
 
 /// The first part whose name is unknown; an exclusion's name is looked up in update targets only.
@@ -292,18 +302,23 @@ fn unknown_part(error: Error, text: &str, updates: bool) -> Outcome {
     Outcome::refused(7, piece, name)
 }
 
-pub fn parsed_variables(text: &str) -> Outcome {
+/// The records of a list of variables behind what `out` has, or its refusal.
+pub fn variables_behind(out: &mut Outcome, text: &str) -> Result<usize, Outcome> {
     match parse_variables(text) {
-        Ok(list) => laid_out(&list, list.first().map_or(&[], |v| v.exclusions.as_slice())),
-        Err(error) => unknown_part(error, text, false),
+        Ok(list) => Ok(laid_out(out, &list, list.first().map_or(&[], |v| v.exclusions.as_slice()))),
+        Err(error) => Err(unknown_part(error, text, false)),
     }
 }
 
+pub fn parsed_variables(text: &str) -> Outcome {
+    alone(|out| variables_behind(out, text))
+}
+
 pub fn parsed_updates(text: &str) -> Outcome {
-    match parse_update_targets(text) {
-        Ok((list, exclusions)) => laid_out(&list, &exclusions),
-        Err(error) => unknown_part(error, text, true),
-    }
+    alone(|out| match parse_update_targets(text) {
+        Ok((list, exclusions)) => Ok(laid_out(out, &list, &exclusions)),
+        Err(error) => Err(unknown_part(error, text, true)),
+    })
 }
 
 pub fn xml_target(selection: u64, text: &str) -> u64 {

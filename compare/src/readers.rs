@@ -18,9 +18,10 @@ pub enum Reader {
     ListText,
     WriteListing,
     WriteRefusal,
+    Directives,
 }
 
-pub const READERS: [Reader; 16] = [
+pub const READERS: [Reader; 17] = [
     Reader::NextToken,
     Reader::Tokens,
     Reader::Actions,
@@ -37,6 +38,7 @@ pub const READERS: [Reader; 16] = [
     Reader::ListText,
     Reader::WriteListing,
     Reader::WriteRefusal,
+    Reader::Directives,
 ];
 
 /// How much is lent, beside what is needed: one of `SHAPES` for each call, in turn.
@@ -74,3 +76,42 @@ pub const SHAPES: [Shape; 12] = [
 pub fn sized(needed: usize, more: Option<isize>) -> usize {
     more.map_or(0, |more| needed.saturating_add_signed(more))
 }
+
+/// How much is lent to the reader of whole directives, beside what is needed: every one of `PACKAGE_SHAPES` for each text.
+#[derive(Clone, Copy, Debug)]
+pub struct PackageShape {
+    /// More or fewer bytes of text and of scratch, or none at all.
+    pub bytes: [Option<isize>; 2],
+    /// The same for words of directive, variable and action records.
+    pub words: [Option<isize>; 3],
+    /// More or fewer words for the values.
+    pub values: Option<isize>,
+}
+
+const fn lends(text: isize, scratch: isize, words: [Option<isize>; 3], values: Option<isize>) -> PackageShape {
+    PackageShape { bytes: [Some(text), Some(scratch)], words, values }
+}
+
+const EXACT: [Option<isize>; 3] = [Some(0); 3];
+
+pub const PACKAGE_SHAPES: [PackageShape; 19] = [
+    lends(0, 0, EXACT, Some(0)),
+    lends(9, 7, [Some(13), Some(9), Some(8)], Some(4)),
+    lends(40, 20, [Some(11), Some(5), Some(6)], Some(6)),
+    lends(1, 2, [Some(10), Some(4), Some(5)], Some(1)),
+    lends(-1, 0, EXACT, Some(2)),
+    lends(0, -1, EXACT, Some(3)),
+    lends(-1, -1, [None; 3], Some(-1)),
+    PackageShape { bytes: [None, Some(3)], words: EXACT, values: Some(4) },
+    PackageShape { bytes: [Some(3), None], words: EXACT, values: Some(4) },
+    lends(0, 1, [Some(-1), Some(0), Some(0)], Some(0)),
+    lends(1, 0, [Some(0), Some(-1), Some(0)], Some(2)),
+    lends(2, 2, [Some(0), Some(0), Some(-1)], Some(-1)),
+    lends(0, 0, [Some(-11), Some(30), Some(0)], Some(4)),
+    lends(5, 0, [Some(0), Some(-5), Some(7)], Some(0)),
+    lends(0, 6, [Some(22), Some(0), Some(-6)], Some(1)),
+    lends(3, 3, [None, Some(2), Some(0)], Some(4)),
+    lends(0, 0, [Some(0), None, Some(3)], None),
+    lends(4, 1, [Some(1), Some(1), None], Some(-1)),
+    lends(8, 8, [None; 3], Some(0)),
+];

@@ -1,7 +1,7 @@
 //! Real rule files: cut at line ends into texts within the limit, and the arguments of their directives.
 
 use crate::original::LIMIT;
-use crate::parser::lexer::{Lexer, TokenKind};
+use crate::parser::lexer::{probe as lexing, Lexer, TokenKind};
 use std::path::{Path, PathBuf};
 use std::{fs, io};
 
@@ -32,12 +32,49 @@ fn pieces(bytes: &[u8]) -> Vec<Vec<u8>> {
     texts
 }
 
-/// What is read out of the folders: the texts, and the words and strings in them.
+/// The parts of a file between line feeds that are tokens or end a comment: whatever stands before one is read alone as in the whole.
+pub fn closed(file: &str) -> Vec<&str> {
+    let (mut lexer, mut parts, mut from) = (lexing::at(file, lexing::START), Vec::new(), 0);
+    while let Some(token) = lexer.next_token() {
+        let place = lexing::standing(&lexer, file.len()).place;
+        if matches!(token.kind, TokenKind::Newline | TokenKind::Comment) && file[..place].ends_with('\n') {
+            parts.push(&file[from..place]);
+            from = place;
+        }
+    }
+    parts.push(&file[from..]);
+    parts
+}
+
+/// A file whole within the limit, else as many closed parts as stay within it; and each part with a directive alone.
+fn packages(bytes: &[u8]) -> (Vec<Vec<u8>>, Vec<Vec<u8>>) {
+    let file = plain(bytes);
+    let (mut whole, mut alone) = (vec![String::new()], Vec::new());
+    for part in closed(&file) {
+        if LIMIT < whole.last().map_or(0, String::len) + part.len() {
+            whole.push(String::new());
+        }
+        whole.last_mut().expect("one is there").push_str(part);
+        if !part.trim_start().is_empty() && !part.trim_start().starts_with('#') {
+            alone.push(part.as_bytes().to_vec());
+        }
+    }
+    (whole.into_iter().map(String::into_bytes).collect(), alone)
+}
+
+/// A text with bytes past ASCII is refused whole: its copy without them is read too.
+fn plain(text: &[u8]) -> String {
+    text.iter().map(|b| if b.is_ascii() { char::from(*b) } else { '?' }).collect()
+}
+
+/// What is read out of the folders: the texts, the words and strings in them, and files cut where a package may be.
 #[derive(Default)]
 pub struct Real {
     pub files: usize,
     pub texts: Vec<Vec<u8>>,
     pub arguments: Vec<Vec<u8>>,
+    pub packages: Vec<Vec<u8>>,
+    pub rules: Vec<Vec<u8>>,
 }
 
 pub fn read(folders: &[PathBuf]) -> Real {
@@ -47,12 +84,14 @@ pub fn read(folders: &[PathBuf]) -> Real {
         files(folder, &mut found).unwrap_or_else(|e| panic!("{}: {e}", folder.display()));
         real.files += found.len();
         for path in found {
-            real.texts.extend(pieces(&fs::read(&path).unwrap_or_else(|e| panic!("{}: {e}", path.display()))));
+            let bytes = fs::read(&path).unwrap_or_else(|e| panic!("{}: {e}", path.display()));
+            real.texts.extend(pieces(&bytes));
+            let (whole, alone) = packages(&bytes);
+            real.packages.extend(whole);
+            real.rules.extend(alone);
         }
     }
-    // a text with bytes past ASCII is refused whole: its copy without them is read too
-    let plain = |text: &Vec<u8>| text.iter().map(|b| if b.is_ascii() { *b } else { b'?' }).collect::<Vec<u8>>();
-    let copies: Vec<Vec<u8>> = real.texts.iter().filter(|text| !text.is_ascii()).map(plain).collect();
+    let copies: Vec<Vec<u8>> = real.texts.iter().filter(|text| !text.is_ascii()).map(|text| plain(text).into_bytes()).collect();
     real.texts.extend(copies);
     for text in real.texts.iter().filter_map(|text| std::str::from_utf8(text).ok()).filter(|text| text.is_ascii()) {
         let mut lexer = Lexer::new(text);

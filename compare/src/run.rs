@@ -2,7 +2,9 @@
 
 use crate::cases::{pieces_of, Random, RULES, SETS, TEXT_READERS};
 use crate::check::Checker;
+use crate::edges::EDGES;
 use crate::original::{self, LIMIT};
+use crate::packages::Pools;
 use crate::readers::{Reader, READERS, SHAPES};
 use crate::real::{self, Real};
 use std::path::PathBuf;
@@ -84,9 +86,14 @@ impl Run {
     fn random(&mut self, random: &mut Random, turns: u64, real: &Real) {
         let names = original::names();
         let pieces = TEXT_READERS.map(|reader| pieces_of(reader, &names));
+        let pools = Pools::new();
         for turn in 0..turns {
             let reader = TEXT_READERS[turn as usize % TEXT_READERS.len()];
-            let input = random_input(random, reader, real, &names, &pieces[turn as usize % TEXT_READERS.len()]);
+            let own = &pieces[turn as usize % TEXT_READERS.len()];
+            let input = match reader {
+                Reader::Directives => random_package(random, real, &pools, own),
+                _ => random_input(random, reader, real, &names, own),
+            };
             self.progress("random");
             if !self.case(reader, &input) {
                 return;
@@ -117,9 +124,9 @@ impl Run {
     fn limits(&mut self) {
         for reader in TEXT_READERS {
             for len in LIMIT - 1..=LIMIT + 2 {
-                for piece in ["a", "\\", "\n", "deny,", "TX|", "a'", " ", "#"] {
+                for piece in ["a", "\\", "\n", "deny,", "TX|", "a'", " ", "#", "sec\n", "\nSecAction t:,msg"] {
                     let input: Vec<u8> = piece.bytes().cycle().take(len).collect();
-                    for _ in SHAPES {
+                    for _ in 0..turns(reader, SHAPES.len()) {
                         if !self.case(reader, &input) {
                             return;
                         }
@@ -129,13 +136,24 @@ impl Run {
         }
     }
 
+    /// The edges of whole directives, which tell a difference soonest.
+    fn edges(&mut self) {
+        let all = EDGES.iter().all(|(package, ..)| self.case(Reader::Directives, package.as_bytes()));
+        if all {
+            println!("{} edges of whole directives: {} cases", EDGES.len(), self.checker.counts[Reader::Directives as usize]);
+        }
+    }
+
     fn real(&mut self, real: &Real) {
+        let before = self.done();
+        let lexed = [Reader::Tokens, Reader::ListText, Reader::NextToken, Reader::Directives];
+        let whole = [Reader::Directives];
         for (texts, readers) in
-            [(&real.texts, &[Reader::Tokens, Reader::ListText, Reader::NextToken][..]), (&real.arguments, &TEXT_READERS[..])]
+            [(&real.texts, &lexed[..]), (&real.arguments, &TEXT_READERS[..]), (&real.packages, &whole[..]), (&real.rules, &whole[..])]
         {
             for text in texts {
                 for reader in readers {
-                    for _ in 0..3 {
+                    for _ in 0..turns(*reader, 3) {
                         self.progress("real rules");
                         if !self.case(*reader, text) {
                             return;
@@ -144,6 +162,24 @@ impl Run {
                 }
             }
         }
+        println!(
+            "{} rule files, {} texts, {} arguments, {} packages and {} directives alone: {} cases",
+            real.files,
+            real.texts.len(),
+            real.arguments.len(),
+            real.packages.len(),
+            real.rules.len(),
+            self.done() - before
+        );
+    }
+}
+
+/// How often a text is read, so that what is lent takes turns; whole directives are lent every shape at once.
+fn turns(reader: Reader, shapes: usize) -> usize {
+    if reader == Reader::Directives {
+        1
+    } else {
+        shapes
     }
 }
 
@@ -168,6 +204,28 @@ fn random_input(random: &mut Random, reader: Reader, real: &Real, names: &[&str]
             let longest = if random.below(3000) == 0 { LIMIT } else { 512 };
             random.text(pieces, longest)
         }
+    }
+}
+
+/// A random package or a real one, whole or damaged; one in some thousands is at the limit: those take long.
+fn random_package(random: &mut Random, real: &Real, pools: &Pools, pieces: &[&str]) -> Vec<u8> {
+    let longest = if random.below(3000) == 0 { LIMIT } else { 2000 };
+    match random.below(6) {
+        0 if !real.rules.is_empty() => {
+            let rule = random.one(&real.rules);
+            random.damaged(rule, pieces)
+        }
+        0 | 1 => {
+            let package = pools.package(random, longest);
+            random.damaged(&package, pieces)
+        }
+        2 => random.text(pieces, longest),
+        3 => {
+            let mut package = pools.package(random, longest);
+            random.flipped(&mut package);
+            package
+        }
+        _ => pools.package(random, longest),
     }
 }
 
@@ -209,16 +267,11 @@ pub fn all(wanted: &Wanted) -> bool {
     let mut run = Run { checker: Checker::new(wanted.alone), began: Instant::now(), said: Instant::now(), fine: true };
     let turns = wanted.random.unwrap_or(if wanted.quick { 600_000 } else { 10_000_000 });
     run.numbers(&mut random, turns / 10);
+    if run.fine {
+        run.edges();
+    }
     if run.fine && !wanted.real.is_empty() {
-        let before = run.done();
         run.real(&real);
-        println!(
-            "{} rule files, {} texts and {} arguments: {} cases",
-            real.files,
-            real.texts.len(),
-            real.arguments.len(),
-            run.done() - before
-        );
     }
     if run.fine {
         run.names();

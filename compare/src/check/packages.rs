@@ -1,0 +1,103 @@
+//! Whole directives: each text with every shape of what is lent, beside the model's answer.
+
+use super::{gate, readable, Checked, Checker};
+use crate::directives::{self, Package};
+use crate::lent::After;
+use crate::ours;
+use crate::readers::{sized, PackageShape, Reader, PACKAGE_SHAPES};
+
+/// Lengths of what is lent: text and scratch, three record buffers, values.
+#[derive(Debug)]
+struct Lens {
+    bytes: [usize; 2],
+    words: [usize; 3],
+    values: usize,
+}
+
+impl Lens {
+    fn of(shape: PackageShape, input: &[u8], read: &Package) -> Self {
+        let needed = [read.directives.len(), read.variables.len(), read.actions.len()];
+        let [d, v, a] = shape.words;
+        Lens {
+            bytes: shape.bytes.map(|more| sized(input.len(), more)),
+            words: [sized(needed[0], d), sized(needed[1], v), sized(needed[2], a)],
+            values: sized(read.values.len(), shape.values),
+        }
+    }
+}
+
+impl Checker {
+    /// All lent memory is as it was.
+    fn untouched(&self) -> bool {
+        let bytes = self.text.is(After::Untouched) && self.scratch.is(After::Untouched);
+        bytes && [&self.records, &self.variables, &self.actions].iter().all(|lent| lent.is(After::Untouched))
+    }
+
+    /// Texts or a name, the records, and zeros beyond; scratch all zero.
+    fn as_read(&self, o: &Package) -> Checked {
+        if !self.text.is(After::Padded(&o.texts)) {
+            return Err(format!("text {}, the model's {:?}", self.text.shown(), o.texts.escape_ascii().to_string()));
+        }
+        if !self.scratch.is(After::Padded(&[])) {
+            return Err(format!("scratch {}, which must be zero", self.scratch.shown()));
+        }
+        for (of, lent, words) in [
+            ("directive", &self.records, &o.directives),
+            ("variable", &self.variables, &o.variables),
+            ("action", &self.actions, &o.actions),
+        ] {
+            if !lent.is(After::Padded(words)) {
+                return Err(format!("{of} words {}, the model's {words:?}", lent.shown()));
+            }
+        }
+        Ok(())
+    }
+
+    fn package(&mut self, input: &[u8], read: &Package, shape: PackageShape) -> Checked {
+        self.counts[Reader::Directives as usize] += 1;
+        let lens = Lens::of(shape, input, read);
+        let Lens { bytes: [n, k], words: [d, v, a], values } = lens;
+        let got = ours::directives(
+            input,
+            self.text.lend(n),
+            self.scratch.lend(k),
+            self.records.lend(d),
+            self.variables.lend(v),
+            self.actions.lend(a),
+            self.values.lend(values),
+        );
+        let checked = match gate(input, n.min(k), input.len()) {
+            Some((number, value)) => self.told(got, number, &[value], values).and_then(|()| {
+                let kept = self.untouched();
+                kept.then_some(()).ok_or_else(|| format!("number {number}, and lent memory is touched"))
+            }),
+            None if read.number == 0 => {
+                let o = read.clone().within(lens.words);
+                self.told(got, o.number, &o.values, values).and_then(|()| self.as_read(&o))
+            }
+            None => self.told(got, read.number, &read.values, values).and_then(|()| self.as_read(read)),
+        };
+        checked.map_err(|e| format!("{e}; {lens:?}"))
+    }
+
+    pub(super) fn packages(&mut self, input: &[u8]) -> Checked {
+        let read = readable(input).map(directives::read).unwrap_or_default();
+        PACKAGE_SHAPES.iter().try_for_each(|shape| self.package(input, &read, *shape))
+    }
+}
+
+#[cfg(test)]
+mod tests {
+    use super::super::gate;
+    use crate::original::LIMIT;
+
+    /// Lent memory is judged behind the text's length and bytes, and before anything in it.
+    #[test]
+    fn short_buffers_come_behind_the_text() {
+        assert_eq!(gate(b"SecMarker ab", 11, 12), Some((3, 0)));
+        assert_eq!(gate(b"SecRule x", 8, 9), Some((3, 0)));
+        assert_eq!(gate(b"SecMarker ab", 12, 12), None);
+        assert_eq!(gate(b"SecMarker \x80", 0, 11), Some((2, 10)));
+        assert_eq!(gate(&[0x80; LIMIT + 1], 0, LIMIT + 1), Some((1, 16_384)));
+    }
+}

@@ -1,0 +1,147 @@
+//! The edges of whole directives, each with what comes out; the model is held to them, and the stored answers begin with them.
+
+/// A package, its number and values, and what stands in text: texts, or the name after 5 to 7.
+pub type Edge = (&'static str, u64, &'static [u64], &'static str);
+
+pub const EDGES: &[Edge] = &[
+    // what a directive takes: a continuation sets the line-start mark, so `second` is a Directive
+    ("SecRule ARGS \\\nsecond", 13, &[1], ""),
+    ("SecAction deny SecAction log", 13, &[1], ""),
+    ("SecRule ARGS\"@rx a\"\"deny\"", 0, &[1, 1, 1, 1], "a"),
+    ("SecRule ARGS \"@rx a\" \\\n# why\n\"deny\"", 14, &[3], ""),
+    ("SecAction \"id:1\nSecAction log", 6, &[1, 0, 2], "id"),
+    ("\\SecMarker x", 14, &[1], ""),
+    ("sec", 0, &[1, 0, 0, 3], "sec"),
+    ("IncludeOptional x", 14, &[1], ""),
+    ("SecMarker \" a \"", 0, &[1, 0, 0, 3], " a "),
+    // the order of faults
+    ("SecRule ARGS\x0c", 13, &[1], ""),
+    ("SecAction deny\x0c", 15, &[1], ""),
+    ("SecRule x\nSecAction bogus", 13, &[1], ""),
+    ("SecAction bogus\nSecRule x", 5, &[1, 0, 5], "bogus"),
+    ("SecRule ARGS \"@x\" x", 8, &[1, 1, 1], ""),
+    ("SecRule ARGS \"\\t!@x\"", 8, &[1, 3, 1], ""),
+    ("\n\nSecAction \\\n\"deny,\\\n bogus\"", 5, &[3, 1, 5], "bogus"),
+    // records and texts
+    ("SecRule ARGS a\nSecMarker m\nSecAction deny", 0, &[3, 1, 1, 2], "am"),
+    ("SecRule \"\" \"\"", 0, &[1, 0, 0, 0], ""),
+    ("SecRule !a|TX:k|ARGS \"!@pm x \" setvar:y", 0, &[1, 3, 1, 7], "kaxtxy1"),
+    ("SecAction phase:5", 0, &[1, 0, 1, 0], ""),
+    // real rules: a quotation mark outside of a string ends a word, and an id in marks is no number
+    ("SecRule &TX:'/a/' \"@gt 0\" deny", 13, &[1], ""),
+    ("SecAction \"phase:1,id:'1'\"", 6, &[1, 1, 2], "id"),
+    // our own: nothing, letter cases, other names, both ends of a line, what a stop and a comment end
+    ("", 0, &[0, 0, 0, 0], ""),
+    (" \t\r\n# x\n", 0, &[0, 0, 0, 0], ""),
+    ("sEcRuLe args 1\nSECMARKER M\nsecdefaultaction LOG\nSecAction T", 5, &[4, 0, 1], "t"),
+    ("SecRuleEngine On\nInclude \"a b\" c", 0, &[2, 0, 0, 20], "SecRuleEngineInclude"),
+    ("SecRules a b c d", 0, &[1, 0, 0, 8], "SecRules"),
+    ("SecMarker", 13, &[1], ""),
+    ("SecMarker a b", 13, &[1], ""),
+    ("SecMarker ''", 0, &[1, 0, 0, 0], ""),
+    ("SecDefaultAction", 13, &[1], ""),
+    ("SecDefaultAction \"phase:1,log\"", 0, &[1, 0, 2, 0], ""),
+    ("SecAction ''", 0, &[1, 0, 0, 0], ""),
+    ("SecRule ARGS a ''", 0, &[1, 1, 0, 1], "a"),
+    ("SecRule ARGS a b c", 13, &[1], ""),
+    ("SecRule", 13, &[1], ""),
+    ("x", 14, &[1], ""),
+    ("\n'x'\nSecRule", 14, &[2], ""),
+    ("Include\n\"x\"", 14, &[2], ""),
+    ("SecMarker a # b\nc", 14, &[2], ""),
+    ("\x0c", 15, &[1], ""),
+    ("SecMarker a\n\n \x0bx", 15, &[3], ""),
+    ("SecMarker a\nx\x0c", 14, &[2], ""),
+    ("SecAction bogus\x0c", 5, &[1, 0, 5], "bogus"),
+    ("SecRule nope @x bogus", 7, &[1, 0, 4], "nope"),
+    ("SecRule TX|!z|TX:|Nope:q a", 7, &[1, 3, 4], "Nope"),
+    ("SecRule !x a", 0, &[1, 0, 0, 1], "a"),
+    ("SecRule TX a SkipAfter", 6, &[1, 0, 9], "skipAfter"),
+    ("SecRule ARGS @", 8, &[1, 1, 0], ""),
+    ("SecRule ARGS \" ! @rx\x0ba\"", 8, &[1, 4, 4], ""),
+    ("Sec\\\nRule ARGS a", 0, &[1, 1, 0, 1], "a"),
+    ("Sec\\\n Action log", 0, &[1, 0, 0, 3], "Sec"),
+    ("Sec\\\n SecAction log", 0, &[2, 0, 1, 3], "Sec"),
+    ("SecMarker \"a\nSecMarker b\"", 0, &[1, 0, 0, 13], "a\nSecMarker b"),
+    ("SecMarker a\\\nSecMarker b", 13, &[1], ""),
+    ("SecAction \"msg:a\\,deny\"", 0, &[1, 0, 2, 2], "a\\"),
+    ("SecAction 'msg,tag:,t:'\nSecMarker x", 0, &[2, 0, 3, 1], "x"),
+    ("SecAction \"de\\\\\n  ny\"", 0, &[1, 0, 1, 0], ""),
+    ("SecAction \"deny\\\\\\n,log\"", 0, &[1, 0, 2, 0], ""),
+    ("SecRule TX:a|TX:b|!c '@pm d' \"msg:e,setvar:f=g\"\nsecx\nSecMarker h", 0, &[3, 3, 2, 14], "abcdetxfgsecxh"),
+];
+
+#[cfg(test)]
+mod tests {
+    use super::EDGES;
+    use crate::directives::{self, Package};
+
+    fn words(list: &[u64], record: usize, width: usize) -> &[u64] {
+        &list[record * width..(record + 1) * width]
+    }
+
+    fn span(offset: u64, len: u64) -> u64 {
+        offset * 65_536 + len
+    }
+
+    #[test]
+    fn each_edge_comes_out() {
+        for (input, number, values, text) in EDGES {
+            let read = directives::read(input);
+            assert_eq!((read.number, &read.values[..]), (*number, *values), "{input:?}");
+            assert_eq!(read.texts, text.as_bytes(), "{input:?}");
+            let empty = read.directives.is_empty() && read.variables.is_empty() && read.actions.is_empty();
+            assert!(read.number == 0 || empty, "{input:?}");
+        }
+    }
+
+    #[test]
+    fn an_unknown_ends_with_its_token() {
+        assert_eq!(directives::read("sec").directives, [5, 1, span(0, 3), span(0, 3), 0, 0, 0, 0, 0, 0, 0]);
+        let read = directives::read("#\n Include \"a\" b # c");
+        assert_eq!(read.directives, [5, 2, span(3, 13), span(0, 7), 0, 0, 0, 0, 0, 0, 0]);
+    }
+
+    #[test]
+    fn every_kind_has_the_numbers_reached() {
+        let read = directives::read("SecRule ARGS a\nSecMarker m\nSecAction deny");
+        assert_eq!(words(&read.directives, 0, 11), [1, 1, span(0, 14), 0, 0, 0, span(0, 1), 0, 1, 0, 0]);
+        assert_eq!(words(&read.directives, 1, 11), [3, 2, span(15, 11), span(1, 1), 0, 0, 0, 1, 0, 0, 0]);
+        assert_eq!(words(&read.directives, 2, 11), [2, 3, span(27, 14), 0, 0, 0, 0, 1, 0, 0, 1]);
+    }
+
+    #[test]
+    fn texts_stand_in_order() {
+        let read = directives::read("SecRule !a|TX:k|ARGS \"!@pm x \" setvar:y");
+        assert_eq!(read.directives, [1, 1, span(0, 39), 0, 1, 1, span(2, 1), 0, 3, 0, 1]);
+        assert_eq!(words(&read.variables, 0, 5)[4], span(0, 1));
+        assert_eq!(words(&read.variables, 2, 5), [2, 0, 0, 0, span(1, 1)]);
+        assert_eq!(read.actions, [22, 0, span(3, 2), span(5, 1), 1, span(6, 1)]);
+        let empty = directives::read("SecRule \"\" \"\"");
+        assert_eq!(empty.directives, [1, 1, span(0, 13), 0, 0, 0, 0, 0, 0, 0, 0]);
+        // an empty text that is there has the offset reached, one that is not is 0
+        let behind = directives::read("SecMarker ab\nSecAction msg,deny\nSecMarker ''");
+        assert_eq!((behind.actions[2], behind.actions[8], behind.directives[25]), (span(2, 0), 0, span(2, 0)));
+    }
+
+    #[test]
+    fn room_is_judged_last_with_all_counts() {
+        let read = || directives::read("SecRule ARGS a deny");
+        let none = Package { number: 4, values: vec![1, 1, 1], ..Package::default() };
+        assert_eq!(read().within([11, 4, 6]), none);
+        assert_eq!(read().within([10, 5, 6]), none);
+        assert_eq!(read().within([11, 5, 5]), none);
+        assert_eq!(read().within([0, 0, 0]), none);
+        assert_eq!(read().within([11, 5, 6]), read());
+        assert_eq!(directives::read("SecRule x").within([0, 0, 0]).number, 13);
+        assert_eq!(directives::read("").within([0, 0, 0]).number, 0);
+    }
+
+    /// The join in the original's own types agrees on which packages are read, and on how many directives they have.
+    #[test]
+    fn both_joins_agree() {
+        for (input, number, values, _) in EDGES.iter().filter(|edge| edge.1 != 15) {
+            assert_eq!(directives::owned(input).map(|list| list.len() as u64).ok(), (*number == 0).then(|| values[0]), "{input:?}");
+        }
+    }
+}

@@ -1,0 +1,328 @@
+//! Packages to compare on: pieces that make awkward ones, and random ones out of directives with good and bad arguments.
+
+use crate::cases::Random;
+use crate::original::{self, LIMIT};
+
+/// Pieces with no blank of their own: what the lexer makes of them is a matter of what stands beside.
+pub const JOINTS: &[&str] = &[
+    "SecRule",
+    "secaction",
+    "SecMarker",
+    "SecDefaultAction",
+    "Include",
+    "sec",
+    " ",
+    "\n",
+    "\r\n",
+    "\\\n",
+    "\\",
+    "\\\r\n",
+    "\x0c",
+    "\x0b",
+    "#c\n",
+    "#",
+    "\"",
+    "'",
+    "\t",
+    "\r",
+    "ARGS",
+    "x",
+    "@x",
+    "deny",
+    "id:",
+    "\"@rx a\"",
+    "'TX:k'",
+    "\"\\\"\\t\"",
+    "!",
+    "\0",
+];
+
+/// Whole arguments and line ends, each with its blank.
+pub const LINES: &[&str] = &[
+    "SecRule",
+    "\nsecrule",
+    "SECACTION",
+    "\nSecMarker",
+    "SecDefaultAction",
+    "\nSecRuleEngine",
+    " ARGS",
+    " !a|TX:k|ARGS",
+    " nope",
+    " \"\"",
+    " '!@pm x '",
+    " \"\\t!@y\"",
+    " deny",
+    " id:x",
+    " \"msg:'a\\\n  b',setvar:y\"",
+    " \\\n",
+    "#c\n",
+    "\x0c",
+];
+
+/// Lists in full: every combination is a rule with its three arguments, or nearly one.
+pub const ARGUMENTS: &[&str] = &[
+    "SecRule ",
+    "\nSecAction ",
+    "ARGS ",
+    "\"TX:/a/|!b|&ip:c\" ",
+    "bogus ",
+    "\"!@within a\\\"b\" ",
+    "@bad ",
+    "\"id:1,t:none\" ",
+    "setvar:!x.y ",
+    "'id:1,bogus' ",
+    "\\\n",
+    "\n",
+    "Include ",
+];
+
+const NAMES: &[&str] = &["SecRule", "SecAction", "SecMarker", "SecDefaultAction"];
+const OTHERS: &[&str] = &["Include", "sec", "SecRuleEngine", "SecRules", "SecRul", "SecRuleRemoveById", "INCLUDE", "secmarkerx", "sec-"];
+const BETWEEN: &[&str] = &[" ", " ", " ", " ", "  ", "\t", " \\\n    ", "\\\n", " \\\r\n\t", "", "\r", " \\ "];
+const ENDS: &[&str] = &["\n", "\n", "\n", "\n", "\n", "\r\n", "\n\n", " # why\n", "#\"\n", "", " \n \n", "\\\n", "\n# it's\n"];
+const FLAGS: &[&str] = &["deny", "BLOCK", "pass", "log", "nolog", "auditlog", "capture", "chain", "multiMatch", "exec", "sanitiseMatched"];
+const ARGUED: &[&str] = &[
+    "id:7",
+    "phase:2",
+    "severity:critical",
+    "severity:'9'",
+    "msg:'a, b'",
+    "tag:x",
+    "rev:\"1\"",
+    "ver:",
+    "msg",
+    "maturity:9",
+    "accuracy:255",
+    "logdata:%{TX.0}",
+    "status:403",
+    "skip:2",
+    "skipAfter:END",
+    "redirect:'/x'",
+    "t:none",
+    "t:",
+    "ctl:ruleRemoveById=1",
+    "ctl:a",
+    "initcol:ip=%{REMOTE_ADDR}",
+    "expirevar:ip.a=60",
+    "setvar:y",
+    "setvar:'tx.a=+5'",
+    "setvar:!IP.b",
+    "setvar:a=%{b}",
+    "setvar:a=-9",
+    "setvar:a='b c'",
+];
+const BAD: &[&str] = &["bogus", "id", "id:x", "id:'1'", "phase:256", "skipAfter", "setvar", "T:none", "status:65536", "ctl", "deny x"];
+const SELECTED: &[&str] = &["", "", "", ":k", ":/^a/", ":", "://", ":a b", ":'x'"];
+const SAID: &[&str] = &["", "a", "(?i)union\\s+select", "a b ", "%{TX.0}", "\"q\"", "it's", "^[^\\\\]$", "1"];
+
+/// The names that lists and operators may have.
+pub struct Pools {
+    variables: Vec<&'static str>,
+    operators: Vec<&'static str>,
+}
+
+impl Pools {
+    pub fn new() -> Self {
+        // in an order of their own, since that of a map is another with each make of it
+        let mut names = original::names();
+        names.sort_unstable();
+        let known = |table| names.iter().copied().filter(|name| original::lookup(table, name).is_some()).collect();
+        Pools { variables: known(0), operators: known(1) }
+    }
+
+    fn list(&self, random: &mut Random) -> String {
+        let parts = (0..random.below(4) + usize::from(random.below(9) != 0)).map(|_| {
+            let mark = *random.one(&["", "", "", "", "&", "!", " "]);
+            let name = if random.below(40) == 0 { *random.one(&["nope", "&ARGS", "ARGS!", ""]) } else { *random.one(&self.variables) };
+            format!("{mark}{}{}", in_some_case(random, name), random.one(SELECTED))
+        });
+        parts.collect::<Vec<_>>().join("|")
+    }
+
+    fn operator(&self, random: &mut Random) -> String {
+        let mark = *random.one(&["", "", "", "!", " ", "! "]);
+        let said = *random.one(SAID);
+        match random.below(24) {
+            0 => format!("{mark}@bad {said}"),
+            1 => format!("{mark}@{said}"),
+            2..=8 => format!("{mark}{said}"),
+            _ => format!("{mark}@{} {said}", in_some_case_of(random, &self.operators)),
+        }
+    }
+
+    fn actions(random: &mut Random) -> String {
+        let parts = (0..random.below(6)).map(|_| match random.below(40) {
+            0 => random.one(BAD).to_string(),
+            1 => String::new(),
+            2..=12 => in_some_case_of(random, FLAGS),
+            _ => random.one(ARGUED).to_string(),
+        });
+        parts.collect::<Vec<_>>().join(*random.one(&[",", ",", ",", ", ", ",\\\n    ", " , "]))
+    }
+
+    /// A directive by name, with as many arguments as it takes, or now and then another count.
+    fn directive(&self, random: &mut Random, name: &str, out: &mut String) {
+        let mut arguments = match name {
+            "SecRule" if random.below(4) == 0 => vec![self.list(random), self.operator(random)],
+            "SecRule" => vec![self.list(random), self.operator(random), Pools::actions(random)],
+            "SecMarker" => vec![random.one(SAID).to_string()],
+            "SecAction" | "SecDefaultAction" => vec![Pools::actions(random)],
+            _ => (0..random.below(4)).map(|_| random.one(SAID).to_string()).collect(),
+        };
+        match random.below(40) {
+            0 => drop(arguments.pop()),
+            1 => arguments.push(random.one(SAID).to_string()),
+            _ => {}
+        }
+        out.push_str(&in_some_case(random, name));
+        for argument in arguments {
+            out.push_str(*random.one(BETWEEN));
+            out.push_str(&quoted(random, &argument));
+        }
+    }
+
+    fn one_of(&self, random: &mut Random, names: &[&str], out: &mut String) {
+        let name = *random.one(names);
+        self.directive(random, name, out)
+    }
+
+    /// Some lines of a package: rules most of all, and a text that no directive takes or a stop only seldom.
+    pub fn package(&self, random: &mut Random, longest: usize) -> Vec<u8> {
+        let (mut out, lines) = (String::new(), random.below(7));
+        for _ in 0..if longest == LIMIT { LIMIT } else { lines } {
+            match random.below(60) {
+                0 => out.push_str("stray"),
+                1 => out.push_str(*random.one(&["\x0c", "\x0b", "\\\x0c"])),
+                2..=5 => out.push_str(*random.one(&["# it's", "#", "  ", "\t# \"x"])),
+                6..=13 => self.one_of(random, OTHERS, &mut out),
+                14..=35 => self.directive(random, "SecRule", &mut out),
+                _ => self.one_of(random, NAMES, &mut out),
+            }
+            out.push_str(*random.one(ENDS));
+            if longest <= out.len() {
+                break;
+            }
+        }
+        // at the limit a text ends where it ends: beside it by one
+        let len = if longest == LIMIT { LIMIT - 1 + random.below(3) } else { out.len() };
+        out.truncate(len);
+        out.into_bytes()
+    }
+}
+
+fn in_some_case(random: &mut Random, name: &str) -> String {
+    match random.below(6) {
+        0 => name.to_ascii_lowercase(),
+        1 => name.to_ascii_uppercase(),
+        _ => name.to_string(),
+    }
+}
+
+fn in_some_case_of(random: &mut Random, names: &[&str]) -> String {
+    let name = *random.one(names);
+    in_some_case(random, name)
+}
+
+/// In either mark with its escapes, or bare; seldom left open.
+fn quoted(random: &mut Random, text: &str) -> String {
+    let mark = *random.one(&['"', '"', '"', '\'']);
+    let plain = !text.is_empty() && !text.contains([' ', '"', '\'', '#', '\n', '\\']);
+    match random.below(60) {
+        0 => return format!("{mark}{text}"),
+        1 => return text.to_string(),
+        2..=30 if plain => return text.to_string(),
+        _ => {}
+    }
+    let inside = if random.below(4) == 0 { text.to_string() } else { text.replace(mark, &format!("\\{mark}")) };
+    format!("{mark}{inside}{mark}")
+}
+
+#[cfg(test)]
+mod tests {
+    use super::{Pools, ARGUMENTS, JOINTS, LINES};
+    use crate::cases::{Random, Set};
+    use crate::{directives, real};
+
+    /// The most records that so many bytes can need, as include/seclang.h has it.
+    fn most(n: usize) -> [u64; 3] {
+        [n / 3, n / 2, n / 3].map(|count| count as u64)
+    }
+
+    /// How often each number comes, of the numbers that the model gives with room for all; no package passes the bounds.
+    fn told(packages: impl Iterator<Item = Vec<u8>>) -> Vec<(u64, usize)> {
+        let mut numbers = [0; 16];
+        for package in packages {
+            let text = String::from_utf8(package).expect("ASCII");
+            let read = directives::read(&text);
+            assert!(read.counts().iter().zip(most(text.len())).all(|(count, most)| *count <= most), "{text:?}");
+            assert!(read.number != 0 || read.texts.len() <= text.len(), "{text:?}");
+            // the join that is timed knows no early stop
+            assert!(read.number == 15 || directives::owned(&text).is_ok() == (read.number == 0), "{text:?}");
+            numbers[read.number as usize] += 1;
+        }
+        [0, 5, 6, 7, 8, 13, 14, 15].map(|number| (number as u64, numbers[number])).to_vec()
+    }
+
+    /// Pieces that make many records in few bytes.
+    #[test]
+    fn no_package_passes_the_bounds() {
+        let dense = &["SecRule ", "SecAction ", "\nsec", "\"", "'", "TX", "|TX", "|!", "t:", ",t:", "\n", "\\\n"];
+        let mut texts = Vec::new();
+        let set = Set { readers: &[], alphabet: dense, quick: 0, full: 0 };
+        set.each(5, &mut |text| {
+            texts.push(text.to_vec());
+            true
+        });
+        let counts = |text: &str| directives::read(text).counts();
+        assert_eq!((counts("sec\nsec")[0], counts("SecRule TX\"")[1], counts("SecRule TX|!\"")[1]), (2, 1, 2));
+        assert_eq!((counts("SecAction t:")[2], counts("SecAction t:,t:")[2]), (1, 2));
+        told(texts.into_iter());
+    }
+
+    #[test]
+    fn random_packages_come_to_every_number() {
+        let (pools, mut random) = (Pools::new(), Random(1));
+        let numbers = told((0..20_000).map(|_| pools.package(&mut random, 2000)));
+        println!("{numbers:?}");
+        assert!(5_000 < numbers[0].1 && numbers.iter().all(|(_, count)| 150 < *count), "{numbers:?}");
+    }
+
+    #[test]
+    fn pieces_come_to_every_number() {
+        for alphabet in [JOINTS, LINES, ARGUMENTS] {
+            let mut texts = Vec::new();
+            let set = Set { readers: &[], alphabet, quick: 0, full: 0 };
+            set.each(4, &mut |text| {
+                texts.push(text.to_vec());
+                true
+            });
+            let numbers = told(texts.into_iter());
+            assert!([0, 5, 7, 8, 13, 14].iter().all(|number| numbers.iter().any(|(n, count)| n == number && 50 < *count)), "{numbers:?}");
+        }
+    }
+
+    /// A directive record's third word, its span in the input, taken out.
+    fn unspanned(mut read: directives::Package) -> directives::Package {
+        read.directives.chunks_exact_mut(11).for_each(|record| record[2] = 0);
+        read
+    }
+
+    /// Document 02's theorem on the model: another line of blanks or a comment in the place of one changes spans alone.
+    #[test]
+    fn idle_lines_change_spans_alone() {
+        let (pools, mut random) = (Pools::new(), Random(2));
+        let idle = ["\n", " \t\r\n", "# it's \"x\\\n", "\t#\x0c\n", "  \n", "#\n"];
+        let mut tried = 0;
+        for _ in 0..20_000 {
+            let [front, rest] = [0; 2].map(|_| String::from_utf8(pools.package(&mut random, 400)).expect("ASCII"));
+            if !(front.is_empty() || real::closed(&front).last() == Some(&"")) {
+                continue;
+            }
+            let read = |line: &str| unspanned(directives::read(&format!("{front}{line}{rest}")));
+            let (one, other) = (*random.one(&idle), *random.one(&idle));
+            assert_eq!(read(one), read(other), "{front:?}, {one:?} or {other:?}, {rest:?}");
+            tried += 1;
+        }
+        assert!(5_000 < tried, "{tried}");
+    }
+}
