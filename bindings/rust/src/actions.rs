@@ -1,6 +1,6 @@
 //! Action lists, and a setvar alone.
 
-use crate::lent::{another, filled, Filled};
+use crate::lent::{another, filled, Texts};
 use crate::{raw, ActionCode, Refusal, ValueKind};
 
 /// Words of an action record: code, number, a, b, value kind, c.
@@ -112,9 +112,9 @@ impl SetVarValue {
 }
 
 impl Action {
-    fn of(record: &[u64], read: &Filled) -> Self {
+    pub(crate) fn of(record: &[u64], texts: &Texts) -> Self {
         let number = record[1];
-        let (a, b, c) = (|| read.said(record[2]), || read.said(record[3]), || read.said(record[5]));
+        let (a, b, c) = (|| texts.said(record[2]), || texts.said(record[3]), || texts.said(record[5]));
         let Some(code) = ActionCode::from_code(record[0]) else { another("an action of the code", record[0]) };
         match code {
             ActionCode::Deny => Action::Deny,
@@ -219,7 +219,7 @@ pub fn parse_actions(input: &(impl AsRef<[u8]> + ?Sized)) -> Result<Vec<Action>,
     let input = input.as_ref();
     let mut scratch = vec![0; input.len().min(crate::LIMIT)];
     let read = filled(input, 0, WIDTH, |text, records, values| raw::parse_actions(input, text, &mut scratch, records, values))?;
-    Ok(read.records().map(|record| Action::of(record, &read)).collect())
+    Ok(read.records().map(|record| Action::of(record, &read.texts)).collect())
 }
 
 /// What stands behind `setvar:`.
@@ -234,7 +234,7 @@ pub fn parse_actions(input: &(impl AsRef<[u8]> + ?Sized)) -> Result<Vec<Action>,
 pub fn parse_setvar(input: &(impl AsRef<[u8]> + ?Sized)) -> Result<SetVar, Refusal> {
     let input = input.as_ref();
     let read = filled(input, 3, WIDTH, |text, records, values| raw::parse_setvar(input, text, records, values))?;
-    let set = read.records().map(|record| Action::of(record, &read)).next();
+    let set = read.records().map(|record| Action::of(record, &read.texts)).next();
     match set {
         Some(Action::SetVar(set)) => Ok(set),
         _ => another("a setvar with records", read.values[0]),

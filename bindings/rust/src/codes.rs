@@ -32,7 +32,7 @@ macro_rules! coded {
 #[path = "tables.rs"]
 mod tables;
 
-pub use tables::{ActionCode, OperatorName, ValueKind, VariableName};
+pub use tables::{ActionCode, DirectiveCode, OperatorName, ValueKind, VariableName};
 
 fn found(table: u64, name: &(impl AsRef<[u8]> + ?Sized)) -> Option<u64> {
     Some(raw::lookup(table, name.as_ref())).filter(|code| *code != raw::UNKNOWN)

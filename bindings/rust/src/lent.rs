@@ -6,12 +6,22 @@ use crate::{Refusal, LIMIT};
 pub(crate) type Values = [u64; 10];
 
 /// The number for more records than fit, whose value is how many are needed.
-const NO_ROOM: u64 = 4;
+pub(crate) const NO_ROOM: u64 = 4;
+
+/// The texts of records.
+pub(crate) struct Texts(pub Vec<u8>);
+
+impl Texts {
+    /// The text of a span word.
+    pub fn said(&self, word: u64) -> String {
+        said(&self.0[span(word)])
+    }
+}
 
 /// What a reader left that refused nothing.
 pub(crate) struct Filled {
     pub values: Values,
-    text: Vec<u8>,
+    pub texts: Texts,
     records: Vec<u64>,
     width: usize,
 }
@@ -20,11 +30,6 @@ impl Filled {
     /// The records that were read.
     pub fn records(&self) -> impl Iterator<Item = &[u64]> {
         self.records.chunks_exact(self.width).take(size(self.values[0]))
-    }
-
-    /// The text of a span word.
-    pub fn said(&self, word: u64) -> String {
-        said(&self.text[span(word)])
     }
 }
 
@@ -45,7 +50,7 @@ pub(crate) fn filled(
         number = read(&mut text, &mut records, &mut values);
     }
     match number {
-        0 => Ok(Filled { values, text, records, width }),
+        0 => Ok(Filled { values, texts: Texts(text), records, width }),
         _ => Err(Refusal::of(number, &values, &text)),
     }
 }

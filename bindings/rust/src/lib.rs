@@ -1,8 +1,8 @@
 //! Readers of SecRule packages (web application firewall rules) for Rust hosts, over `libseclang`, in which each function is proved
 //! to meet its contract.
 //!
-//! The functions here take any bytes, size what the library is lent, and give Rust types back: [`Token`], [`Action`], [`Variable`],
-//! [`Operator`], or a [`Refusal`]. [`raw`] has the library's own functions over lent buffers.
+//! The functions here take any bytes, size what the library is lent, and give Rust types back: [`Directive`], [`Token`], [`Action`],
+//! [`Variable`], [`Operator`], or a [`Refusal`]. [`raw`] has the library's own functions over lent buffers.
 //!
 //! ```
 //! use seclang::{Action, OperatorName, TokenKind, VariableName};
@@ -36,6 +36,7 @@
 
 mod actions;
 mod codes;
+mod directives;
 mod lent;
 mod operators;
 #[allow(unsafe_code)]
@@ -46,7 +47,8 @@ mod tokens;
 mod variables;
 
 pub use actions::{parse_actions, parse_setvar, Action, SetVar, SetVarValue};
-pub use codes::{severity, ActionCode, OperatorName, ValueKind, VariableName};
+pub use codes::{severity, ActionCode, DirectiveCode, OperatorName, ValueKind, VariableName};
+pub use directives::{directives, Directive, DirectiveKind, RuleOperator};
 pub use operators::{parse_operator, Operator};
 pub use refusals::Refusal;
 pub use rules::{grade, phase, RuleIdSelector};

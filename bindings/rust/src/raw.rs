@@ -40,6 +40,22 @@ mod c {
             values: *mut u64,
             values_len: usize,
         ) -> u64;
+        pub fn seclang_directives(
+            input: *const u8,
+            input_len: usize,
+            text: *mut u8,
+            text_len: usize,
+            scratch: *mut u8,
+            scratch_len: usize,
+            directives: *mut u64,
+            directives_len: usize,
+            variables: *mut u64,
+            variables_len: usize,
+            actions: *mut u64,
+            actions_len: usize,
+            values: *mut u64,
+            values_len: usize,
+        ) -> u64;
         pub fn seclang_parse_setvar(
             input: *const u8,
             input_len: usize,
@@ -183,6 +199,39 @@ pub fn parse_actions(input: &[u8], text: &mut [u8], scratch: &mut [u8], records:
             scratch.len(),
             records.as_mut_ptr(),
             records.len(),
+            values.as_mut_ptr(),
+            values.len(),
+        )
+    }
+}
+
+/// The directives of a package; `scratch` too is asked to be as long as the input. Eleven words to a directive record, five to a
+/// variable's and six to an action's.
+#[inline]
+pub fn directives(
+    input: &[u8],
+    text: &mut [u8],
+    scratch: &mut [u8],
+    directives: &mut [u64],
+    variables: &mut [u64],
+    actions: &mut [u64],
+    values: &mut [u64],
+) -> u64 {
+    // SAFETY: as above.
+    unsafe {
+        c::seclang_directives(
+            input.as_ptr(),
+            input.len(),
+            text.as_mut_ptr(),
+            text.len(),
+            scratch.as_mut_ptr(),
+            scratch.len(),
+            directives.as_mut_ptr(),
+            directives.len(),
+            variables.as_mut_ptr(),
+            variables.len(),
+            actions.as_mut_ptr(),
+            actions.len(),
             values.as_mut_ptr(),
             values.len(),
         )

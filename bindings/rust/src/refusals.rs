@@ -44,6 +44,28 @@ pub enum Refusal {
     },
     /// 9: a cursor past the end, or one whose line or column is 0 or above 16,385.
     BadCursor,
+    /// 13: a directive has another count of arguments than it takes.
+    WrongCount {
+        /// The directive's line, from 1.
+        line: usize,
+    },
+    /// 14: a word or a text in quotation marks that no directive takes.
+    Untaken {
+        /// Its line, from 1.
+        line: usize,
+    },
+    /// 15: a vertical tab or a form feed where a token would start; all before it is good.
+    Stopped {
+        /// Its line, from 1.
+        line: usize,
+    },
+    /// 5 to 8 in a package: what an argument of a directive is refused for.
+    InDirective {
+        /// The directive's line, from 1.
+        line: usize,
+        /// As its own reader refuses the argument; an operator's place is in the argument as it was read.
+        why: Box<Refusal>,
+    },
 }
 
 impl Refusal {
@@ -63,6 +85,35 @@ impl Refusal {
         }
     }
 
+    /// The same for a package: past the gate the line comes first.
+    pub(crate) fn of_package(number: u64, values: &Values, text: &[u8]) -> Self {
+        let (line, mut rest) = (size(values[0]), *values);
+        match number {
+            1 | 2 => Refusal::of(number, values, text),
+            13 => Refusal::WrongCount { line },
+            14 => Refusal::Untaken { line },
+            15 => Refusal::Stopped { line },
+            _ => {
+                rest.rotate_left(1);
+                Refusal::InDirective { line, why: Box::new(Refusal::of(number, &rest, text)) }
+            }
+        }
+    }
+
+    /// The line of a package that it is about.
+    ///
+    /// ```
+    /// assert_eq!(seclang::directives("\nSecAction bogus").unwrap_err().line(), Some(2));
+    /// assert_eq!(seclang::parse_actions("bogus").unwrap_err().line(), None);
+    /// ```
+    pub fn line(&self) -> Option<usize> {
+        match self {
+            Refusal::WrongCount { line } | Refusal::Untaken { line } | Refusal::Stopped { line } => Some(*line),
+            Refusal::InDirective { line, .. } => Some(*line),
+            _ => None,
+        }
+    }
+
     /// The library's number for it.
     ///
     /// ```
@@ -77,6 +128,10 @@ impl Refusal {
             Refusal::UnknownVariable { .. } => 7,
             Refusal::UnknownOperator { .. } => 8,
             Refusal::BadCursor => 9,
+            Refusal::WrongCount { .. } => 13,
+            Refusal::Untaken { .. } => 14,
+            Refusal::Stopped { .. } => 15,
+            Refusal::InDirective { why, .. } => why.number(),
         }
     }
 }
@@ -91,6 +146,10 @@ impl fmt::Display for Refusal {
             Refusal::UnknownVariable { piece, name } => write!(out, "unknown variable '{name}' in piece {piece}"),
             Refusal::UnknownOperator { place, name } => write!(out, "unknown operator '{name}' at place {place}"),
             Refusal::BadCursor => write!(out, "the cursor is no place of the input"),
+            Refusal::WrongCount { line } => write!(out, "line {line}: a directive with another count of arguments than it takes"),
+            Refusal::Untaken { line } => write!(out, "line {line}: a text that no directive takes"),
+            Refusal::Stopped { line } => write!(out, "line {line}: a vertical tab or a form feed where no text is"),
+            Refusal::InDirective { line, why } => write!(out, "line {line}: {why}"),
         }
     }
 }

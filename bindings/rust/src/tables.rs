@@ -1,4 +1,4 @@
-//! The codes and their names. Made by `tools/codes` out of `crates/records/specs` and `crates/names/specs`: not edited by hand.
+//! The codes and their names. Made by `tools/codes` out of `specs` of `records`, `names` and `directives`: not edited by hand.
 
 coded! {
     /// What an action is: the first word of its record.
@@ -84,6 +84,21 @@ coded! {
     Delete,
     /// Code 6.
     Macro,
+}
+
+coded! {
+    /// What a directive is: the first word of its record.
+    DirectiveCode from 1:
+    /// Code 1.
+    Rule,
+    /// Code 2.
+    Action,
+    /// Code 3.
+    Marker,
+    /// Code 4.
+    Defaults,
+    /// Code 5.
+    Unknown,
 }
 
 coded! {

@@ -89,7 +89,7 @@ pub struct Tokens {
 pub fn tokens(input: &(impl AsRef<[u8]> + ?Sized)) -> Result<Tokens, Refusal> {
     let input = input.as_ref();
     let read = filled(input, 0, 5, |text, records, values| raw::tokens(input, text, records, values))?;
-    let list = read.records().map(|word| Token::of(word[0], word[1], word[2], span(word[3]), read.said(word[4]))).collect();
+    let list = read.records().map(|word| Token::of(word[0], word[1], word[2], span(word[3]), read.texts.said(word[4]))).collect();
     let [_, _, place, line, column, ..] = read.values.map(size);
     Ok(Tokens { list, stop: Stop { place, line, column } })
 }

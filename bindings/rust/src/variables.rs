@@ -1,6 +1,6 @@
 //! Lists of variables and of update targets.
 
-use crate::lent::{another, filled};
+use crate::lent::{another, filled, Texts};
 use crate::raw::{self, Filler};
 use crate::{Refusal, VariableName};
 
@@ -33,25 +33,34 @@ pub struct Targets {
     pub exclusions: Vec<String>,
 }
 
-fn read_targets(input: &[u8], reader: Filler) -> Result<Targets, Refusal> {
-    let read = filled(input, 0, 5, |text, records, values| reader(input, text, records, values))?;
-    let mut targets = Targets::default();
-    for record in read.records() {
-        let text = || read.said(record[4]);
-        if record[0] == 2 {
-            targets.exclusions.push(text());
-            continue;
+/// Words of a variable's or an exclusion's record.
+pub(crate) const WIDTH: usize = 5;
+
+impl Targets {
+    pub(crate) fn of<'a>(records: impl Iterator<Item = &'a [u64]>, texts: &Texts) -> Self {
+        let mut targets = Targets::default();
+        for record in records {
+            let text = || texts.said(record[4]);
+            if record[0] == 2 {
+                targets.exclusions.push(text());
+                continue;
+            }
+            let Some(name) = VariableName::from_code(record[1]) else { another("a variable of the code", record[1]) };
+            let selection = match record[3] {
+                0 => None,
+                1 => Some(Selection::Key(text())),
+                2 => Some(Selection::Regex(text())),
+                other => another("a selection of the kind", other),
+            };
+            targets.variables.push(Variable { name, counted: record[2] != 0, selection });
         }
-        let Some(name) = VariableName::from_code(record[1]) else { another("a variable of the code", record[1]) };
-        let selection = match record[3] {
-            0 => None,
-            1 => Some(Selection::Key(text())),
-            2 => Some(Selection::Regex(text())),
-            other => another("a selection of the kind", other),
-        };
-        targets.variables.push(Variable { name, counted: record[2] != 0, selection });
+        targets
     }
-    Ok(targets)
+}
+
+fn read_targets(input: &[u8], reader: Filler) -> Result<Targets, Refusal> {
+    let read = filled(input, 0, WIDTH, |text, records, values| reader(input, text, records, values))?;
+    Ok(Targets::of(read.records(), &read.texts))
 }
 
 /// A rule's list of variables. Exclusions are not looked up, and a list of these alone gives nothing.

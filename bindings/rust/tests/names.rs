@@ -1,7 +1,7 @@
 //! Each name and code of the enums against the library's own tables.
 
 use seclang::raw::{lookup, test, UNKNOWN};
-use seclang::{parse_actions, severity, ActionCode, OperatorName, SetVarValue, ValueKind, VariableName};
+use seclang::{directives, parse_actions, severity, ActionCode, DirectiveCode, OperatorName, SetVarValue, ValueKind, VariableName};
 
 #[test]
 fn each_variable_is_found_by_its_name() {
@@ -71,6 +71,16 @@ fn each_value_has_its_kind() {
         .map(SetVarValue::kind)
         .collect();
     assert_eq!(kinds, ValueKind::ALL);
+}
+
+/// One package with a directive of every kind, in their order.
+#[test]
+fn each_directive_has_its_kind() {
+    let package = "SecRule ARGS a\nSecAction log\nSecMarker m\nSecDefaultAction log\nSecRuleEngine On\n";
+    let codes: Vec<DirectiveCode> = directives(package).expect("a package").iter().map(|directive| directive.code()).collect();
+    assert_eq!(codes, DirectiveCode::ALL);
+    assert_eq!((DirectiveCode::from_code(0), DirectiveCode::from_code(6)), (None, None));
+    assert_eq!(DirectiveCode::Unknown.code(), 5);
 }
 
 /// The crate, the library and the header are of one version.

@@ -149,6 +149,18 @@ fn check_action(part: &str, action: &Action) {
     assert!(argument_of(action).eq_ignore_ascii_case(&argument_in(action.code(), argument)), "{part}: {action:?}");
 }
 
+/// The same rule by the reader of whole directives: its actions are those of its list, and what is refused is known.
+fn check_directive(source: &str, actions: Result<Vec<Action>, Refusal>) {
+    match (seclang::directives(source), actions) {
+        (Ok(read), Ok(actions)) => {
+            assert_eq!((read.len(), read[0].actions(), read[0].line), (1, &actions[..], 1), "{source}");
+            assert_eq!(read[0].bytes, 0..source.len(), "{source}");
+        }
+        (Err(Refusal::InDirective { line, why }), Err(refusal)) => assert_eq!((line, *why), (1, refusal), "{source}"),
+        (read, _) => assert!(known(source) && read == Err(Refusal::WrongCount { line: 1 }), "{source}: {read:?}"),
+    }
+}
+
 #[derive(Default)]
 struct Seen {
     rules: usize,
@@ -171,6 +183,7 @@ impl Seen {
             _ => return,
         };
         self.rules += 1;
+        check_directive(source, seclang::parse_actions(list));
         let Ok(actions) = seclang::parse_actions(list) else { return self.refused.push(source.to_string()) };
         let parts = parts(list);
         assert_eq!(parts.len(), actions.len(), "{list}");

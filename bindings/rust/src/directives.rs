@@ -1,0 +1,188 @@
+//! Whole directives of a package.
+
+use crate::lent::{another, size, span, Texts, Values, NO_ROOM};
+use crate::{actions, raw, tokens, variables, Action, DirectiveCode, OperatorName, Refusal, Targets, TokenKind, LIMIT};
+use std::ops::Range;
+
+/// Words of a directive record: kind, line, span in the input, name, negated, operator, its argument, and first and count of its
+/// variable records and of its action records.
+const WIDTH: usize = 11;
+
+/// The operator of a rule, with its argument.
+#[derive(Clone, Debug, PartialEq, Eq, Hash)]
+pub struct RuleOperator {
+    /// `!@rx`
+    pub negated: bool,
+    /// Which one; `@rx` where none is written.
+    pub name: OperatorName,
+    /// What stands behind its name, without blanks at both ends.
+    pub argument: String,
+}
+
+/// What a directive is, with what its arguments say.
+#[derive(Clone, Debug, PartialEq, Eq, Hash)]
+pub enum DirectiveKind {
+    /// `SecRule`
+    Rule {
+        /// Its variables, and the exclusions that hold for all of them.
+        targets: Targets,
+        /// What they are asked.
+        operator: RuleOperator,
+        /// None where the rule has no third argument.
+        actions: Vec<Action>,
+    },
+    /// `SecAction`
+    Action(Vec<Action>),
+    /// `SecMarker`, with its argument as it stands, blanks too.
+    Marker(String),
+    /// `SecDefaultAction`
+    Defaults(Vec<Action>),
+    /// Any other, by its name as written. Its arguments are not looked at.
+    Unknown(String),
+}
+
+/// A directive and where it stands.
+#[derive(Clone, Debug, PartialEq, Eq, Hash)]
+pub struct Directive {
+    /// What it is, with what its arguments say.
+    pub kind: DirectiveKind,
+    /// The line of its name, from 1.
+    pub line: usize,
+    /// The bytes of the input from its name to the end of its last argument.
+    pub bytes: Range<usize>,
+}
+
+/// What the reader of whole directives is lent, and what it leaves there.
+struct Package {
+    values: Values,
+    texts: Texts,
+    directives: Vec<u64>,
+    variables: Vec<u64>,
+    actions: Vec<u64>,
+}
+
+/// The records that two words tell, the first and how many.
+fn part<'a>(words: &'a [u64], width: usize, told: &[u64]) -> impl Iterator<Item = &'a [u64]> {
+    words.chunks_exact(width).skip(size(told[0])).take(size(told[1]))
+}
+
+impl Package {
+    /// A record in so many bytes, which real packages hardly ever pass.
+    fn new(len: usize) -> Self {
+        let room = |bytes: usize, width: usize| vec![0; (len / bytes + 2) * width];
+        Package {
+            values: Values::default(),
+            texts: Texts(vec![0; len]),
+            directives: room(24, WIDTH),
+            variables: room(16, variables::WIDTH),
+            actions: room(12, actions::WIDTH),
+        }
+    }
+
+    fn read(&mut self, input: &[u8], scratch: &mut [u8]) -> u64 {
+        let Package { values, texts, directives, variables, actions } = self;
+        raw::directives(input, &mut texts.0, scratch, directives, variables, actions, values)
+    }
+
+    fn directive(&self, record: &[u64]) -> Directive {
+        let targets = || Targets::of(part(&self.variables, variables::WIDTH, &record[7..]), &self.texts);
+        let actions = || part(&self.actions, actions::WIDTH, &record[9..]).map(|record| Action::of(record, &self.texts)).collect();
+        let name = || self.texts.said(record[3]);
+        let kind = match DirectiveCode::from_code(record[0]) {
+            Some(DirectiveCode::Rule) => DirectiveKind::Rule { targets: targets(), operator: self.operator(record), actions: actions() },
+            Some(DirectiveCode::Action) => DirectiveKind::Action(actions()),
+            Some(DirectiveCode::Marker) => DirectiveKind::Marker(name()),
+            Some(DirectiveCode::Defaults) => DirectiveKind::Defaults(actions()),
+            Some(DirectiveCode::Unknown) => DirectiveKind::Unknown(name()),
+            None => another("a directive of the kind", record[0]),
+        };
+        Directive { kind, line: size(record[1]), bytes: span(record[2]) }
+    }
+
+    fn operator(&self, record: &[u64]) -> RuleOperator {
+        let Some(name) = OperatorName::from_code(record[5]) else { another("an operator of the code", record[5]) };
+        RuleOperator { negated: record[4] != 0, name, argument: self.texts.said(record[6]) }
+    }
+}
+
+impl Directive {
+    /// The actions that it names: none for a marker and one that is unknown.
+    pub fn actions(&self) -> &[Action] {
+        match &self.kind {
+            DirectiveKind::Rule { actions, .. } | DirectiveKind::Action(actions) | DirectiveKind::Defaults(actions) => actions,
+            DirectiveKind::Marker(_) | DirectiveKind::Unknown(_) => &[],
+        }
+    }
+
+    /// The kind in its record.
+    pub fn code(&self) -> DirectiveCode {
+        match &self.kind {
+            DirectiveKind::Rule { .. } => DirectiveCode::Rule,
+            DirectiveKind::Action(_) => DirectiveCode::Action,
+            DirectiveKind::Marker(_) => DirectiveCode::Marker,
+            DirectiveKind::Defaults(_) => DirectiveCode::Defaults,
+            DirectiveKind::Unknown(_) => DirectiveCode::Unknown,
+        }
+    }
+}
+
+/// The second argument of the rule in a line. With the number 8 all that was lent is zero, so that the operator's name is read here.
+fn operator_in(input: &[u8], line: usize) -> Result<String, Refusal> {
+    let all = tokens::tokens(input)?.list;
+    let rule = all.iter().position(|token| token.line == line && matches!(token.kind, TokenKind::Directive(_)));
+    let said = rule.and_then(|at| all.get(at + 2)).map(|token| token.text().to_string());
+    Ok(said.unwrap_or_default())
+}
+
+fn refused(number: u64, package: &Package, input: &[u8]) -> Refusal {
+    let values = &package.values;
+    if number != 8 {
+        return Refusal::of_package(number, values, &package.texts.0);
+    }
+    match operator_in(input, size(values[0])) {
+        Ok(said) => Refusal::of_package(number, values, said.as_bytes().get(size(values[1])..).unwrap_or_default()),
+        Err(refusal) => refusal,
+    }
+}
+
+/// The directives of a package, each with its arguments read.
+///
+/// A directive takes the words and strings up to the next line feed, comment or directive: `SecRule` two or three, `SecAction`,
+/// `SecMarker` and `SecDefaultAction` one, in any letter case; any other name as many as there are.
+///
+/// ```
+/// use seclang::{directives, Action, DirectiveKind, OperatorName, Refusal, VariableName};
+///
+/// let package = "SecRuleEngine On\nSecRule ARGS \"@contains x\" \\\n    \"id:7,deny\"\n";
+/// let list = directives(package)?;
+/// assert_eq!(list[0].kind, DirectiveKind::Unknown("SecRuleEngine".to_string()));
+/// assert_eq!((list[1].line, list[1].bytes.clone()), (2, 17..61));
+/// let DirectiveKind::Rule { targets, operator, actions } = &list[1].kind else { panic!("a rule") };
+/// assert_eq!(targets.variables[0].name, VariableName::Args);
+/// assert_eq!((operator.name, operator.argument.as_str()), (OperatorName::Contains, "x"));
+/// assert_eq!(actions[..], [Action::Id(7), Action::Deny]);
+///
+/// let why = Box::new(Refusal::UnknownAction { piece: 1, name: "bogus".to_string() });
+/// assert_eq!(directives("SecMarker m\nSecAction deny,bogus"), Err(Refusal::InDirective { line: 2, why }));
+/// assert_eq!(directives("SecMarker a b"), Err(Refusal::WrongCount { line: 1 }));
+/// # Ok::<(), Refusal>(())
+/// ```
+pub fn directives(input: &(impl AsRef<[u8]> + ?Sized)) -> Result<Vec<Directive>, Refusal> {
+    let input = input.as_ref();
+    // an input past the limit is refused before anything lent is looked at
+    let len = input.len().min(LIMIT);
+    let (mut package, mut scratch) = (Package::new(len), vec![0; len]);
+    let mut number = package.read(input, &mut scratch);
+    if number == NO_ROOM {
+        let [needed, of_variables, of_actions, ..] = package.values.map(size);
+        package.directives = vec![0; needed * WIDTH];
+        package.variables = vec![0; of_variables * variables::WIDTH];
+        package.actions = vec![0; of_actions * actions::WIDTH];
+        number = package.read(input, &mut scratch);
+    }
+    if number != 0 {
+        return Err(refused(number, &package, input));
+    }
+    let records = package.directives.chunks_exact(WIDTH).take(size(package.values[0]));
+    Ok(records.map(|record| package.directive(record)).collect())
+}

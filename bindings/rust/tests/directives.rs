@@ -1,0 +1,140 @@
+//! Whole directives as Rust types: what each takes, the order of faults, and what the crate lends at the edges.
+
+use seclang::{
+    directives, Action, Directive, DirectiveKind, OperatorName, Refusal, RuleOperator, Selection, SetVar, SetVarValue, Targets, Variable,
+    VariableName, LIMIT,
+};
+
+fn kinds(package: &str) -> Vec<DirectiveKind> {
+    directives(package).unwrap_or_else(|refusal| panic!("{package:?}: {refusal}")).into_iter().map(|directive| directive.kind).collect()
+}
+
+fn refusal(package: &str) -> Refusal {
+    directives(package).expect_err(package)
+}
+
+fn inside(line: usize, why: Refusal) -> Refusal {
+    Refusal::InDirective { line, why: Box::new(why) }
+}
+
+fn name(text: &str) -> String {
+    text.to_string()
+}
+
+fn variable(name: VariableName, selection: Option<Selection>) -> Variable {
+    Variable { name, counted: false, selection }
+}
+
+#[test]
+fn a_directive_takes_what_stands_behind_it() {
+    let rx = |argument: &str| RuleOperator { negated: false, name: OperatorName::Rx, argument: name(argument) };
+    let args = || Targets { variables: vec![variable(VariableName::Args, None)], exclusions: Vec::new() };
+    let rule = |operator, actions| DirectiveKind::Rule { targets: args(), operator, actions };
+    assert_eq!(kinds("SecRule ARGS\"@rx a\"\"deny\""), [rule(rx("a"), vec![Action::Deny])]);
+    assert_eq!(kinds("sec"), [DirectiveKind::Unknown(name("sec"))]);
+    assert_eq!(kinds("SecMarker \" a \""), [DirectiveKind::Marker(name(" a "))]);
+    assert_eq!(kinds("Include \"a\" b # c\n"), [DirectiveKind::Unknown(name("Include"))]);
+    assert_eq!(
+        kinds("secrule ARGS a\nSECMARKER m\nSecAction deny\nSecDefaultAction 'phase:1,log'"),
+        [
+            rule(rx("a"), Vec::new()),
+            DirectiveKind::Marker(name("m")),
+            DirectiveKind::Action(vec![Action::Deny]),
+            DirectiveKind::Defaults(vec![Action::Phase(1), Action::Log]),
+        ]
+    );
+    let empty = DirectiveKind::Rule { targets: Targets::default(), operator: rx(""), actions: Vec::new() };
+    assert_eq!(kinds("SecRule \"\" \"\""), [empty]);
+    assert_eq!(kinds(" \n# x\n"), []);
+}
+
+#[test]
+fn a_rule_has_all_its_parts() {
+    let set = SetVar { collection: name("tx"), key: name("y"), value: SetVarValue::String(name("1")) };
+    let variables = vec![variable(VariableName::Tx, Some(Selection::Key(name("k")))), variable(VariableName::Args, None)];
+    let rule = DirectiveKind::Rule {
+        targets: Targets { variables, exclusions: vec![name("a")] },
+        operator: RuleOperator { negated: true, name: OperatorName::Pm, argument: name("x") },
+        actions: vec![Action::SetVar(set)],
+    };
+    assert_eq!(kinds("SecRule !a|TX:k|ARGS \"!@pm x \" setvar:y"), [rule]);
+}
+
+#[test]
+fn lines_and_bytes_are_told() {
+    let package = "#\n\n  SecAction \\\n  'log'  # x\nsec";
+    let told: Vec<(usize, &str)> = directives(package).expect("a package").iter().map(|d| (d.line, &package[d.bytes.clone()])).collect();
+    assert_eq!(told, [(3, "SecAction \\\n  'log'"), (5, "sec")]);
+}
+
+#[test]
+fn counts_strays_and_stops_are_refused() {
+    for package in
+        ["SecRule ARGS \\\nsecond", "SecAction deny SecAction log", "SecRule ARGS\x0c", "SecRule x\nSecAction bogus", "SecMarker"]
+    {
+        assert_eq!(refusal(package), Refusal::WrongCount { line: 1 }, "{package:?}");
+    }
+    for (package, line) in [("SecRule ARGS \"@rx a\" \\\n# why\n\"deny\"", 3), ("\\SecMarker x", 1), ("IncludeOptional x", 1)] {
+        assert_eq!(refusal(package), Refusal::Untaken { line }, "{package:?}");
+    }
+    assert_eq!(refusal("SecAction deny\n\x0c"), Refusal::Stopped { line: 2 });
+    assert_eq!(refusal("SecRule &TX:'/a/' \"@gt 0\" deny"), Refusal::WrongCount { line: 1 });
+    assert_eq!(refusal("\nx").to_string(), "line 2: a text that no directive takes");
+}
+
+#[test]
+fn an_argument_is_refused_with_its_line() {
+    let unknown = |piece, said: &str| Refusal::UnknownAction { piece, name: name(said) };
+    assert_eq!(refusal("SecAction bogus\nSecRule x"), inside(1, unknown(0, "bogus")));
+    assert_eq!(refusal("\n\nSecAction \\\n\"deny,\\\n bogus\""), inside(3, unknown(1, "bogus")));
+    assert_eq!(refusal("SecAction \"id:1\nSecAction log"), inside(1, Refusal::BadArgument { piece: 0, action: name("id") }));
+    assert_eq!(refusal("SecRule ARGS|Nope @x x"), inside(1, Refusal::UnknownVariable { piece: 1, name: name("Nope") }));
+    assert_eq!(refusal("SecAction bogus").number(), 5);
+    assert_eq!(refusal("\nSecAction bogus").to_string(), "line 2: unknown action 'bogus' in piece 0");
+}
+
+/// The name of an operator is read again, since nothing is left of it in what was lent.
+#[test]
+fn an_operator_is_refused_by_name() {
+    let unknown = |place, said: &str| Refusal::UnknownOperator { place, name: name(said) };
+    assert_eq!(refusal("SecRule ARGS \"@x\" x"), inside(1, unknown(1, "x")));
+    assert_eq!(refusal("SecMarker m\n\nSecRule ARGS \"\\t!@Nope y\""), inside(3, unknown(3, "Nope")));
+    assert_eq!(refusal("SecRule ARGS '@'"), inside(1, unknown(1, "")));
+    assert_eq!(refusal("SecRule \\\n ARGS \\\n \"@within1 a\""), inside(1, unknown(1, "within1")));
+}
+
+#[test]
+fn lengths_and_bytes_are_judged_first() {
+    assert_eq!(directives(&vec![b'x'; LIMIT + 1]), Err(Refusal::TooLong));
+    assert_eq!(directives("SecRule é"), Err(Refusal::NotAscii { place: 8 }));
+    assert_eq!(directives(&vec![b'\n'; LIMIT]), Ok(Vec::new()));
+    assert_eq!(directives(""), Ok(Vec::new()));
+}
+
+/// Packages with as many records as their length allows are read with the room that the library asks for.
+#[test]
+fn rooms_are_as_large_as_is_asked() {
+    let read = |package: String| directives(&package).expect("a package");
+    for len in [11, 12, 13, 40, 500, LIMIT] {
+        assert_eq!(read("sec\n".repeat(len / 4)).len(), len / 4);
+        let [rule] = &read(format!("SecRule TX{}\"", "|!".repeat((len - 11) / 2)))[..] else { panic!("one rule") };
+        let DirectiveKind::Rule { targets, .. } = &rule.kind else { panic!("a rule") };
+        assert_eq!(targets.exclusions.len(), (len - 11) / 2);
+        let acting = read(format!("SecAction t:{}", ",t:".repeat((len.max(12) - 12) / 3)));
+        assert_eq!(acting[0].actions().len(), 1 + (len.max(12) - 12) / 3);
+    }
+}
+
+/// A directive's parts are those that tokens and the single readers give.
+#[test]
+fn the_parts_are_the_single_readers() {
+    let list = "id:7,phase:1,msg:'a, b',setvar:'tx.a=+5',t:none";
+    let package = format!("SecRule ARGS|!ARGS:p \"!@rx a b\" \"{list}\"\nSecAction \"{list}\"\n");
+    let read = directives(&package).expect("a package");
+    let actions = seclang::parse_actions(list).expect("a list");
+    assert!(read.iter().all(|directive: &Directive| directive.actions() == actions));
+    let DirectiveKind::Rule { targets, operator, .. } = &read[0].kind else { panic!("a rule") };
+    assert_eq!(Ok(targets.clone()), seclang::parse_variables("ARGS|!ARGS:p"));
+    let single = seclang::parse_operator("!@rx a b").expect("an operator");
+    assert_eq!((operator.negated, operator.name, operator.argument.as_str()), (single.negated, single.name, single.argument));
+}
