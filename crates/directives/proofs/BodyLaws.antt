@@ -20,7 +20,7 @@ use Rattle.directives.specs.Directives.{Listed, Body, rule, act, marker,
 use Rattle.directives.specs.Layout.{bodyText}
 use Rattle.directives.specs.Table.{faultName}
 use Rattle.directives.specs.Promises.{naming}
-use Rattle.directives.specs.Steps.{Laid, reachedBy, entryOf, listedEach, actedEach, emptyEntry, withName, withVariables, withOperator, withActions, Grew, Fell, AddsVariables, AddsOperator, AddsActions, Wrote, Bodied}
+use Rattle.directives.specs.Steps.{Laid, reachedBy, entryOf, listedEach, actedEach, emptyEntry, withName, withVariables, withOperator, withActions, Grew, Faulted, Fell, AddsVariables, AddsOperator, AddsActions, Wrote, Bodied}
 use Rattle.directives.specs.declared.Fault.{Fault as Told}
 use Rattle.directives.specs.declared.parts.Tally.{Tally}
 use Rattle.directives.specs.declared.parts.Entry.{Entry}
@@ -40,19 +40,26 @@ pub same-entry : {e d : Entry} → Judged.Good e ≡ Judged.Good d → e ≡ d
 unfolding good-or
 same-entry {e} {d} p = ap (good-or d) p
 
+told-or : Told → Judged → Told
+told-or d (Judged.Good e) = d
+told-or d (Judged.Bad f) = f
+
+pub same-told : {f h : Told} → Judged.Bad f ≡ Judged.Bad h → f ≡ h
+unfolding told-or
+same-told {f} {h} p = ap (told-or h) p
+
 pub never : {e : Entry} {f : Told} → Judged.Good e ≡ Judged.Bad f → ⊥
 never p = let z : _≡_ {A = ℕ} 0 1 = ap (tagOf the-type) p in omega arith
 
 -- a fault behind what was laid before it
-fell-later : {f : Fault} {text text₁ text₂ : List ℕ} {r : Judged} → length text₁ ≡ length text → Fell f text₁ text₂ r → Fell f text text₂ r
-fell-later {f} {text} {text₁} {text₂} e x = record {
-  told = x .told;
-  is = x .is;
-  faulted = record {
-    given = x .faulted .given;
-    left = subst (λ (n : ℕ). pick (naming (x .told)) text₂ (zeros n) ≡ padded n (faultName f)) e (x .faulted .left);
-  };
+pub same-fault : {q : Fault} {text text₀ text′ : List ℕ} {f : Told} → length text ≡ length text₀ → Faulted q text text′ f → Faulted q text₀ text′ f
+same-fault {q} {text} {text₀} {text′} {f} e x = record {
+  given = x .given;
+  left = subst (λ (n : ℕ). pick (naming f) text′ (zeros n) ≡ padded n (faultName q)) e (x .left);
 }
+
+fell-later : {f : Fault} {text text₁ text₂ : List ℕ} {r : Judged} → length text₁ ≡ length text → Fell f text₁ text₂ r → Fell f text text₂ r
+fell-later e x = record { told = x .told; is = x .is; faulted = same-fault e (x .faulted) }
 
 -- ---- offsets
 

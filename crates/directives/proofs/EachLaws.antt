@@ -6,7 +6,7 @@ use mathlib.Core.List.{List, [], _∷_, _++_, append-assoc, append-nil}
 use lib.ListN.{length, length-append}
 use Rattle.lent.specs.Layout.{textsOf, wordsOf, recordsOf}
 use Rattle.lent.specs.Sizes.{variableWords, actionWords, directiveWords}
-use Rattle.lent.specs.Buffers.{joined}
+use Rattle.lent.specs.Buffers.{stored, storedEach, joined}
 use Rattle.lent.proofs.LayoutLaws.{records-joined}
 use Rattle.lent.proofs.BufferLaws.{joined-append}
 use Rattle.variables.specs.Layout as Targets
@@ -14,8 +14,25 @@ use Rattle.records.specs.Layout.{actionRecord}
 use Rattle.records.specs.Actions.{actionText}
 use Rattle.directives.specs.Directives.{Body, Directive}
 use Rattle.directives.specs.Layout.{Reached, pastBody, nameEnd, argumentEnd, listedIn, actionsIn, directiveText, directiveRecord, variableRecords, actionRecords, texts, listedCounts, actionCounts, directivesFrom, variablesFrom, actionsFrom}
-use Rattle.directives.specs.Steps.{directiveEach, eachFrom, listedEach, actedEach}
+use Rattle.directives.specs.Steps.{directiveEach, eachFrom, listedEach, actedEach, entryRecord}
+use Rattle.directives.specs.declared.parts.Tally.{Tally}
+use Rattle.directives.specs.declared.parts.Entry.{Entry}
 use Rattle.directives.proofs.LayoutLaws.{pastAll, directives-long, variables-long, actions-long}
+
+-- ---- equal parts, equal records
+
+pub same-record : (t : Tally) {l l′ i i′ j j′ : ℕ} {e e′ : Entry} → l ≡ l′ → i ≡ i′ → j ≡ j′ → e ≡ e′ → entryRecord l i j t e ≡ entryRecord l′ i′ j′ t e′
+same-record t a b c d = rw (a, b, c, d)
+
+pub same-tally : {a a′ b b′ c c′ d d′ : ℕ} → a ≡ a′ → b ≡ b′ → c ≡ c′ → d ≡ d′
+    → _≡_ {A = Tally} (record { directives = a; text = b; variables = c; actions = d }) (record { directives = a′; text = b′; variables = c′; actions = d′ })
+same-tally a b c d = rw (a, b, c, d)
+
+pub same-stored : {old old′ : List ℕ} {i i′ : ℕ} {w w′ : List ℕ} → old ≡ old′ → i ≡ i′ → w ≡ w′ → stored old i w ≡ stored old′ i′ w′
+same-stored a b c = rw (a, b, c)
+
+pub same-each : {old old′ : List ℕ} {i i′ : ℕ} {w w′ : List (List ℕ)} → old ≡ old′ → i ≡ i′ → w ≡ w′ → storedEach old i w ≡ storedEach old′ i′ w′
+same-each a b c = rw (a, b, c)
 
 -- ---- one more
 

@@ -8,9 +8,8 @@ use native.Mathlib.Nat.{zero-add}
 use lib.ListN.{length, take, drop, length-append}
 use lib.Seq.{take-all}
 use borrow.Author.Tests.{lt-ltb, le-ltb}
-use Rattle.ascii.specs.Choice.{pick}
 use Rattle.lent.specs.Sizes.{limit, variableWords, actionWords, directiveWords}
-use Rattle.lent.specs.Buffers.{zeros, padded, stored, storedEach, joined as joinedWords}
+use Rattle.lent.specs.Buffers.{stored, storedEach, joined as joinedWords}
 use Rattle.lent.specs.Layout.{textsOf}
 use Rattle.lent.specs.Table.{given}
 use Rattle.lent.proofs.BufferLaws.{padded-none, each-more, each-append, each-length}
@@ -24,10 +23,8 @@ use Rattle.lexer.specs.Layout.{textOf}
 use Rattle.lexer.specs.Calls.{Reached as Arrived}
 use Rattle.lexer.proofs.ReachLaws.{reached-start}
 use Rattle.directives.specs.Groups.{Item, items}
-use Rattle.directives.specs.Directives.{Body, Directive, Fault, untaken, stopped, Result, bad, good, Shape, shapeOf, bodyBy, lastPast, placed as placedAt, directiveOf, itemRead, before, ending, endOf, directives}
+use Rattle.directives.specs.Directives.{Body, Directive, untaken, stopped, Result, bad, good, Shape, shapeOf, bodyBy, lastPast, placed as placedAt, directiveOf, itemRead, before, ending, endOf, directives}
 use Rattle.directives.specs.Layout.{Reached, reached, bodyText, directiveRecord, texts, listedCount, actionCount, listedCounts, actionCounts}
-use Rattle.directives.specs.Table.{faultName}
-use Rattle.directives.specs.Promises.{naming}
 use Rattle.directives.specs.Steps.{Laid, roleOf, onward, Token-is, None-is, argumentsAs, endsAt, takenFrom, Took, reachedBy, entryOf, listedEach, actedEach, Faulted, Wrote, Bodied, heldArguments, Ready, entryRecord, tallyOf, countedOn, directiveEach, eachFrom, Written, AllRead, FirstFault}
 use Rattle.directives.specs.declared.Fault.{Fault as Told}
 use Rattle.directives.specs.declared.LineFault.the-variants.{Stopped, Untaken}
@@ -41,10 +38,10 @@ use Rattle.directives.specs.declared.parts.Judged.{Judged}
 use Rattle.directives.specs.declared.parts.Judged.the-variants as Judged
 use Rattle.directives.proofs.LaidLaws.{laid-none, laid-placed, laid-more, laid-first, front-of}
 use Rattle.directives.proofs.LayoutLaws.{pastAll, texts-more, listed-more, acted-more, past-is}
-use Rattle.directives.proofs.EachLaws.{directive-each-more, each-from-more, directive-each-long, listed-each-long, acted-each-long}
+use Rattle.directives.proofs.EachLaws.{same-record, same-tally, same-stored, same-each, directive-each-more, each-from-more, directive-each-long, listed-each-long, acted-each-long}
 use Rattle.directives.proofs.FitLaws.{BodyFits, body-fits, all, texts-long}
 use Rattle.directives.proofs.ArgumentLaws.{argues, closes, opens}
-use Rattle.directives.proofs.BodyLaws.{same-entry, never}
+use Rattle.directives.proofs.BodyLaws.{same-entry, same-told, same-fault, never}
 use Rattle.directives.proofs.HeldLaws.{texts-grow, texts-few, held-are, same-body}
 
 -- ---- directives read before
@@ -60,35 +57,6 @@ onto-none (good ds) = refl
 onto-good : (ds : List Directive) (d : Directive) (o : Result (List Directive)) → onto ds (before (good d) o) ≡ onto (ds ++ d ∷ []) o
 onto-good ds d (bad f) = refl
 onto-good ds d (good es) = ap (λ (l : List Directive). good l) (sym (append-assoc ds (d ∷ []) es))
-
-same-record : (t : Tally) {l l′ i i′ j j′ : ℕ} {e e′ : Entry} → l ≡ l′ → i ≡ i′ → j ≡ j′ → e ≡ e′ → entryRecord l i j t e ≡ entryRecord l′ i′ j′ t e′
-same-record t a b c d = rw (a, b, c, d)
-
-same-tally : {a a′ b b′ c c′ d d′ : ℕ} → a ≡ a′ → b ≡ b′ → c ≡ c′ → d ≡ d′
-    → _≡_ {A = Tally} (record { directives = a; text = b; variables = c; actions = d }) (record { directives = a′; text = b′; variables = c′; actions = d′ })
-same-tally a b c d = rw (a, b, c, d)
-
-same-stored : {old old′ : List ℕ} {i i′ : ℕ} {w w′ : List ℕ} → old ≡ old′ → i ≡ i′ → w ≡ w′ → stored old i w ≡ stored old′ i′ w′
-same-stored a b c = rw (a, b, c)
-
-same-each : {old old′ : List ℕ} {i i′ : ℕ} {w w′ : List (List ℕ)} → old ≡ old′ → i ≡ i′ → w ≡ w′ → storedEach old i w ≡ storedEach old′ i′ w′
-same-each a b c = rw (a, b, c)
-
--- ---- faults
-
-told-or : Told → Judged → Told
-told-or d (Judged.Good e) = d
-told-or d (Judged.Bad f) = f
-
-same-told : {f h : Told} → Judged.Bad f ≡ Judged.Bad h → f ≡ h
-unfolding told-or
-same-told {f} {h} p = ap (told-or h) p
-
-same-fault : {q : Fault} {text text₀ text′ : List ℕ} {f : Told} → length text ≡ length text₀ → Faulted q text text′ f → Faulted q text₀ text′ f
-same-fault {q} {text} {text₀} {text′} {f} e x = record {
-  given = x .given;
-  left = subst (λ (n : ℕ). pick (naming f) text′ (zeros n) ≡ padded n (faultName q)) e (x .left);
-}
 
 -- ---- what the loop keeps
 
