@@ -33,16 +33,19 @@ ids (e ∷ r) = pick (eqb (e .code) idCode) 1 0 + ids r
 unfoldable pub grades : List Entry → Bool
 grades es = and (allFine es) (leb (ids es) 1)
 
--- Document 01's words for it: what holds of the number of every action with a code.
-pub data Every (code : ℕ) (P : ℕ → Type 0) : List Entry → Type 0 where
-  none : Every code P []
-  more : {e : Entry} {r : List Entry} → (e .code ≡ code → P (e .number)) → Every code P r → Every code P (e ∷ r)
+-- Document 01's words for it: what is asked of one action, by its code.
+pub record Asked (e : Entry) : Type 0 where
+  pub id : e .code ≡ idCode → 1 ≤ e .number
+  pub phase : e .code ≡ phaseCode → (1 ≤ e .number) × (e .number ≤ 4)
+  pub severity : e .code ≡ severityCode → e .number ≤ 7
+  pub maturity : e .code ≡ maturityCode → (1 ≤ e .number) × (e .number ≤ 9)
+  pub accuracy : e .code ≡ accuracyCode → (1 ≤ e .number) × (e .number ≤ 9)
 
--- At most one id, the id is 1 or more, every phase is 1 to 4, every severity is at most 7, and every maturity and accuracy is 1 to 9.
+pub data Every (P : Entry → Type 0) : List Entry → Type 0 where
+  none : Every P []
+  more : {e : Entry} {r : List Entry} → P e → Every P r → Every P (e ∷ r)
+
+-- A list passes with at most one id, and with what is asked of every action.
 pub record Passes (es : List Entry) : Type 0 where
   pub one-id : ids es ≤ 1
-  pub id : Every idCode (λ n. 1 ≤ n) es
-  pub phase : Every phaseCode (λ n. (1 ≤ n) × (n ≤ 4)) es
-  pub severity : Every severityCode (λ n. n ≤ 7) es
-  pub maturity : Every maturityCode (λ n. (1 ≤ n) × (n ≤ 9)) es
-  pub accuracy : Every accuracyCode (λ n. (1 ≤ n) × (n ≤ 9)) es
+  pub each : Every Asked es
