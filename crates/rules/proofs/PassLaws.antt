@@ -1,4 +1,4 @@
--- The grade says what document 01 says of it, in both directions.
+-- The grade says what the documents say of it, in both directions.
 use mathlib.Core.Path.{_≡_, refl, subst}
 use mathlib.Core.Bool.{Bool, true, false}
 use mathlib.Core.List.{List, [], _∷_}
@@ -60,7 +60,7 @@ unfolding allFine
 each-fine none = refl
 each-fine (more {e} {r} x xs) = joins (asked-fine e x) (each-fine xs)
 
--- A list of actions passes exactly when it is as document 01 says.
+-- A list of actions passes exactly when it is as the documents say.
 pub grade-passes : (es : List Entry) → (grades es ≡ true) ↔ Passes es
 unfolding grades
 grade-passes es = (there, back)

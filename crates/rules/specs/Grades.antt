@@ -1,4 +1,4 @@
--- The house grade (document 01, module 6), which the Rust has not.
+-- The house grade (document 01, module 6; phase 5 by document 02, M-101), which the Rust has not.
 use mathlib.Core.Path.{_≡_}
 use Prim.Native.Nat.{ℕ, _+_, _≤_}
 use mathlib.Core.Bool.{Bool, true}
@@ -10,11 +10,11 @@ use Rattle.rules.specs.Entries.{Entry, idCode, phaseCode, severityCode, 
 abbrev pub between : ℕ → ℕ → ℕ → Bool
 between least most n = and (leb least n) (leb n most)
 
--- what the house asks of an action's number: ids 1 or more, phases 1 to 4, severities at most 7, maturity and accuracy 1 to 9
+-- what the house asks of an action's number: ids 1 or more, phases 1 to 5, severities at most 7, maturity and accuracy 1 to 9
 unfoldable pub fine : ℕ → ℕ → Bool
 fine code n =
     pick (eqb code idCode) (leb 1 n)
-    (pick (eqb code phaseCode) (between 1 4 n)
+    (pick (eqb code phaseCode) (between 1 5 n)
     (pick (eqb code severityCode) (leb n 7)
     (pick (eqb code maturityCode) (between 1 9 n)
     (pick (eqb code accuracyCode) (between 1 9 n)
@@ -33,10 +33,10 @@ ids (e ∷ r) = pick (eqb (e .code) idCode) 1 0 + ids r
 unfoldable pub grades : List Entry → Bool
 grades es = and (allFine es) (leb (ids es) 1)
 
--- Document 01's words for it: what is asked of one action, by its code.
+-- The documents' words for it: what is asked of one action, by its code. Phases are the manual's five, of which the last is logging.
 pub record Asked (e : Entry) : Type 0 where
   pub id : e .code ≡ idCode → 1 ≤ e .number
-  pub phase : e .code ≡ phaseCode → (1 ≤ e .number) × (e .number ≤ 4)
+  pub phase : e .code ≡ phaseCode → (1 ≤ e .number) × (e .number ≤ 5)
   pub severity : e .code ≡ severityCode → e .number ≤ 7
   pub maturity : e .code ≡ maturityCode → (1 ≤ e .number) × (e .number ≤ 9)
   pub accuracy : e .code ≡ accuracyCode → (1 ≤ e .number) × (e .number ≤ 9)

@@ -20,7 +20,7 @@ fn is_fine(code: u64, number: u64) -> bool
         return 1 <= number;
     }
     if code == records::PHASE {
-        return is_between(1, 4, number);
+        return is_between(1, 5, number);
     }
     if code == records::SEVERITY {
         return number <= 7;
