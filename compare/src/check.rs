@@ -44,11 +44,11 @@ fn readable(input: &[u8]) -> Option<&str> {
     }
 }
 
-/// What the house asks of an action's number (document 01, module 6), which the original has not.
+/// What the house asks of an action's number (document 01, module 6; document 02, M-101: phases 1 to 5), which the original has not.
 fn grade(words: &[u64]) -> bool {
     let fine = |record: &[u64]| match record[0] {
         11 => 1 <= record[1],
-        12 => (1..=4).contains(&record[1]),
+        12 => (1..=5).contains(&record[1]),
         13 => record[1] <= 7,
         18 | 19 => (1..=9).contains(&record[1]),
         _ => true,

@@ -26,7 +26,10 @@ pub const EDGES: &[Edge] = &[
     ("SecRule ARGS a\nSecMarker m\nSecAction deny", 0, &[3, 1, 1, 2], "am"),
     ("SecRule \"\" \"\"", 0, &[1, 0, 0, 0], ""),
     ("SecRule !a|TX:k|ARGS \"!@pm x \" setvar:y", 0, &[1, 3, 1, 7], "kaxtxy1"),
+    // a phase is a number: 5 is the manual's last, any byte is read, and the word for 5 is none
     ("SecAction phase:5", 0, &[1, 0, 1, 0], ""),
+    ("SecAction phase:100", 0, &[1, 0, 1, 0], ""),
+    ("SecAction phase:logging", 6, &[1, 0, 5], "phase"),
     // real rules: a quotation mark outside of a string ends a word, and an id in marks is no number
     ("SecRule &TX:'/a/' \"@gt 0\" deny", 13, &[1], ""),
     ("SecAction \"phase:1,id:'1'\"", 6, &[1, 1, 2], "id"),

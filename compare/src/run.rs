@@ -83,6 +83,19 @@ impl Run {
         }
     }
 
+    /// Phase and grade of one record: every code and some that are none, with every number of a byte and some past it.
+    fn records(&mut self) {
+        let before = self.done();
+        for (code, number) in (0..40).flat_map(|code| (0..=260).map(move |number| (code, number))) {
+            if let Err(difference) = self.checker.words(&[code, number, 0, 0, 0, 0]) {
+                println!("a record with code {code} and number {number} differs: {difference}");
+                self.fine = false;
+                return;
+            }
+        }
+        println!("every code with every number up to 260, alone: {} cases", self.done() - before);
+    }
+
     fn random(&mut self, random: &mut Random, turns: u64, real: &Real) {
         let names = original::names();
         let pieces = TEXT_READERS.map(|reader| pieces_of(reader, &names));
@@ -267,6 +280,9 @@ pub fn all(wanted: &Wanted) -> bool {
     let mut run = Run { checker: Checker::new(wanted.alone), began: Instant::now(), said: Instant::now(), fine: true };
     let turns = wanted.random.unwrap_or(if wanted.quick { 600_000 } else { 10_000_000 });
     run.numbers(&mut random, turns / 10);
+    if run.fine {
+        run.records();
+    }
     if run.fine {
         run.edges();
     }
