@@ -471,7 +471,7 @@ bool seclang_test(uint64_t test, uint64_t code);
 uint64_t seclang_xml_target(uint64_t selection, const uint8_t *text, size_t text_len);
 
 /* A rule's phase, its first one or else 2, and whether it has the house grade, out of action records: at most one id,
- * the id 1 or more, every phase 1 to 4, every severity at most 7, every maturity and accuracy 1 to 9. Words left over
+ * the id 1 or more, every phase 1 to 5, every severity at most 7, every maturity and accuracy 1 to 9. Words left over
  * are not read. */
 uint64_t seclang_phase(const uint64_t *records, size_t records_len);
 bool seclang_grade(const uint64_t *records, size_t records_len);

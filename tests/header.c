@@ -281,6 +281,10 @@ static void check_actions(void)
           memcmp(scratch, "deny,pass", 10) == 0);
     CHECK(seclang_phase(records, 0) == 2 && seclang_grade(records, 0));
     CHECK(actions("phase:9") == SECLANG_READ && seclang_phase(records, 6) == 9 && !seclang_grade(records, 6));
+    CHECK(actions("phase:5") == SECLANG_READ && seclang_phase(records, 6) == 5 && seclang_grade(records, 6));
+    for (records[1] = 0; records[1] <= 300; records[1]++)
+        CHECK(seclang_grade(records, 6) == (1 <= records[1] && records[1] <= 5));
+    CHECK(actions("phase:logging") == SECLANG_BAD_ARGUMENT && first_values(0, 5));
 }
 
 static bool sets(const char *s, uint64_t kind, int64_t number, const char *collection, const char *key,
@@ -387,6 +391,8 @@ static void check_directives(void)
           heads[SECLANG_DIRECTIVE_WORDS + SECLANG_AT_FIRST_ACTION] == 1);
     CHECK(heads[SECLANG_AT_KIND] == SECLANG_DIRECTIVE_RULE && heads[SECLANG_AT_LINE] == 1 &&
           SECLANG_SPAN_LENGTH(heads[SECLANG_AT_SPAN]) == 39);
+    CHECK(directives("SecAction phase:5") == SECLANG_READ && four_values(1, 0, 1, 0) && seclang_grade(acts, 6));
+    CHECK(directives("SecAction phase:100") == SECLANG_READ && four_values(1, 0, 1, 0) && !seclang_grade(acts, 6));
     CHECK(directives("") == SECLANG_READ && four_values(0, 0, 0, 0) && cleared(""));
 }
 

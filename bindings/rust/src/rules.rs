@@ -20,11 +20,11 @@ pub fn phase(actions: &[Action]) -> u64 {
     raw::phase(&records(actions))
 }
 
-/// The house grade: at most one id, which is not 0, and phases, severities, maturities and accuracies within their bounds.
+/// The house grade: at most one id, which is not 0, phases 1 to 5, severities up to 7, maturities and accuracies 1 to 9.
 ///
 /// ```
-/// assert!(seclang::grade(&seclang::parse_actions("id:7,phase:2")?));
-/// assert!(!seclang::grade(&seclang::parse_actions("id:7,phase:0")?));
+/// assert!(seclang::grade(&seclang::parse_actions("id:7,phase:5")?));
+/// assert!(!seclang::grade(&seclang::parse_actions("id:7,phase:6")?));
 /// # Ok::<(), seclang::Refusal>(())
 /// ```
 pub fn grade(actions: &[Action]) -> bool {

@@ -67,8 +67,8 @@ fn ids_are_whole_words() {
 #[test]
 fn grades_are_given() {
     let graded = |list| seclang::grade(&parse_actions(list).expect(list));
-    assert!(graded("") && graded("id:1,phase:1,severity:7,maturity:9,accuracy:1,status:999,skip:0"));
-    for list in ["id:0", "id:1,id:2", "phase:0", "severity:8", "maturity:0", "accuracy:10"] {
+    assert!(graded("") && graded("id:1,phase:1,severity:7,maturity:9,accuracy:1,status:999,skip:0") && graded("phase:5"));
+    for list in ["id:0", "id:1,id:2", "phase:0", "phase:6", "phase:5,phase:6", "severity:8", "maturity:0", "accuracy:10"] {
         assert!(!graded(list), "{list}");
     }
 }
