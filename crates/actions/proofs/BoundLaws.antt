@@ -67,7 +67,7 @@ more-few j k (refuses f) l h = tt
 
 single-few : (i n k : ℕ) (x : Single) (o : Outcome (List Action)) → Wide n x → Few k o → Few (n + suc k) (singleThen i x o)
 single-few i n k (done x) o w h = more-few (3 + k) (n + suc k) (actionThen x o) (omega arith) (then-few k x o h)
-single-few i n k (bad name) o w h = tt
+single-few i n k (bad flaw name) o w h = tt
 single-few i n k (unknown name) o w h = tt
 
 from-few : (i : ℕ) (ps : List (List ℕ)) → Few (total ps + length ps) (actionsFrom i ps)

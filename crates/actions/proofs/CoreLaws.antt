@@ -2,13 +2,15 @@
 use mathlib.Core.Path.{_≡_, refl, sym, ap, _∙_}
 use mathlib.Core.Bool.{Bool, true, false}
 use mathlib.Core.Logic.{_↔_}
-use mathlib.Core.List.{List}
+use mathlib.Core.List.{List, [], _∷_}
 use Prim.Native.Nat.{ℕ}
 use native.Mathlib.Omega.{arith}
 use lib.ListN.{length}
 use Rattle.ascii.specs.Choice.{bit}
 use Rattle.lent.specs.Endings.{starts}
-use Rattle.lent.specs.Table.{tooLong, notAscii, shortBuffer, noRoom, named, noAction, noArgument, noVariable, unknownOperator, badCursor, unknownAction, badArgument, Outcome, refuses, reads}
+use Rattle.lent.specs.Table.{given, flawNumber, tooLong, notAscii, shortBuffer, noRoom, named, noAction, noArgument, noVariable, unknownOperator, badCursor, unknownAction, badArgument, Outcome, refuses, reads}
+use Rattle.lent.specs.declared.refusing.Flaw.{Flaw}
+use Rattle.lent.specs.declared.refusing.Flaw.the-variants as Flaw
 use Rattle.single_action.specs.Actions.{Action}
 use Rattle.actions.specs.Pieces.{pieces}
 use Rattle.actions.specs.Lists.{actionsFrom}
@@ -17,6 +19,12 @@ use Rattle.actions.specs.Cores.{coreOutcome, coreGiven, reachedFrom, cor
 use Rattle.actions.proofs.CountLaws.{Counted, from-counted}
 use Rattle.actions.specs.declared.Reached.{Reached}
 use Rattle.actions.specs.declared.Reached.the-variants.{Read, Bad, Unknown, Unfit}
+
+-- a refused argument is told by its number
+pub bad-back : (flaw : Flaw) (piece name : ℕ) → Bad flaw piece name ≡ reachedFrom (given (flawNumber flaw) (piece ∷ name ∷ []))
+bad-back Flaw.Absent piece name = refl
+bad-back Flaw.Unreadable piece name = refl
+bad-back Flaw.TooLarge piece name = refl
 
 module _ (s : List ℕ) (offset place : ℕ) (text records : List ℕ) where
   -- by what the text comes to there
@@ -38,8 +46,8 @@ module _ (s : List ℕ) (offset place : ℕ) (text records : List ℕ) where
     pub core-met : {text′ records′ : List ℕ} (r : Reached) → Listed s offset place text text′ records records′ r → ReadActions s offset place text text′ records records′ r
     core-met (Read count used) x =
         core-by (reads (x .actions)) (started (reads (x .actions)) (x .all)) (rw (x .laid .counted, x .laid .used-is)) (x .laid .written) (x .laid .recorded)
-    core-met (Bad piece name) x =
-        core-by (refuses (badArgument piece (x .named))) (started (refuses (badArgument piece (x .named))) (x .first)) (rw (x .counted)) (x .written) (x .cleared)
+    core-met (Bad flaw piece name) x =
+        core-by (refuses (badArgument flaw piece (x .named))) (started (refuses (badArgument flaw piece (x .named))) (x .first)) (rw (x .counted) (bad-back flaw piece (length (x .named)))) (x .written) (x .cleared)
     core-met (Unknown piece name) x =
         core-by (refuses (unknownAction piece (x .named))) (started (refuses (unknownAction piece (x .named))) (x .first)) (rw (x .counted)) (x .written) (x .cleared)
     core-met Unfit x = absurd x
@@ -49,7 +57,7 @@ module _ (s : List ℕ) (offset place : ℕ) (text records : List ℕ) where
 -- an answer that is read or refuses a piece
 abbrev fit : Reached → Bool
 fit (Read count used) = true
-fit (Bad piece name) = true
+fit (Bad flaw piece name) = true
 fit (Unknown piece name) = true
 fit Unfit = false
 
@@ -57,7 +65,7 @@ fit Unfit = false
 pieces-fit : (offset n : ℕ) (o : Outcome (List Action)) → Counted 0 n o → fit (reachedFrom (coreGiven offset o)) ≡ true
 pieces-fit offset n (reads xs) h = refl
 pieces-fit offset n (refuses (named noAction p name)) h = refl
-pieces-fit offset n (refuses (named noArgument p name)) h = refl
+pieces-fit offset n (refuses (named (noArgument flaw) p name)) h = ap fit (sym (bad-back flaw p (length name)))
 pieces-fit offset n (refuses (named noVariable p name)) h = absurd h
 pieces-fit offset n (refuses tooLong) h = absurd h
 pieces-fit offset n (refuses (notAscii p)) h = absurd h

@@ -35,7 +35,7 @@ pieces-count s = omega (arith, kept-count (partsFrom outside s), parts-total out
 abbrev pub Counted : ℕ → ℕ → Outcome (List Action) → Type 0
 Counted k n (reads xs) = length xs ≡ n
 Counted k n (refuses (named noAction p name)) = (k ≤ p) × (p < k + n)
-Counted k n (refuses (named noArgument p name)) = (k ≤ p) × (p < k + n)
+Counted k n (refuses (named (noArgument flaw) p name)) = (k ≤ p) × (p < k + n)
 Counted k n (refuses tooLong) = ⊥
 Counted k n (refuses (notAscii p)) = ⊥
 Counted k n (refuses shortBuffer) = ⊥
@@ -47,7 +47,7 @@ Counted k n (refuses badCursor) = ⊥
 then-counted : (k n : ℕ) (x : Action) (o : Outcome (List Action)) → Counted (suc k) n o → Counted k (suc n) (actionThen x o)
 then-counted k n x (reads xs) h = omega arith
 then-counted k n x (refuses (named noAction p name)) (h, l) = (omega arith, omega arith)
-then-counted k n x (refuses (named noArgument p name)) (h, l) = (omega arith, omega arith)
+then-counted k n x (refuses (named (noArgument flaw) p name)) (h, l) = (omega arith, omega arith)
 then-counted k n x (refuses tooLong) h = h
 then-counted k n x (refuses (notAscii p)) h = h
 then-counted k n x (refuses shortBuffer) h = h
@@ -58,7 +58,7 @@ then-counted k n x (refuses badCursor) h = h
 
 single-counted : (k n : ℕ) (x : Single) (o : Outcome (List Action)) → Counted (suc k) n o → Counted k (suc n) (singleThen k x o)
 single-counted k n (done x) o h = then-counted k n x o h
-single-counted k n (bad name) o h = (omega arith, omega arith)
+single-counted k n (bad flaw name) o h = (omega arith, omega arith)
 single-counted k n (unknown name) o h = (omega arith, omega arith)
 
 pub from-counted : (k : ℕ) (ps : List (List ℕ)) → Counted k (length ps) (actionsFrom k ps)

@@ -7,7 +7,8 @@ use lib.ListN.{getD}
 use lib.Dec.{eqb}
 use Rattle.ascii.specs.Choice.{pick}
 use Rattle.ascii.proofs.OneAnswer.{one-answer}
-use Rattle.lent.specs.Table.{Given}
+use Rattle.lent.specs.Table.{Given, flawOf}
+use Rattle.lent.specs.declared.refusing.Flaw.the-variants as Flaw
 use Rattle.actions.specs.Promises.{answerGiven, ParseActions, SetvarAlone}
 use Rattle.actions.specs.declared.Answer.{Answer}
 use Rattle.actions.specs.declared.Answer.the-variants as Answer
@@ -21,7 +22,7 @@ answerFrom g =
     (pick (eqb (g .number) 3) Answer.Short
     (pick (eqb (g .number) 4) (Answer.NoRoom (v 0))
     (pick (eqb (g .number) 5) (Answer.UnknownAction (v 0) (v 1))
-    (Answer.BadArgument (v 0) (v 1)))))))
+    (Answer.BadArgument (flawOf (g .number)) (v 0) (v 1)))))))
 
 answer-back : (r : Answer) → answerFrom (answerGiven r) ≡ r
 unfolding answerFrom
@@ -30,7 +31,9 @@ answer-back Answer.TooLong = refl
 answer-back (Answer.NotAscii place) = refl
 answer-back Answer.Short = refl
 answer-back (Answer.UnknownAction piece name) = refl
-answer-back (Answer.BadArgument piece name) = refl
+answer-back (Answer.BadArgument Flaw.Absent piece name) = refl
+answer-back (Answer.BadArgument Flaw.Unreadable piece name) = refl
+answer-back (Answer.BadArgument Flaw.TooLarge piece name) = refl
 answer-back (Answer.NoRoom needed) = refl
 
 -- Two answers that give the same back are the same.

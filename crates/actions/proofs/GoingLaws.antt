@@ -20,6 +20,7 @@ use Rattle.lent.specs.Endings.{starts}
 use Rattle.lent.proofs.StartLaws.{Started, starts-is}
 use Rattle.lent.specs.Buffers.{zeros, padded, stored, storedEach}
 use Rattle.lent.specs.Table.{Refusal, badArgument, unknownAction, refuses, reads}
+use Rattle.lent.specs.declared.refusing.Flaw.{Flaw}
 use Rattle.lent.proofs.BufferLaws.{stored-none, stored-more}
 use Rattle.lent.specs.Layout.{textsOf, recordsOf}
 use Rattle.lent.proofs.LayoutLaws.{count-more}
@@ -200,17 +201,17 @@ module _ {s : List ℕ} {offset place : ℕ} {text₀ records₀ text records : 
     blank : {records′ : List ℕ} → records′ ≡ zeros (length records) → records′ ≡ zeros (length records₀)
     blank e = e ∙ ap zeros (records-long (x .laid))
 
-    module _ (row : ℕ) (j : Judged piece (Bad row) (single piece)) where
+    module _ (flaw : Flaw) (row : ℕ) (j : Judged piece (Bad flaw row) (single piece)) where
       pub row-fits : length (rowAt row .name) ≤ length text
       row-fits =
           let e = end-inside s from end (x .inside) end-is in
-          omega (arith, fits (bad (rowAt row .name)) (sym (j .means)), e, piece-short, same-text, low .room)
+          omega (arith, fits (bad flaw (rowAt row .name)) (sym (j .means)), e, piece-short, same-text, low .room)
 
       pub stopped-bad : {text′ records′ : List ℕ} {n : ℕ} → text′ ≡ padded (length text) (rowAt row .name) → records′ ≡ zeros (length records) → n ≡ length (rowAt row .name)
-          → Stopped (badArgument count) s text₀ text′ records₀ records′ n
+          → Stopped (badArgument flaw count) s text₀ text′ records₀ records′ n
       stopped-bad e z f = record {
         named = rowAt row .name;
-        first = rw (← told-is) (stopped (badArgument told (rowAt row .name)) (ap (λ (v : Single). singleThen told v (actionsFrom (suc told) (behind s end))) (sym (j .means))));
+        first = rw (← told-is) (stopped (badArgument flaw told (rowAt row .name)) (ap (λ (v : Single). singleThen told v (actionsFrom (suc told) (behind s end))) (sym (j .means))));
         counted = f;
         written = rw (← same-text) e;
         cleared = blank z;

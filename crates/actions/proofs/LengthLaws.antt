@@ -23,7 +23,7 @@ use Rattle.actions.proofs.PieceLaws.{total, pieces-total}
 abbrev pub Fits : ℕ → Outcome (List Action) → Type 0
 Fits n (reads xs) = length (texts xs) ≤ n
 Fits n (refuses (named noAction k name)) = length name ≤ n
-Fits n (refuses (named noArgument k name)) = length name ≤ n
+Fits n (refuses (named (noArgument flaw) k name)) = length name ≤ n
 Fits n (refuses tooLong) = Unit {0}
 Fits n (refuses (notAscii k)) = Unit {0}
 Fits n (refuses shortBuffer) = Unit {0}
@@ -36,7 +36,7 @@ action-fits : (x : Action) (o : Outcome (List Action)) (m n : ℕ) → length (a
 unfolding textsOf
 action-fits x (reads xs) m n h k = omega (arith, length-append (actionText x) (texts xs))
 action-fits x (refuses (named noAction p name)) m n h k = omega arith
-action-fits x (refuses (named noArgument p name)) m n h k = omega arith
+action-fits x (refuses (named (noArgument flaw) p name)) m n h k = omega arith
 action-fits x (refuses tooLong) m n h k = tt
 action-fits x (refuses (notAscii p)) m n h k = tt
 action-fits x (refuses shortBuffer) m n h k = tt
@@ -47,7 +47,7 @@ action-fits x (refuses badCursor) m n h k = tt
 
 single-fits : (p : ℕ) (x : Single) (o : Outcome (List Action)) (m n : ℕ) → Within m x → Fits n o → Fits (m + n) (singleThen p x o)
 single-fits p (done x) o m n h k = action-fits x o m n h k
-single-fits p (bad name) o m n h k = omega arith
+single-fits p (bad flaw name) o m n h k = omega arith
 single-fits p (unknown name) o m n h k = omega arith
 
 from-fits : (k : ℕ) (ps : List (List ℕ)) → Fits (total ps) (actionsFrom k ps)
@@ -58,7 +58,7 @@ from-fits k (p ∷ ps) = single-fits k (single p) (actionsFrom (suc k) ps) (leng
 fits-more : (o : Outcome (List Action)) (m n : ℕ) → m ≤ n → Fits m o → Fits n o
 fits-more (reads xs) m n h k = omega arith
 fits-more (refuses (named noAction p name)) m n h k = omega arith
-fits-more (refuses (named noArgument p name)) m n h k = omega arith
+fits-more (refuses (named (noArgument flaw) p name)) m n h k = omega arith
 fits-more (refuses tooLong) m n h k = tt
 fits-more (refuses (notAscii p)) m n h k = tt
 fits-more (refuses shortBuffer) m n h k = tt

@@ -1,5 +1,5 @@
 -- What parse_actions promises, in plain words: every number exactly when it is given, and what is given and left with it.
--- The idea: lent's RowLaws has numbers 1 to 3 and one law for all; the first refused piece and the room tell 5, 6, 4 and 0 apart.
+-- The idea: lent's RowLaws has numbers 1 to 3 and one law for all; the first refused piece and the room tell 5, 10 to 12, 4 and 0 apart.
 use mathlib.Core.Path.{_≡_, _∙_, refl, ap}
 use mathlib.Core.Bool.{Bool, true, false}
 use mathlib.Core.List.{List, [], _∷_, _++_}
@@ -11,8 +11,10 @@ use lib.ListN.{length}
 use lib.Dec.{ltb}
 use borrow.Author.Tests.{lt-ltb, le-ltb, ltb-true, ltb-false}
 use Rattle.lent.specs.Sizes.{limit, actionWords, roomFor}
-use Rattle.lent.specs.Table.{Given, Refusal, noRoom, unknownAction, badArgument, Outcome, refuses, reads, Filled}
+use Rattle.lent.specs.Table.{Given, flawNumber, Refusal, noRoom, unknownAction, badArgument, Outcome, refuses, reads, Filled}
 use Rattle.lent.specs.Admission.{FirstAt, Opened, Shortened}
+use Rattle.lent.specs.declared.refusing.Flaw.{Flaw}
+use Rattle.lent.specs.declared.refusing.Flaw.the-variants as Flaw
 use Rattle.lent.proofs.OutcomeLaws.{numberOf, given-number}
 use Rattle.lent.proofs.RowLaws as Rows
 use Rattle.lent.proofs.RowLaws.{row, OneOf, Numbered, Exactly, absent, differ, behind, gated, exactly-gated}
@@ -46,8 +48,8 @@ given-read k (p ∷ ps) a = rw (a .0 .1, given-read (suc k) ps (a .1))
 pub record Way (way : List ℕ → Single) (refusal : ℕ → List ℕ → Refusal) : Type 0 where
   pub stops : (k : ℕ) (name : List ℕ) (o : Outcome (List Action)) → singleThen k (way name) o ≡ refuses (refusal k name)
 
-pub bad-way : Way bad badArgument
-bad-way = record { stops = λ k name o. refl }
+pub bad-way : (flaw : Flaw) → Way (bad flaw) (badArgument flaw)
+bad-way flaw = record { stops = λ k name o. refl }
 
 pub unknown-way : Way unknown unknownAction
 unknown-way = record { stops = λ k name o. refl }
@@ -74,7 +76,7 @@ module _ {way : List ℕ → Single} {refusal : ℕ → List ℕ → Refusal} (w
 pub data Pieces (ps : List (List ℕ)) : Type 0 where
   all : AllDone ps → Pieces ps
   stray : FirstRefused unknown ps → Pieces ps
-  spoilt : FirstRefused bad ps → Pieces ps
+  spoilt : (flaw : Flaw) → FirstRefused (bad flaw) ps → Pieces ps
 
 ahead : {way : List ℕ → Single} (p : List ℕ) (ps : List (List ℕ)) → (x : Action) × (single p ≡ done x) → FirstRefused way ps → FirstRefused way (p ∷ ps)
 unfolding AllDone
@@ -98,11 +100,11 @@ which [] = all tt
 which (p ∷ ps) = go (single p) refl (which ps)
   where
     go : (v : Single) → single p ≡ v → Pieces ps → Pieces (p ∷ ps)
-    go (bad name) e x = spoilt (here p ps name e)
+    go (bad flaw name) e x = spoilt flaw (here p ps name e)
     go (unknown name) e x = stray (here p ps name e)
     go (done y) e (all a) = all ((y, e), a)
     go (done y) e (stray x) = stray (ahead p ps (y, e) x)
-    go (done y) e (spoilt x) = spoilt (ahead p ps (y, e) x)
+    go (done y) e (spoilt flaw x) = spoilt flaw (ahead p ps (y, e) x)
 
 -- ---- past the gate
 
@@ -117,9 +119,9 @@ module _ (s : List ℕ) (m : ℕ) where
   unfolding actionsOf
   stray-is x = rw (first-refused unknown-way parts x)
 
-  pub spoilt-is : (x : FirstRefused bad (pieces (normalised s))) → roomed m (actionsOf s) ≡ refuses (badArgument (length (x .passed)) (x .name))
+  pub spoilt-is : (flaw : Flaw) (x : FirstRefused (bad flaw) (pieces (normalised s))) → roomed m (actionsOf s) ≡ refuses (badArgument flaw (length (x .passed)) (x .name))
   unfolding actionsOf
-  spoilt-is x = rw (first-refused bad-way parts x)
+  spoilt-is flaw x = rw (first-refused (bad-way flaw) parts x)
 
   read-is : (a : AllDone (pieces (normalised s))) → roomed m (actionsOf s) ≡ roomed m (reads (given (pieces (normalised s)) a))
   unfolding actionsOf
@@ -131,11 +133,13 @@ module _ (s : List ℕ) (m : ℕ) where
   pub roomy-is : (a : AllDone (pieces (normalised s))) → length (pieces (normalised s)) ≤ roomFor actionWords m → roomed m (actionsOf s) ≡ reads (laidOut (given (pieces (normalised s)) a))
   roomy-is a h = read-is a ∙ rw (le-ltb (roomFor actionWords m) (length (given parts a)) (omega (arith, given-count parts a)))
 
-  -- one of four, and the number of each
+  -- one of six, and the number of each
   abbrev rows : List Rows.Row
   rows =
       row 5 (FirstRefused unknown parts)
-      ∷ row 6 (FirstRefused bad parts)
+      ∷ row 10 (FirstRefused (bad Flaw.Absent) parts)
+      ∷ row 11 (FirstRefused (bad Flaw.Unreadable) parts)
+      ∷ row 12 (FirstRefused (bad Flaw.TooLarge) parts)
       ∷ row 4 (AllDone parts × (roomFor actionWords m < length parts))
       ∷ row 0 (AllDone parts × (length parts ≤ roomFor actionWords m))
       ∷ []
@@ -145,17 +149,23 @@ module _ (s : List ℕ) (m : ℕ) where
   one = go (which parts)
     where
       by : AllDone parts → (t : Bool) → ltb (roomFor actionWords m) (length parts) ≡ t → OneOf rows
-      by a true e = inr (inr (inl (a, ltb-true (roomFor actionWords m) (length parts) e)))
-      by a false e = inr (inr (inr (inl (a, ltb-false (roomFor actionWords m) (length parts) e))))
+      by a true e = inr (inr (inr (inr (inl (a, ltb-true (roomFor actionWords m) (length parts) e)))))
+      by a false e = inr (inr (inr (inr (inr (inl (a, ltb-false (roomFor actionWords m) (length parts) e))))))
 
       go : Pieces parts → OneOf rows
       go (all a) = by a (ltb (roomFor actionWords m) (length parts)) refl
       go (stray x) = inl x
-      go (spoilt x) = inr (inl x)
+      go (spoilt Flaw.Absent x) = inr (inl x)
+      go (spoilt Flaw.Unreadable x) = inr (inr (inl x))
+      go (spoilt Flaw.TooLarge x) = inr (inr (inr (inl x)))
 
   numbered : Numbered (numberOf past) rows
   unfolding Numbered
-  numbered = (λ x. ap numberOf (stray-is x), (λ x. ap numberOf (spoilt-is x), (λ p. ap numberOf (crowded-is (p .0) (p .1)), (λ p. ap numberOf (roomy-is (p .0) (p .1)), tt))))
+  numbered =
+      let bad-is : (flaw : Flaw) → FirstRefused (bad flaw) parts → numberOf past ≡ flawNumber flaw = λ flaw x. ap numberOf (spoilt-is flaw x) in (
+        λ x. ap numberOf (stray-is x),
+        (bad-is Flaw.Absent, (bad-is Flaw.Unreadable, (bad-is Flaw.TooLarge, (λ p. ap numberOf (crowded-is (p .0) (p .1)), (λ p. ap numberOf (roomy-is (p .0) (p .1)), tt))))),
+      )
 
   exact : (n k : ℕ) → Exactly (numberOf (actionsOutcome s n k m)) (gated s (min n k) (length s) rows)
   unfolding actionsOutcome differ absent behind
@@ -173,8 +183,10 @@ pub record Numbers (s text text′ work work′ records records′ : List ℕ) (
   pub number-3 : (answerGiven r .number ≡ 3) ↔ Shortened s (min (length text) (length work)) (length s)
   -- 5: none is, and the first piece that gives no action has a name that is none.
   pub number-5 : (answerGiven r .number ≡ 5) ↔ (Opened s (min (length text) (length work)) (length s) × FirstRefused unknown (pieces (normalised s)))
-  -- 6: the same, with an argument that the action does not take.
-  pub number-6 : (answerGiven r .number ≡ 6) ↔ (Opened s (min (length text) (length work)) (length s) × FirstRefused bad (pieces (normalised s)))
+  -- 10, 11 and 12: the same, with an argument that is not there, that says no number, or that says one past its width.
+  pub number-10 : (answerGiven r .number ≡ 10) ↔ (Opened s (min (length text) (length work)) (length s) × FirstRefused (bad Flaw.Absent) (pieces (normalised s)))
+  pub number-11 : (answerGiven r .number ≡ 11) ↔ (Opened s (min (length text) (length work)) (length s) × FirstRefused (bad Flaw.Unreadable) (pieces (normalised s)))
+  pub number-12 : (answerGiven r .number ≡ 12) ↔ (Opened s (min (length text) (length work)) (length s) × FirstRefused (bad Flaw.TooLarge) (pieces (normalised s)))
   -- 4: every piece gives an action, and there are more than records fit.
   pub number-4 : (answerGiven r .number ≡ 4)
       ↔ (Opened s (min (length text) (length work)) (length s) × (AllDone (pieces (normalised s)) × (roomFor actionWords (length records) < length (pieces (normalised s)))))
@@ -195,7 +207,9 @@ module _ {s text text′ work work′ records records′ : List ℕ} {r : Answer
         number-2 = rw number-is (e .1 .0);
         number-3 = rw number-is (e .1 .1 .0);
         number-5 = rw number-is (e .1 .1 .1 .0);
-        number-6 = rw number-is (e .1 .1 .1 .1 .0);
-        number-4 = rw number-is (e .1 .1 .1 .1 .1 .0);
-        number-0 = rw number-is (e .1 .1 .1 .1 .1 .1 .0);
+        number-10 = rw number-is (e .1 .1 .1 .1 .0);
+        number-11 = rw number-is (e .1 .1 .1 .1 .1 .0);
+        number-12 = rw number-is (e .1 .1 .1 .1 .1 .1 .0);
+        number-4 = rw number-is (e .1 .1 .1 .1 .1 .1 .1 .0);
+        number-0 = rw number-is (e .1 .1 .1 .1 .1 .1 .1 .1 .0);
       }

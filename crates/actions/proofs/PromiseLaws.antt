@@ -12,6 +12,7 @@ use Rattle.lent.specs.Buffers.{padded, stored, storedEach}
 use Rattle.lent.specs.Gates.{gateOf}
 use Rattle.lent.specs.Endings.{starts}
 use Rattle.lent.specs.Table.{Refusal, unknownAction, badArgument, Outcome, refuses, reads, Filled, givenBy, textBy, recordsBy}
+use Rattle.lent.specs.declared.refusing.Flaw.{Flaw}
 use Rattle.lent.specs.declared.gating.Gate.{Gate}
 use Rattle.lent.specs.declared.gating.Gate.the-variants as Gate
 use Rattle.lent.proofs.GateLaws.{open-is}
@@ -132,9 +133,9 @@ module _ (s text work records : List ℕ) {shorter : ℕ} {g : Gate} (m : shorte
     unfolding actionsOf
     stopped-met refusal x y = parse-met (refuses (refusal (x .named))) (x .first) y
 
-    pub actions-bad : {text′ records′ : List ℕ} (piece : ℕ) {name : ℕ} → Stopped (badArgument piece) (normalised s) text text′ records records′ name
-        → ParseActions s text text′ work work′ records records′ (Answer.BadArgument piece name)
-    actions-bad piece x = stopped-met (badArgument piece) x (record { answer = rw (x .counted); texts = x .written; words = x .cleared })
+    pub actions-bad : {text′ records′ : List ℕ} (flaw : Flaw) (piece : ℕ) {name : ℕ} → Stopped (badArgument flaw piece) (normalised s) text text′ records records′ name
+        → ParseActions s text text′ work work′ records records′ (Answer.BadArgument flaw piece name)
+    actions-bad flaw piece x = stopped-met (badArgument flaw piece) x (record { answer = rw (x .counted); texts = x .written; words = x .cleared })
 
     pub actions-unknown : {text′ records′ : List ℕ} (piece : ℕ) {name : ℕ} → Stopped (unknownAction piece) (normalised s) text text′ records records′ name
         → ParseActions s text text′ work work′ records records′ (Answer.UnknownAction piece name)

@@ -1,4 +1,4 @@
--- The order of checks in worked calls: 3 before any piece, 5 and 6 before 4, and room for exactly the records.
+-- The order of checks in worked calls: 3 before any piece, 5 and 10 to 12 before 4, and room for exactly the records.
 use mathlib.Core.Path.{_≡_, refl}
 use Prim.Native.Nat.{ℕ}
 use Prim.Native.String.{String}
@@ -40,6 +40,19 @@ scratch-short = refl
 pub room-last : Gives "deny,bogus" 10 10 0 (given 5 (1 ∷ 5 ∷ []))
 unfolding Gives
 room-last = refl
+
+-- and so does a bad argument, in 6's form: the piece and the length of the action's name
+pub absent-last : Gives "deny,SKIPAFTER" 14 14 0 (given 10 (1 ∷ 9 ∷ []))
+unfolding Gives
+absent-last = refl
+
+pub unreadable-last : Gives "deny,id:" 8 8 0 (given 11 (1 ∷ 2 ∷ []))
+unfolding Gives
+unreadable-last = refl
+
+pub large-last : Gives "deny,phase:256" 14 14 0 (given 12 (1 ∷ 5 ∷ []))
+unfolding Gives
+large-last = refl
 
 -- a setvar alone asks for 3 bytes more than the input
 pub alone-exact : GivesAlone "a" 4 6 (given 0 (1 ∷ 4 ∷ []))

@@ -4,6 +4,7 @@ use Prim.Native.String.{String}
 use mathlib.Core.List.{List, [], _∷_}
 use Rattle.ascii.specs.Text.{bytes}
 use Rattle.lent.specs.Table.{Refusal, unknownAction, badArgument, Outcome, refuses, reads}
+use Rattle.lent.specs.declared.refusing.Flaw.the-variants as Flaw
 use Rattle.single_action.specs.Actions.{absent, present, Action, action, numbered, worded}
 use Rattle.single_action.specs.Cases.{Says}
 use Rattle.actions.specs.Normal.{modeAfter, textGiven, textHeld, normalisedFrom, normalised}
@@ -26,7 +27,7 @@ Refuses s f = Comes s (refuses f)
 -- ---- document 01
 
 -- P: a number keeps its marks, and is none
-pub phase-marked : Refuses "phase:'2'" (badArgument 0 (bytes "phase"))
+pub phase-marked : Refuses "phase:'2'" (badArgument Flaw.Unreadable 0 (bytes "phase"))
 unfolding Comes
 phase-marked = refl
 
@@ -50,7 +51,11 @@ pub id-most : Reads "id:18446744073709551615" (numbered 11 18446744073709551615 
 unfolding Comes
 id-most = refl
 
-pub id-over : Refuses "id:18446744073709551616" (badArgument 0 (bytes "id"))
+pub id-absent : Refuses "log,id" (badArgument Flaw.Absent 1 (bytes "id"))
+unfolding Comes
+id-absent = refl
+
+pub id-over : Refuses "id:18446744073709551616" (badArgument Flaw.TooLarge 0 (bytes "id"))
 unfolding Comes
 id-over = refl
 

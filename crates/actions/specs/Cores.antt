@@ -9,7 +9,7 @@ use Rattle.ascii.specs.Choice.{pick}
 use Rattle.lent.specs.Sizes.{actionWords}
 use Rattle.lent.specs.Buffers.{stored, storedEach}
 use Rattle.lent.specs.Endings.{starts}
-use Rattle.lent.specs.Table.{Given, given, shortBuffer, refused, refusedText, refusedRecords, Outcome, refuses, reads}
+use Rattle.lent.specs.Table.{Given, given, flawOf, shortBuffer, refused, refusedText, refusedRecords, Outcome, refuses, reads}
 use Rattle.single_action.specs.Actions.{Action}
 use Rattle.actions.specs.Normal.{normalised}
 use Rattle.actions.specs.Pieces.{pieces}
@@ -42,13 +42,13 @@ abbrev pub coreGiven : ℕ → Outcome (List Action) → Given
 coreGiven offset (refuses f) = refused f
 coreGiven offset (reads xs) = given 0 (length xs ∷ (offset + length (texts xs)) ∷ [])
 
--- The answer for a number and its values: 0, 5 and 6 are a list's, and 3 is that it does not place.
+-- The answer for a number and its values: 0, 5 and 10 to 12 are a list's, and 3 is that it does not place.
 abbrev pub reachedFrom : Given → Reached
 reachedFrom g =
     pick (eqb (g .number) 0) (Read (getD (g .values) 0 0) (getD (g .values) 1 0))
+    (pick (eqb (g .number) 3) Unfit
     (pick (eqb (g .number) 5) (Unknown (getD (g .values) 0 0) (getD (g .values) 1 0))
-    (pick (eqb (g .number) 6) (Bad (getD (g .values) 0 0) (getD (g .values) 1 0))
-    Unfit))
+    (Bad (flawOf (g .number)) (getD (g .values) 0 0) (getD (g .values) 1 0))))
 
 -- The text buffer afterwards: the texts at the offset, or what the refusal's row states.
 abbrev pub coreText : ℕ → List ℕ → Outcome (List Action) → List ℕ

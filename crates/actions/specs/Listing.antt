@@ -43,7 +43,7 @@ pub record Stopped (refusal : List ℕ → Refusal) (s text text′ records reco
 -- The loop starts where it may, so that it is never unfit.
 abbrev pub Listed : List ℕ → ℕ → ℕ → List ℕ → List ℕ → List ℕ → List ℕ → Reached → Type 0
 Listed s offset place text text′ records records′ (Read count used) = ReadAll s offset place text text′ records records′ count used
-Listed s offset place text text′ records records′ (Bad piece name) = Stopped (badArgument piece) s text text′ records records′ name
+Listed s offset place text text′ records records′ (Bad flaw piece name) = Stopped (badArgument flaw piece) s text text′ records records′ name
 Listed s offset place text text′ records records′ (Unknown piece name) = Stopped (unknownAction piece) s text text′ records records′ name
 Listed s offset place text text′ records records′ Unfit = ⊥
 

@@ -14,7 +14,7 @@ actionThen a (reads xs) = reads (a ∷ xs)
 -- Piece k before those after it: the `?` of parse_actions, so that the first refusal is the answer.
 abbrev pub singleThen : ℕ → Single → Outcome (List Action) → Outcome (List Action)
 singleThen k (done a) o = actionThen a o
-singleThen k (bad name) o = refuses (badArgument k name)
+singleThen k (bad flaw name) o = refuses (badArgument flaw k name)
 singleThen k (unknown name) o = refuses (unknownAction k name)
 
 -- The actions of pieces that are counted from k: the calls of parse_single_action in parse_actions.

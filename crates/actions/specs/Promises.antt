@@ -8,7 +8,7 @@ use Rattle.ascii.specs.Choice.{pick}
 use Rattle.lent.specs.Sizes.{actionWords, roomFor}
 use Rattle.lent.specs.Buffers.{padded}
 use Rattle.lent.specs.Gates.{gateOf}
-use Rattle.lent.specs.Table.{Given, given, tooLong, notAscii, shortBuffer, noRoom, refused, Outcome, refuses, reads, pastGate, Filled, givenBy, textBy, recordsBy}
+use Rattle.lent.specs.Table.{Given, given, flawNumber, tooLong, notAscii, shortBuffer, noRoom, refused, Outcome, refuses, reads, pastGate, Filled, givenBy, textBy, recordsBy}
 use Rattle.lent.specs.declared.gating.Gate.{Gate}
 use Rattle.lent.specs.declared.gating.Gate.the-variants.{Open, TooLong, NotAscii, Short}
 use Rattle.records.specs.Codes.{setVarCode}
@@ -27,7 +27,7 @@ answerGiven Answer.TooLong = refused tooLong
 answerGiven (Answer.NotAscii place) = refused (notAscii place)
 answerGiven Answer.Short = refused shortBuffer
 answerGiven (Answer.UnknownAction piece name) = given 5 (piece ∷ name ∷ [])
-answerGiven (Answer.BadArgument piece name) = given 6 (piece ∷ name ∷ [])
+answerGiven (Answer.BadArgument flaw piece name) = given (flawNumber flaw) (piece ∷ name ∷ [])
 answerGiven (Answer.NoRoom needed) = refused (noRoom needed)
 
 -- Actions laid out: the count of records and the length of the texts, the texts, and the records' words.
@@ -45,7 +45,7 @@ roomed m (reads xs) = pick (ltb (roomFor actionWords m) (length xs)) (refuses (n
 abbrev pub actionsGate : List ℕ → ℕ → ℕ → Gate
 actionsGate s n k = gateOf s (min n k) (length s)
 
--- What a call of parse_actions comes to, with m words of records lent: the gate, 5 or 6 at the first bad piece, and then 4.
+-- What a call of parse_actions comes to, with m words of records lent: the gate, 5 or 10 to 12 at the first bad piece, and then 4.
 unfoldable pub actionsOutcome : List ℕ → ℕ → ℕ → ℕ → Outcome Filled
 actionsOutcome s n k m = pastGate (actionsGate s n k) (roomed m (actionsOf s))
 

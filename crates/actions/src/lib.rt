@@ -4,6 +4,7 @@ mod lists;
 mod normalising;
 mod writing;
 
+use lent::Flaw;
 pub use lists::parse_actions;
 pub use lists::parse_setvar;
 pub use lists::read_actions;
@@ -13,7 +14,10 @@ pub use normalising::normalise;
 // The paper's numbers, by name; `name` is the length of the name that the text buffer starts with.
 pub enum Answer {
     // 0: the count of records, and the length of the texts
-    Read { count: usize, text: usize },
+    Read {
+        count: usize,
+        text: usize,
+    },
     // 1
     TooLong,
     // 2: the place of the first byte past ASCII
@@ -21,9 +25,16 @@ pub enum Answer {
     // 3
     Short,
     // 5
-    UnknownAction { piece: usize, name: usize },
-    // 6
-    BadArgument { piece: usize, name: usize },
+    UnknownAction {
+        piece: usize,
+        name: usize,
+    },
+    // 10 to 12
+    BadArgument {
+        flaw: Flaw,
+        piece: usize,
+        name: usize,
+    },
     // 4: the records needed
     NoRoom(usize),
 }
@@ -31,10 +42,20 @@ pub enum Answer {
 // What a normalised text comes to that is read into buffers from an offset and a count of records on.
 pub enum Reached {
     // how many records, and the offset past the last text
-    Read { count: usize, offset: usize },
-    // 5 and 6: the piece, and the length of its name
-    Unknown { piece: usize, name: usize },
-    Bad { piece: usize, name: usize },
+    Read {
+        count: usize,
+        offset: usize,
+    },
+    // 5 and 10 to 12: the piece, and the length of its name
+    Unknown {
+        piece: usize,
+        name: usize,
+    },
+    Bad {
+        flaw: Flaw,
+        piece: usize,
+        name: usize,
+    },
     // it may not be read from there: `lent::starts` is false
     Unfit,
 }

@@ -71,9 +71,13 @@ fn write_actions(
                     at += lent::ACTION_WORDS;
                     count += 1;
                 }
-                Verdict::Bad(row) => {
+                Verdict::Bad { flaw, row } => {
                     let name = refuse_row(row, text, records);
-                    return Reached::Bad { piece: count, name };
+                    return Reached::Bad {
+                        flaw,
+                        piece: count,
+                        name,
+                    };
                 }
                 Verdict::Unknown(name) => {
                     refuse_name(&piece[..name], text, records);
@@ -152,7 +156,7 @@ pub fn parse_actions(
     }
     let n = fill_scratch(input, scratch);
     match write_actions(&scratch[..n], text, 0, records, 0) {
-        Reached::Bad { piece, name } => Answer::BadArgument { piece, name },
+        Reached::Bad { flaw, piece, name } => Answer::BadArgument { flaw, piece, name },
         Reached::Unknown { piece, name } => Answer::UnknownAction { piece, name },
         Reached::Read { count, offset } => finish(text, offset, records, count),
         // not past the gate

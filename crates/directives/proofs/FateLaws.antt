@@ -46,7 +46,7 @@ module _ (s : List ℕ) (m : Lent) where
     long : limit < length s → Fate (shut tooLong)
     high : (p : ℕ) → length s ≤ limit → FirstAt s p → Fate (shut (notAscii p))
     short : Shortened s (least m) (length s) → Fate (shut shortBuffer)
-    -- 5 to 8 and 13 to 15: the first in text order
+    -- 5, 7, 8 and 10 to 15: the first in text order
     fault : (f : Fault) → Opened s (least m) (length s) → Faulty (endIn s) (itemsOf s) f → Fate (faulty f)
     -- 4
     crowded : (ds : List Directive) → Read ds → Crowded m ds → Fate (overfull (length ds) (listedCounts ds) (actionCounts ds))

@@ -163,7 +163,7 @@ ActionsFit n (refuses f) = length (nameLeft f) ≤ n
 weaker : (m n c : ℕ) (o : Outcome (List Action)) → m ≤ n → c ≤ n → Actions.Fits m o → Counted 0 c o → ActionsFit n o
 weaker m n c (reads xs) h l k r = (omega arith, omega arith)
 weaker m n c (refuses (named noAction p name)) h l k r = omega arith
-weaker m n c (refuses (named noArgument p name)) h l k r = omega arith
+weaker m n c (refuses (named (noArgument flaw) p name)) h l k r = omega arith
 weaker m n c (refuses (named noVariable p name)) h l k r = absurd r
 weaker m n c (refuses tooLong) h l k r = absurd r
 weaker m n c (refuses (notAscii p)) h l k r = absurd r

@@ -27,6 +27,7 @@ use Rattle.actions.specs.declared.normalising.Normal.the-variants as Normal
 use Rattle.actions.proofs.normalising.Normal as normal
 use Rattle.actions.proofs.NormalLaws.{normalised-length}
 use Rattle.actions.proofs.CountLaws.{Counted, actions-counted}
+use Rattle.actions.proofs.CoreLaws.{bad-back}
 use Rattle.directives.specs.Directives.{within}
 use Rattle.directives.specs.Steps.{Laid, withActions, AddsActions, ListLeft, ListRead}
 use Rattle.directives.specs.declared.ArgumentFault.the-variants.{BadArgument, UnknownAction}
@@ -110,7 +111,7 @@ module _ (scratch : List ℕ) (first past used place : ℕ) (text : List ℕ) (e
       left-is : (o : Outcome (List Action)) → Counted 0 (length (pieces (normalised s))) o → ActionsFit (length s) o → text₂ ≡ coreText used text₁ o → ListLeft o used text text₂
       left-is (reads xs) k f t = laid-over laid-there (subst (λ (l : List ℕ). Laid text₁ l used (texts xs)) (sym t) (laid-stored text₁ used (texts xs) (omega (arith, f .0, set-inside, list-long))))
       left-is (refuses (named noAction p name)) k f t = t ∙ ap (λ (i : ℕ). padded i name) set-long
-      left-is (refuses (named noArgument p name)) k f t = t ∙ ap (λ (i : ℕ). padded i name) set-long
+      left-is (refuses (named (noArgument flaw) p name)) k f t = t ∙ ap (λ (i : ℕ). padded i name) set-long
       left-is (refuses (named noVariable p name)) k f t = absurd k
       left-is (refuses tooLong) k f t = absurd k
       left-is (refuses (notAscii p)) k f t = absurd k
@@ -131,7 +132,7 @@ module _ (scratch : List ℕ) (first past used place : ℕ) (text : List ℕ) (e
 abbrev pub judgedBy : Entry → ℕ → Reached → Judged
 judgedBy e line (Read count offset) = Judged.Good (withActions e count offset)
 judgedBy e line (Unknown piece name) = Judged.Bad (Fault.Argument UnknownAction line piece name)
-judgedBy e line (Bad piece name) = Judged.Bad (Fault.Argument BadArgument line piece name)
+judgedBy e line (Bad flaw piece name) = Judged.Bad (Fault.Argument (BadArgument flaw) line piece name)
 judgedBy e line Unfit = Judged.Good e
 
 module _ (e : Entry) (line place : ℕ) (s text text′ records records′ : List ℕ) (r : Reached) (x : ListRead s (e .text) place text text′ records records′ r) where
@@ -146,8 +147,8 @@ module _ (e : Entry) (line place : ℕ) (s text text′ records records′ : Lis
       go (reads xs) k p l w = subst (λ (b : Reached). Adds (reads xs) (judgedBy e line b)) (sym p) (record { is = refl; laid = l; records-are = w })
       go (refuses (named noAction i name)) k p l w =
           subst (λ (b : Reached). Adds (refuses (named noAction i name)) (judgedBy e line b)) (sym p) (record { told = _; is = refl; faulted = record { given = refl; left = l } })
-      go (refuses (named noArgument i name)) k p l w =
-          subst (λ (b : Reached). Adds (refuses (named noArgument i name)) (judgedBy e line b)) (sym p) (record { told = _; is = refl; faulted = record { given = refl; left = l } })
+      go (refuses (named (noArgument flaw) i name)) k p l w =
+          subst (λ (b : Reached). Adds (refuses (named (noArgument flaw) i name)) (judgedBy e line b)) (bad-back flaw i (length name) ∙ sym p) (record { told = _; is = refl; faulted = record { given = refl; left = l } })
       go (refuses (named noVariable i name)) k p l w = absurd k
       go (refuses tooLong) k p l w = absurd k
       go (refuses (notAscii i)) k p l w = absurd k

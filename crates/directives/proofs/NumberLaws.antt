@@ -1,4 +1,4 @@
--- A fault's number is one of 5 to 8 and 13 to 15: no argument is refused for anything else.
+-- A fault's number is 5, 7, 8 or one of 10 to 15: no argument is refused for anything else.
 use mathlib.Core.Path.{_≡_, subst}
 use mathlib.Core.Logic.{_⊎_, inl, inr}
 use Prim.Native.Nat.{ℕ, _≤_}
@@ -9,6 +9,7 @@ use lib.ListN.{length}
 use lib.Dec.{ltb}
 use Rattle.ascii.specs.Choice.{pick}
 use Rattle.lent.specs.Table.{Refusal, tooLong, notAscii, shortBuffer, noRoom, named, noAction, noArgument, noVariable, unknownOperator, badCursor, Outcome, refuses, reads}
+use Rattle.lent.specs.declared.refusing.Flaw.the-variants as Flaw
 use Rattle.lexer.specs.declared.Cursor.{Cursor}
 use Rattle.lexer.specs.Tokens.{reading}
 use Rattle.lexer.specs.Layout.{textOf}
@@ -144,7 +145,7 @@ directives-known s f e =
 
 -- ---- the number
 
-pub fault-number : (f : Fault) → KnownFault f → ((5 ≤ faultGiven f .number) × (faultGiven f .number ≤ 8)) ⊎ ((13 ≤ faultGiven f .number) × (faultGiven f .number ≤ 15))
+pub fault-number : (f : Fault) → KnownFault f → (faultGiven f .number ≡ 5) ⊎ ((7 ≤ faultGiven f .number) × (faultGiven f .number ≤ 15))
 fault-number (wrongCount l) h = inr (omega arith, omega arith)
 fault-number (untaken l) h = inr (omega arith, omega arith)
 fault-number (stopped l) h = inr (omega arith, omega arith)
@@ -152,8 +153,10 @@ fault-number (within l tooLong) h = absurd h
 fault-number (within l (notAscii p)) h = absurd h
 fault-number (within l shortBuffer) h = absurd h
 fault-number (within l (noRoom n)) h = absurd h
-fault-number (within l (named noAction p name)) h = inl (omega arith, omega arith)
-fault-number (within l (named noArgument p name)) h = inl (omega arith, omega arith)
-fault-number (within l (named noVariable p name)) h = inl (omega arith, omega arith)
-fault-number (within l (unknownOperator p n)) h = inl (omega arith, omega arith)
+fault-number (within l (named noAction p name)) h = inl (omega arith)
+fault-number (within l (named (noArgument Flaw.Absent) p name)) h = inr (omega arith, omega arith)
+fault-number (within l (named (noArgument Flaw.Unreadable) p name)) h = inr (omega arith, omega arith)
+fault-number (within l (named (noArgument Flaw.TooLarge) p name)) h = inr (omega arith, omega arith)
+fault-number (within l (named noVariable p name)) h = inr (omega arith, omega arith)
+fault-number (within l (unknownOperator p n)) h = inr (omega arith, omega arith)
 fault-number (within l badCursor) h = absurd h

@@ -6,7 +6,9 @@ use mathlib.Core.Logic.{_↔_, inl, inr}
 use Prim.Native.Nat.{ℕ, _≤_, _<_}
 use lib.ListN.{length}
 use Rattle.lent.specs.Sizes.{limit}
-use Rattle.lent.specs.Table.{Given, Naming, tooLong, notAscii, shortBuffer, noRoom, named, noAction, noArgument, noVariable, unknownOperator, badCursor}
+use Rattle.lent.specs.Table.{Given, Naming, flawNumber, tooLong, notAscii, shortBuffer, noRoom, named, noAction, noArgument, noVariable, unknownOperator, badCursor}
+use Rattle.lent.specs.declared.refusing.Flaw.{Flaw}
+use Rattle.lent.specs.declared.refusing.Flaw.the-variants as Flaw
 use Rattle.lent.specs.Admission.{FirstAt, Opened, Shortened}
 use Rattle.lent.proofs.RowLaws as Rows
 use Rattle.lent.proofs.RowLaws.{row, OneOf, Numbered, Exactly, absent, differ, behind, gated, exactly}
@@ -50,9 +52,11 @@ module _ (s : List ℕ) (m : Lent) where
   rows =
       row 13 (Lined s wrongCount)
       ∷ row 5 (Named s noAction)
-      ∷ row 6 (Named s noArgument)
       ∷ row 7 (Named s noVariable)
       ∷ row 8 (Unoperated s)
+      ∷ row 10 (Named s (noArgument Flaw.Absent))
+      ∷ row 11 (Named s (noArgument Flaw.Unreadable))
+      ∷ row 12 (Named s (noArgument Flaw.TooLarge))
       ∷ row 14 (Lined s untaken)
       ∷ row 15 (Early s)
       ∷ row 4 (Faultless s (Crowded m))
@@ -72,10 +76,12 @@ module _ (s : List ℕ) (m : Lent) where
       kinds : (f : Fault) → KnownFault f → Opened s (least m) (length s) → FirstBad (itemsOf s) f → OneOf all
       kinds (wrongCount l) k h x = inr (inr (inr (inl (h, (l, x)))))
       kinds (within l (named noAction p name)) k h x = inr (inr (inr (inr (inl (h, (l, (p, (name, x))))))))
-      kinds (within l (named noArgument p name)) k h x = inr (inr (inr (inr (inr (inl (h, (l, (p, (name, x)))))))))
-      kinds (within l (named noVariable p name)) k h x = inr (inr (inr (inr (inr (inr (inl (h, (l, (p, (name, x))))))))))
-      kinds (within l (unknownOperator p n)) k h x = inr (inr (inr (inr (inr (inr (inr (inl (h, (l, (p, (n, x)))))))))))
-      kinds (untaken l) k h x = inr (inr (inr (inr (inr (inr (inr (inr (inl (h, (l, x))))))))))
+      kinds (within l (named noVariable p name)) k h x = inr (inr (inr (inr (inr (inl (h, (l, (p, (name, x)))))))))
+      kinds (within l (unknownOperator p n)) k h x = inr (inr (inr (inr (inr (inr (inl (h, (l, (p, (n, x))))))))))
+      kinds (within l (named (noArgument Flaw.Absent) p name)) k h x = inr (inr (inr (inr (inr (inr (inr (inl (h, (l, (p, (name, x)))))))))))
+      kinds (within l (named (noArgument Flaw.Unreadable) p name)) k h x = inr (inr (inr (inr (inr (inr (inr (inr (inl (h, (l, (p, (name, x))))))))))))
+      kinds (within l (named (noArgument Flaw.TooLarge) p name)) k h x = inr (inr (inr (inr (inr (inr (inr (inr (inr (inl (h, (l, (p, (name, x)))))))))))))
+      kinds (untaken l) k h x = inr (inr (inr (inr (inr (inr (inr (inr (inr (inr (inl (h, (l, x))))))))))))
       kinds (stopped l) k h x = absurd (not-stopped (x .this) l (x .fault))
       kinds (within l tooLong) k h x = absurd k
       kinds (within l (notAscii p)) k h x = absurd k
@@ -85,15 +91,15 @@ module _ (s : List ℕ) (m : Lent) where
 
       faults : (f : Fault) → Opened s (least m) (length s) → Faulty (endIn s) (itemsOf s) f → OneOf all
       faults f h (in-item x) = kinds f (directives-known s f (text-faulty s f .1 (in-item x))) h x
-      faults f h (at-end ds a e) = inr (inr (inr (inr (inr (inr (inr (inr (inr (inl (h, (ds, (a, end-bad (length s) (reading s .stop) f .0 e .0))))))))))))
+      faults f h (at-end ds a e) = inr (inr (inr (inr (inr (inr (inr (inr (inr (inr (inr (inl (h, (ds, (a, end-bad (length s) (reading s .stop) f .0 e .0))))))))))))))
 
       go : (o : Outcome) → Fate s m o → OneOf all
       go (shut _) (long h) = inl h
       go (shut _) (high p h k) = inr (inl (h, (p, k)))
       go (shut _) (short h) = inr (inr (inl h))
       go (faulty _) (fault f h k) = faults f h k
-      go (overfull _ _ _) (crowded ds r e) = inr (inr (inr (inr (inr (inr (inr (inr (inr (inr (inl (r .opened, (ds, (r .each, (r .whole, e))))))))))))))
-      go (filled _) (roomy ds r e) = inr (inr (inr (inr (inr (inr (inr (inr (inr (inr (inr (inl (r .opened, (ds, (r .each, (r .whole, e)))))))))))))))
+      go (overfull _ _ _) (crowded ds r e) = inr (inr (inr (inr (inr (inr (inr (inr (inr (inr (inr (inr (inl (r .opened, (ds, (r .each, (r .whole, e))))))))))))))))
+      go (filled _) (roomy ds r e) = inr (inr (inr (inr (inr (inr (inr (inr (inr (inr (inr (inr (inr (inl (r .opened, (ds, (r .each, (r .whole, e)))))))))))))))))
 
   numbered : Numbered (number (outcomeOn s m)) all
   unfolding Numbered behind
@@ -108,20 +114,26 @@ module _ (s : List ℕ) (m : Lent) where
           (
             λ h. at (within (h .1 .0) (named noAction (h .1 .1 .0) (h .1 .1 .1 .0))) (h .0) (h .1 .1 .1 .1),
             (
-              λ h. at (within (h .1 .0) (named noArgument (h .1 .1 .0) (h .1 .1 .1 .0))) (h .0) (h .1 .1 .1 .1),
+              λ h. at (within (h .1 .0) (named noVariable (h .1 .1 .0) (h .1 .1 .1 .0))) (h .0) (h .1 .1 .1 .1),
               (
-                λ h. at (within (h .1 .0) (named noVariable (h .1 .1 .0) (h .1 .1 .1 .0))) (h .0) (h .1 .1 .1 .1),
+                λ h. at (within (h .1 .0) (unknownOperator (h .1 .1 .0) (h .1 .1 .1 .0))) (h .0) (h .1 .1 .1 .1),
                 (
-                  λ h. at (within (h .1 .0) (unknownOperator (h .1 .1 .0) (h .1 .1 .1 .0))) (h .0) (h .1 .1 .1 .1),
+                  at-flaw Flaw.Absent,
                   (
-                    λ h. at (untaken (h .1 .0)) (h .0) (h .1 .1),
+                    at-flaw Flaw.Unreadable,
                     (
-                      λ h. is (faulty (stopped (reading s .stop .line .0))) (fault _ (h .0) (at-end (h .1 .0) (h .1 .1 .0) (end-bad (length s) (reading s .stop) _ .1 (h .1 .1 .1, refl)))),
+                      at-flaw Flaw.TooLarge,
                       (
-                        λ h. is (overfull _ _ _) (crowded (h .1 .0) (read (h .0) (h .1 .0) (h .1 .1 .0) (h .1 .1 .1 .0)) (h .1 .1 .1 .1)),
+                        λ h. at (untaken (h .1 .0)) (h .0) (h .1 .1),
                         (
-                          λ h. is (filled _) (roomy (h .1 .0) (read (h .0) (h .1 .0) (h .1 .1 .0) (h .1 .1 .1 .0)) (h .1 .1 .1 .1)),
-                          tt,
+                          λ h. is (faulty (stopped (reading s .stop .line .0))) (fault _ (h .0) (at-end (h .1 .0) (h .1 .1 .0) (end-bad (length s) (reading s .stop) _ .1 (h .1 .1 .1, refl)))),
+                          (
+                            λ h. is (overfull _ _ _) (crowded (h .1 .0) (read (h .0) (h .1 .0) (h .1 .1 .0) (h .1 .1 .1 .0)) (h .1 .1 .1 .1)),
+                            (
+                              λ h. is (filled _) (roomy (h .1 .0) (read (h .0) (h .1 .0) (h .1 .1 .0) (h .1 .1 .1 .0)) (h .1 .1 .1 .1)),
+                              tt,
+                            ),
+                          ),
                         ),
                       ),
                     ),
@@ -140,6 +152,9 @@ module _ (s : List ℕ) (m : Lent) where
 
       at : (f : Fault) → Opened s (least m) (length s) → FirstBad (itemsOf s) f → number (outcomeOn s m) ≡ number (faulty f)
       at f h k = is (faulty f) (fault f h (in-item k))
+
+      at-flaw : (flaw : Flaw) → Opened s (least m) (length s) × Named s (noArgument flaw) → number (outcomeOn s m) ≡ flawNumber flaw
+      at-flaw flaw h = at (within (h .1 .0) (named (noArgument flaw) (h .1 .1 .0) (h .1 .1 .1 .0))) (h .0) (h .1 .1 .1 .1)
 
       read : Opened s (least m) (length s) → (ds : List Directive) → AllGood (itemsOf s) ds → length s ≤ reading s .stop .place → Read s m ds
       read h ds a w = record { opened = h; each = a; whole = w }
@@ -160,12 +175,15 @@ pub record Numbers (s : List ℕ) (m : Lent) (r : Answer) : Type 0 where
   pub number-3 : (answerGiven r .number ≡ 3) ↔ Shortened s (least m) (length s)
   -- 13: none of these, and the first bad item in text order is a directive with a wrong count of arguments.
   pub number-13 : (answerGiven r .number ≡ 13) ↔ (Opened s (least m) (length s) × Lined s wrongCount)
-  -- 5, 6, 7: the first bad item has a name that is no action's, an argument that its action does not take, a name that is no variable's.
+  -- 5, 7: the first bad item has a name that is no action's, a name that is no variable's.
   pub number-5 : (answerGiven r .number ≡ 5) ↔ (Opened s (least m) (length s) × Named s noAction)
-  pub number-6 : (answerGiven r .number ≡ 6) ↔ (Opened s (least m) (length s) × Named s noArgument)
   pub number-7 : (answerGiven r .number ≡ 7) ↔ (Opened s (least m) (length s) × Named s noVariable)
   -- 8: it has a name that is no operator's.
   pub number-8 : (answerGiven r .number ≡ 8) ↔ (Opened s (least m) (length s) × Unoperated s)
+  -- 10, 11, 12: it has an action whose argument is not there, says no number, says one past its width.
+  pub number-10 : (answerGiven r .number ≡ 10) ↔ (Opened s (least m) (length s) × Named s (noArgument Flaw.Absent))
+  pub number-11 : (answerGiven r .number ≡ 11) ↔ (Opened s (least m) (length s) × Named s (noArgument Flaw.Unreadable))
+  pub number-12 : (answerGiven r .number ≡ 12) ↔ (Opened s (least m) (length s) × Named s (noArgument Flaw.TooLarge))
   -- 14: the first bad item is a Word or QuotedString that no directive takes.
   pub number-14 : (answerGiven r .number ≡ 14) ↔ (Opened s (least m) (length s) × Lined s untaken)
   -- 15: every item is good, and reading stopped before the end.
@@ -184,20 +202,22 @@ module _ {s : List ℕ} {m m′ : Lent} {r : Answer} (x : Directives s m m′ r)
   directives-numbers = named (exact s m)
     where
       named : Exactly (number s m (outcomeOn s m)) (all s m) → Numbers s m r
-      named (a, (b, (c, (d, (e, (f, (g, (h, (i, (j, (k, (l, z)))))))))))) =
+      named (a, (b, (c, (d, (e, (f, (g, (h, (i, (j, (k, (l, (o, (p, z)))))))))))))) =
           record {
             number-1 = rw number-is a;
             number-2 = rw number-is b;
             number-3 = rw number-is c;
             number-13 = rw number-is d;
             number-5 = rw number-is e;
-            number-6 = rw number-is f;
-            number-7 = rw number-is g;
-            number-8 = rw number-is h;
-            number-14 = rw number-is i;
-            number-15 = rw number-is j;
-            number-4 = rw number-is k;
-            number-0 = rw number-is l;
+            number-7 = rw number-is f;
+            number-8 = rw number-is g;
+            number-10 = rw number-is h;
+            number-11 = rw number-is i;
+            number-12 = rw number-is j;
+            number-14 = rw number-is k;
+            number-15 = rw number-is l;
+            number-4 = rw number-is o;
+            number-0 = rw number-is p;
           }
 
   -- What is given and left with each: by the row that holds, number and values and every byte of lent memory.

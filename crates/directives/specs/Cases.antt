@@ -80,7 +80,7 @@ unfolding Comes
 commented = refl
 
 -- the open mark swallows the line feed: one action `id` whose argument has a line feed
-pub open-mark : Refuses "SecAction \"id:1\nSecAction log" 6 (1 ∷ 0 ∷ 2 ∷ []) "id"
+pub open-mark : Refuses "SecAction \"id:1\nSecAction log" 11 (1 ∷ 0 ∷ 2 ∷ []) "id"
 unfolding Comes
 open-mark = refl
 

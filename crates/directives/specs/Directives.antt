@@ -56,7 +56,7 @@ pub data Fault : Type 0 where
   untaken : ℕ → Fault
   -- 15: the stop's line
   stopped : ℕ → Fault
-  -- 5 to 8: the directive's line, and what its argument is refused for
+  -- 5, 7, 8 and 10 to 12: the directive's line, and what its argument is refused for
   within : ℕ → Refusal → Fault
 
 pub data Result (A : Type 0) : Type 0 where

@@ -8,7 +8,7 @@ use lib.Dec.{ltb}
 use Rattle.ascii.specs.Choice.{pick, or}
 use Rattle.lent.specs.Sizes.{variableWords, actionWords, directiveWords, roomFor}
 use Rattle.lent.specs.Gates.{gateOf}
-use Rattle.lent.specs.Table.{Given, given, tooLong, notAscii, shortBuffer, refused}
+use Rattle.lent.specs.Table.{Given, given, flawNumber, tooLong, notAscii, shortBuffer, refused}
 use Rattle.directives.specs.Directives.{Directive, Result, bad, good, directives}
 use Rattle.directives.specs.Layout.{reached, texts, listedCounts, actionCounts, directivesFrom, variablesFrom, actionsFrom}
 use Rattle.directives.specs.Table.{Filled, Outcome, faulty, overfull, filled, pastGate, givenBy, textBy, recordsBy, scratchBy}
@@ -31,7 +31,7 @@ abbrev pub argumentNumber : ArgumentFault → ℕ
 argumentNumber UnknownVariable = 7
 argumentNumber UnknownOperator = 8
 argumentNumber UnknownAction = 5
-argumentNumber BadArgument = 6
+argumentNumber (BadArgument flaw) = flawNumber flaw
 
 -- Number and values of each.
 abbrev pub faultTold : Fault → Given
@@ -43,7 +43,7 @@ abbrev pub leavesName : ArgumentFault → Bool
 leavesName UnknownVariable = true
 leavesName UnknownOperator = false
 leavesName UnknownAction = true
-leavesName BadArgument = true
+leavesName (BadArgument flaw) = true
 
 abbrev pub naming : Fault → Bool
 naming (Fault.Line why line) = false

@@ -19,7 +19,7 @@ pub record Filled : Type 0 where
 pub data Outcome : Type 0 where
   -- 1 to 3
   shut : Refusal → Outcome
-  -- 5 to 8 and 13 to 15
+  -- 5, 7, 8 and 10 to 15
   faulty : Fault → Outcome
   -- 4: directive, variable and action records needed
   overfull : ℕ → ℕ → ℕ → Outcome
@@ -45,7 +45,7 @@ givenBy (faulty f) = faultGiven f
 givenBy (overfull d v a) = given 4 (d ∷ v ∷ a ∷ [])
 givenBy (filled x) = given 0 (x .values)
 
--- The name that stands in text after 5, 6 and 7; for all others none.
+-- The name that stands in text after 5, 7 and 10 to 12; for all others none.
 abbrev pub nameLeft : Refusal → List ℕ
 nameLeft tooLong = []
 nameLeft (notAscii place) = []

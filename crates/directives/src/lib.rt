@@ -7,6 +7,7 @@ mod shapes;
 mod tokens;
 mod writing;
 
+use lent::Flaw;
 pub use reading::directives;
 
 // Why a line is refused.
@@ -19,11 +20,11 @@ pub enum LineFault {
 
 // Why an argument of a directive is refused.
 pub enum ArgumentFault {
-    // 7, 8, 5 and 6
+    // 7, 8, 5, and 10 to 12
     UnknownVariable,
     UnknownOperator,
     UnknownAction,
-    BadArgument,
+    BadArgument(Flaw),
 }
 
 // What no directive is read for.
@@ -57,7 +58,7 @@ pub enum Answer {
     NotAscii(usize),
     // 3
     Short,
-    // 5 to 8 and 13 to 15
+    // 5, 7, 8 and 10 to 15
     Refused(Fault),
     // 4: the records needed of each kind
     NoRoom {

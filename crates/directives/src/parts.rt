@@ -212,8 +212,9 @@ pub fn add_actions(
         Reached::Unknown { piece, name } => {
             Judged::Bad(in_argument(ArgumentFault::UnknownAction, line, piece, name))
         }
-        Reached::Bad { piece, name } => {
-            Judged::Bad(in_argument(ArgumentFault::BadArgument, line, piece, name))
+        Reached::Bad { flaw, piece, name } => {
+            let why = ArgumentFault::BadArgument(flaw);
+            Judged::Bad(in_argument(why, line, piece, name))
         }
         // it starts there
         Reached::Unfit => Judged::Good(e),

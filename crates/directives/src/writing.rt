@@ -46,7 +46,7 @@ fn leaves_name(why: ArgumentFault) -> bool
         ArgumentFault::UnknownVariable => true,
         ArgumentFault::UnknownOperator => false,
         ArgumentFault::UnknownAction => true,
-        ArgumentFault::BadArgument => true,
+        ArgumentFault::BadArgument(_) => true,
     }
 }
 

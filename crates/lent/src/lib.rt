@@ -3,6 +3,7 @@ mod ending;
 mod filling;
 mod gating;
 mod packing;
+mod refusing;
 
 pub use ending::finish;
 pub use ending::refuse_piece;
@@ -18,6 +19,8 @@ pub use packing::room;
 pub use packing::span;
 pub use packing::span_length;
 pub use packing::span_offset;
+pub use refusing::Flaw;
+pub use refusing::flaw_number;
 
 // The longest input, in bytes.
 pub const LIMIT: usize = 16384;

@@ -39,7 +39,9 @@ fn print_answer(answer: Answer, text: &[u8], records: &[u64]) {
         Answer::NotAscii(place) => print_refusal(2, place),
         Answer::Short => print_refusal(3, 0),
         Answer::UnknownAction { piece, name } => print_refused(5, piece, name, text),
-        Answer::BadArgument { piece, name } => print_refused(6, piece, name, text),
+        Answer::BadArgument { flaw, piece, name } => {
+            print_refused(lent::flaw_number(flaw), piece, name, text)
+        }
         Answer::NoRoom(needed) => print_refusal(4, needed),
     }
 }

@@ -26,14 +26,16 @@ fn line_number(why: LineFault) -> u64 {
     }
 }
 
-// A name stands in the text after 5, 6 and 7 alone.
+// A name stands in the text after 5, 7 and 10 to 12 alone.
 fn print_fault(fault: Fault, text: &[u8]) {
     match fault {
         Fault::Line { why, line } => print_refusal(line_number(why), line),
         Fault::Argument { why, line, at, len } => match why {
             ArgumentFault::UnknownVariable => print_three(7, line, at, len, text, len),
             ArgumentFault::UnknownAction => print_three(5, line, at, len, text, len),
-            ArgumentFault::BadArgument => print_three(6, line, at, len, text, len),
+            ArgumentFault::BadArgument(flaw) => {
+                print_three(lent::flaw_number(flaw), line, at, len, text, len)
+            }
             ArgumentFault::UnknownOperator => print_three(8, line, at, len, text, 0),
         },
     }

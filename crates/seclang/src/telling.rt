@@ -153,7 +153,9 @@ pub fn tell_acted(answer: Acted, values: &mut [u64]) -> u64
         Acted::NotAscii(place) => tell_one(2, place, values),
         Acted::Short => tell_one(3, 0, values),
         Acted::UnknownAction { piece, name } => tell_two(5, piece, name, values),
-        Acted::BadArgument { piece, name } => tell_two(6, piece, name, values),
+        Acted::BadArgument { flaw, piece, name } => {
+            tell_two(lent::flaw_number(flaw), piece, name, values)
+        }
         Acted::NoRoom(needed) => tell_one(4, needed, values),
     }
 }
@@ -217,7 +219,7 @@ fn argument_number(why: ArgumentFault) -> u64
         ArgumentFault::UnknownVariable => 7,
         ArgumentFault::UnknownOperator => 8,
         ArgumentFault::UnknownAction => 5,
-        ArgumentFault::BadArgument => 6,
+        ArgumentFault::BadArgument(flaw) => lent::flaw_number(flaw),
     }
 }
 

@@ -22,13 +22,14 @@ use Rattle.ascii.specs.declared.numbers.Number.the-variants.{Value, Unreadable,
 use Rattle.ascii.specs.declared.trimming.Part.{Part}
 use Rattle.ascii.proofs.numbers.Number.{the-type as number-type}
 use Rattle.ascii.proofs.SplitLaws.{first-fits, split-halves, split-whole}
-use Rattle.names.specs.Severities.{severityCode}
+use Rattle.lent.specs.declared.refusing.Flaw.{Flaw}
+use Rattle.lent.specs.declared.refusing.Flaw.the-variants as Flaw
 use Rattle.ascii.proofs.SameLaws.{never}
 use Rattle.records.specs.Codes.{transformationCode}
 use Rattle.single_action.specs.Marks.{stripped}
 use Rattle.single_action.specs.Setvar.{setvar}
 use Rattle.single_action.specs.Table.{Rule, plain, wanted, unmarked, upTo, severity, equation, expiry, setting, Row, largest, rowAt, Placed}
-use Rattle.single_action.specs.Actions.{Action, action, numbered, absent, present, done, bad, unknown, numberBy, lookupBy, severityBy, bothBy, seconds, expiryBy, setvarAction, withText, withNone, named, transforms, single}
+use Rattle.single_action.specs.Actions.{Action, action, numbered, absent, present, done, bad, unknown, numberBy, orWord, severityNumber, bothBy, seconds, expiryBy, setvarAction, withText, withNone, named, transforms, single}
 use Rattle.single_action.specs.Plans.{cut, Planned, textPlan, Judged, Stripped}
 use Rattle.single_action.specs.declared.plans.Plan.{Plan}
 use Rattle.single_action.specs.declared.plans.Origin.the-variants.{Absent, Copied}
@@ -40,8 +41,8 @@ module _ (s : List ℕ) where
   pub done-plan : {p : Plan} {x : Action} → Planned s p x → Judged s (Done p) (done x)
   done-plan h = record { means = ap done (h .means); sound = h .inside }
 
-  pub bad-row : (row : ℕ) → row < 41 → Judged s (Bad row) (bad (rowAt row .name))
-  bad-row row h = record { means = refl; sound = h }
+  pub bad-row : (flaw : Flaw) (row : ℕ) → row < 41 → Judged s (Bad flaw row) (bad flaw (rowAt row .name))
+  bad-row flaw row h = record { means = refl; sound = h }
 
   pub number-plan : (code n : ℕ) → Planned s (textPlan code n Absent) (numbered code n)
   number-plan code n = record { means = refl; inside = record { a = tt; b = tt; c = tt } }
@@ -49,11 +50,10 @@ module _ (s : List ℕ) where
   pub copied-plan : (code n f p : ℕ) (t : List ℕ) → f ≤ p → p ≤ length s → cut s f p ≡ t → Planned s (textPlan code n (Copied f p)) (action code n (present t) absent)
   copied-plan code n f p t o h e = record { means = rw e; inside = record { a = (o, h); b = tt; c = tt } }
 
--- a severity that is no number is a word
-pub severity-word : (r : Row) (t : List ℕ) (n : Number) → OneOf (1 ∷ 2 ∷ []) (tagOf number-type n) → severityBy r t n ≡ lookupBy r (severityCode t)
-severity-word r t (Value v) h = absurd (miss (1 ∷ 2 ∷ []) 0 tt h)
-severity-word r t Unreadable h = refl
-severity-word r t TooLarge h = refl
+-- a severity, by what is read of it as a number
+pub severity-read : (t : List ℕ) {n : Number} → unsignedBy (largest 8) t ≡ n → orWord n t ≡ severityNumber t
+unfolding severityNumber
+severity-read t e = rw e
 
 -- ---- split at the first `=`
 
@@ -116,7 +116,7 @@ module _ {s : List ℕ} {from : ℕ} {r : Row} {code : ℕ} {rule : Rule} (k : R
   text-number w = rw (sym (k .ruled) ∙ w, cut-end s from)
 
   pub text-severity : rule ≡ severity → {p : Part} → Stripped s from p
-      → withText (r .rule) r (drop from s) ≡ severityBy r (cut s (p .first) (p .past)) (unsignedBy (largest 8) (cut s (p .first) (p .past)))
+      → withText (r .rule) r (drop from s) ≡ numberBy r (severityNumber (cut s (p .first) (p .past)))
   unfolding withText
   text-severity w m = rw (sym (k .ruled) ∙ w, m .text)
 
@@ -149,7 +149,7 @@ module _ (s : List ℕ) (r : Row) {code : ℕ} {rule : Rule} (e : code ≡ r .co
 abbrev pub refusing : List ℕ
 refusing = 1 ∷ 3 ∷ 4 ∷ 5 ∷ 7 ∷ []
 
-pub none-bad : (k : Rule) (r : Row) → OneOf refusing (tagOf rule-type k) → withNone k r ≡ bad (r .name)
+pub none-bad : (k : Rule) (r : Row) → OneOf refusing (tagOf rule-type k) → withNone k r ≡ bad Flaw.Absent (r .name)
 unfolding withNone
 none-bad plain r h = absurd (miss refusing 0 tt h)
 none-bad wanted r h = refl

@@ -12,3 +12,4 @@ pub mod JudgedLaws
 pub mod SaidLaws
 pub mod MadeLaws
 pub mod WidthLaws
+pub mod FlawLaws

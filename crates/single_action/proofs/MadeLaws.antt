@@ -19,7 +19,7 @@ use Rattle.records.specs.Decoding.{formed}
 use Rattle.single_action.specs.Marks.{stripped}
 use Rattle.single_action.specs.Setvar.{SetValue, text, int, increment, decrement, delete, macro, Setvar, setvar}
 use Rattle.single_action.specs.Table.{Rule, plain, wanted, unmarked, upTo, severity, equation, expiry, setting, Row, largest, rows, found, find}
-use Rattle.single_action.specs.Actions.{Slot, absent, present, Action, worded, Single, done, bad, unknown, setvarAction, numberBy, lookupBy, severityBy, bothBy, expiryBy, withText, withNone, ruled, foundBy, named, splitBy, transforms, single}
+use Rattle.single_action.specs.Actions.{Slot, absent, present, Action, worded, Single, done, bad, unknown, setvarAction, numberBy, severityNumber, bothBy, expiryBy, withText, withNone, ruled, foundBy, named, splitBy, transforms, single}
 
 -- what a rule makes
 abbrev pub shapeFor : Rule → Shape
@@ -46,7 +46,7 @@ suits = refl
 -- where an action comes out, it is formed
 abbrev pub Fine : Single → Type 0
 Fine (done x) = formed x ≡ true
-Fine (bad n) = Unit {0}
+Fine (bad f n) = Unit {0}
 Fine (unknown n) = Unit {0}
 
 module _ (r : Row) where
@@ -55,17 +55,6 @@ module _ (r : Row) where
   fine-number (Value n) e = rw e
   fine-number Unreadable e = tt
   fine-number TooLarge e = tt
-
-  fine-lookup : (n : Lookup) → shapeOf (r .code) ≡ K.bare → Fine (lookupBy r n)
-  unfolding formed
-  fine-lookup (Code n) e = rw e
-  fine-lookup Unknown e = tt
-
-  fine-severity : (t : List ℕ) (n : Number) → shapeOf (r .code) ≡ K.bare → Fine (severityBy r t n)
-  unfolding formed
-  fine-severity t (Value n) e = rw e
-  fine-severity t Unreadable e = fine-lookup (severityCode t) e
-  fine-severity t TooLarge e = fine-lookup (severityCode t) e
 
   fine-both : (s : Split) → shapeOf (r .code) ≡ K.two → formed (bothBy (r .code) s) ≡ true
   unfolding formed
@@ -92,7 +81,7 @@ module _ (r : Row) where
   fine-text wanted t e = rw e
   fine-text unmarked t e = rw e
   fine-text (upTo most) t e = fine-number (unsignedBy most t) e
-  fine-text severity t e = fine-severity (stripped t) (unsignedBy (largest 8) (stripped t)) e
+  fine-text severity t e = fine-number (severityNumber (stripped t)) e
   fine-text equation t e = fine-both (split 61 t) e
   fine-text expiry t e = fine-expiry (split 61 t) e
   fine-text setting t e = fine-value (setvar t) (setvar t .value) refl e

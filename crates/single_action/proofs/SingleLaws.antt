@@ -24,7 +24,7 @@ use Rattle.records.specs.Codes.{transformationCode}
 use Rattle.single_action.specs.Marks.{stripped}
 use Rattle.single_action.specs.Setvar.{setvar}
 use Rattle.single_action.specs.Table.{Rule, plain, wanted, unmarked, upTo, severity, equation, expiry, setting, Row, largest, rows, Found, found, missing, find}
-use Rattle.single_action.specs.Actions.{absent, present, slotText, actionText, worded, Single, done, bad, unknown, textOf, setvarAction, numberBy, lookupBy, severityBy, bothBy, expiryBy, withText, withNone, foundBy, named, splitBy, single}
+use Rattle.single_action.specs.Actions.{absent, present, slotText, actionText, worded, Single, done, bad, unknown, textOf, setvarAction, numberBy, severityNumber, bothBy, expiryBy, withText, withNone, foundBy, named, splitBy, single}
 use Rattle.single_action.proofs.MarkLaws.{stripped-short}
 use Rattle.single_action.proofs.SetvarLaws.{setvar-short}
 
@@ -33,7 +33,7 @@ use Rattle.single_action.proofs.SetvarLaws.{setvar-short}
 -- what a piece writes, its texts or the name that is refused, is at most n bytes long
 abbrev pub Within : ℕ → Single → Type 0
 Within n (done x) = length (actionText x) ≤ n
-Within n (bad name) = length name ≤ n
+Within n (bad flaw name) = length name ≤ n
 Within n (unknown name) = length name ≤ n
 
 -- the texts of a setvar
@@ -50,17 +50,6 @@ unfolding actionText
 number-within n r (Value v) h = omega arith
 number-within n r Unreadable h = h
 number-within n r TooLarge h = h
-
-lookup-within : (n : ℕ) (r : Row) (x : Lookup) → length (r .name) ≤ n → Within n (lookupBy r x)
-unfolding actionText
-lookup-within n r (Code v) h = omega arith
-lookup-within n r Unknown h = h
-
-severity-within : (n : ℕ) (r : Row) (t : List ℕ) (x : Number) → length (r .name) ≤ n → Within n (severityBy r t x)
-unfolding actionText
-severity-within n r t (Value v) h = omega arith
-severity-within n r t Unreadable h = lookup-within n r (severityCode t) h
-severity-within n r t TooLarge h = lookup-within n r (severityCode t) h
 
 both-within : (k : ℕ) (x : Split) → length (actionText (bothBy k x)) ≤ spread x
 unfolding actionText
@@ -83,7 +72,7 @@ with-text plain r t n h k = omega arith
 with-text wanted r t n h k = omega (arith, worded-within (r .code) t)
 with-text unmarked r t n h k = omega (arith, worded-within (r .code) (stripped t), stripped-short t)
 with-text (upTo most) r t n h k = number-within n r (unsignedBy most t) h
-with-text severity r t n h k = severity-within n r (stripped t) (unsignedBy (largest 8) (stripped t)) h
+with-text severity r t n h k = number-within n r (severityNumber (stripped t)) h
 with-text equation r t n h k = omega (arith, both-within (r .code) (split 61 t), split-spread 61 t)
 with-text expiry r t n h k = omega (arith, expiry-within (r .code) (split 61 t), split-spread 61 t)
 with-text setting r t n h k = omega (arith, setvar-text (r .code) t)

@@ -19,14 +19,14 @@ use Rattle.single_action.proofs.RowLaws.{member, covers, between, is-be
 -- what comes of n bytes: an action of two at least
 abbrev pub Wide : ℕ → Single → Type 0
 Wide n (done x) = 2 ≤ n
-Wide n (bad name) = Unit {0}
+Wide n (bad flaw name) = Unit {0}
 Wide n (unknown name) = Unit {0}
 
 no-row : every (covers (between 0 1) []) 41 ≡ true
 unfolding every covers member rows bytes
 no-row = refl
 
-no-name : (name : List ℕ) → length name ≤ 1 → find rows (lowered name) ≡ missing
+pub no-name : (name : List ℕ) → length name ≤ 1 → find rows (lowered name) ≡ missing
 no-name name h =
     placed-by (between 0 1) [] name no-row (is-between 0 1 (length name) (omega arith) h) 41 (none-among tt) .none (omega arith)
 
@@ -36,7 +36,7 @@ unnamed n name arg h = rw (no-name name h) tt
 
 wide-enough : (n : ℕ) (x : Single) → 2 ≤ n → Wide n x
 wide-enough n (done x) h = h
-wide-enough n (bad name) h = tt
+wide-enough n (bad flaw name) h = tt
 wide-enough n (unknown name) h = tt
 
 pub wide : (p : List ℕ) → Wide (length p) (single p)

@@ -10,6 +10,8 @@ use Rattle.ascii.specs.Numbers.{unsignedBy}
 use Rattle.ascii.specs.Splits.{Split, whole, halves, split}
 use Rattle.ascii.specs.declared.numbers.Number.{Number}
 use Rattle.ascii.specs.declared.numbers.Number.the-variants.{Value, Unreadable, TooLarge}
+use Rattle.lent.specs.declared.refusing.Flaw.{Flaw}
+use Rattle.lent.specs.declared.refusing.Flaw.the-variants as Flaw
 use Rattle.names.specs.declared.Lookup.{Lookup}
 use Rattle.names.specs.declared.Lookup.the-variants.{Code, Unknown}
 use Rattle.names.specs.Severities.{severityCode}
@@ -32,10 +34,10 @@ numbered k n = action k n absent absent
 abbrev pub worded : ℕ → List ℕ → Action
 worded k t = action k 0 (present t) absent
 
--- What one piece comes to: an action, or InvalidActionArgument or UnknownAction with the name.
+-- What one piece comes to: an action, or InvalidActionArgument, with why it is given, or UnknownAction, each with the name.
 pub data Single : Type 0 where
   done : Action → Single
-  bad : List ℕ → Single
+  bad : Flaw → List ℕ → Single
   unknown : List ℕ → Single
 
 -- The value kind: the variants of SetVarValue in their order, from 1.
@@ -69,22 +71,26 @@ textOf (macro t) = present t
 abbrev pub setvarAction : ℕ → Setvar → Action
 setvarAction k v = record { code = k; number = numberOf (v .value); a = present (v .name .collection); b = present (v .name .key); kind = kindOf (v .value); c = textOf (v .value) }
 
--- A number that was read, or 6: `parse().ok()` and `ok_or_else` of parse_single_action.
+-- A number that was read, or why it was not: `parse().ok()` and `ok_or_else` of parse_single_action.
 abbrev pub numberBy : Row → Number → Single
 numberBy r (Value n) = done (numbered (r .code) n)
-numberBy r Unreadable = bad (r .name)
-numberBy r TooLarge = bad (r .name)
+numberBy r Unreadable = bad Flaw.Unreadable (r .name)
+numberBy r TooLarge = bad Flaw.TooLarge (r .name)
 
--- A severity word that was found, or 6.
-abbrev pub lookupBy : Row → Lookup → Single
-lookupBy r (Code n) = done (numbered (r .code) n)
-lookupBy r Unknown = bad (r .name)
+-- The number that a severity word stands for; one that is not in the table says none.
+abbrev pub wordNumber : Lookup → Number
+wordNumber (Code n) = Value n
+wordNumber Unknown = Unreadable
+
+-- What is read of it, or else its word: only a text that says no number is looked for among the words.
+abbrev pub orWord : Number → List ℕ → Number
+orWord (Value n) t = Value n
+orWord Unreadable t = wordNumber (severityCode t)
+orWord TooLarge t = TooLarge
 
 -- parse_severity: a number of the width u8 first, then the words.
-abbrev pub severityBy : Row → List ℕ → Number → Single
-severityBy r t (Value n) = done (numbered (r .code) n)
-severityBy r t Unreadable = lookupBy r (severityCode t)
-severityBy r t TooLarge = lookupBy r (severityCode t)
+unfoldable pub severityNumber : List ℕ → Number
+severityNumber t = orWord (unsignedBy (largest 8) t) t
 
 -- Both halves as texts, as for ctl and initcol in parse_single_action; without `=` the second one is empty.
 abbrev pub bothBy : ℕ → Split → Action
@@ -108,21 +114,21 @@ withText plain r t = done (numbered (r .code) 0)
 withText wanted r t = done (worded (r .code) t)
 withText unmarked r t = done (worded (r .code) (stripped t))
 withText (upTo most) r t = numberBy r (unsignedBy most t)
-withText severity r t = severityBy r (stripped t) (unsignedBy (largest 8) (stripped t))
+withText severity r t = numberBy r (severityNumber (stripped t))
 withText equation r t = done (bothBy (r .code) (split 61 t))
 withText expiry r t = done (expiryBy (r .code) (split 61 t))
 withText setting r t = done (setvarAction (r .code) (setvar t))
 
--- And where there is none: `unwrap_or_default` takes the empty text, and `ok_or_else` gives 6.
+-- And where there is none: `unwrap_or_default` takes the empty text, and `ok_or_else` gives the error.
 unfoldable pub withNone : Rule → Row → Single
 withNone plain r = done (numbered (r .code) 0)
-withNone wanted r = bad (r .name)
+withNone wanted r = bad Flaw.Absent (r .name)
 withNone unmarked r = done (worded (r .code) [])
-withNone (upTo most) r = bad (r .name)
-withNone severity r = bad (r .name)
-withNone equation r = bad (r .name)
+withNone (upTo most) r = bad Flaw.Absent (r .name)
+withNone severity r = bad Flaw.Absent (r .name)
+withNone equation r = bad Flaw.Absent (r .name)
 withNone expiry r = done (action (r .code) 0 (present []) absent)
-withNone setting r = bad (r .name)
+withNone setting r = bad Flaw.Absent (r .name)
 
 -- A row's rule on an argument that may be absent.
 abbrev pub ruled : Row → Slot → Single

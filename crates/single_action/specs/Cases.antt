@@ -8,16 +8,17 @@ use Rattle.ascii.specs.Fold.{lower, same}
 use Rattle.ascii.specs.Trim.{stripStart, stripEnd}
 use Rattle.ascii.specs.Numbers.{value, allDigits, digitsBy, unsignedBy, signedWord}
 use Rattle.ascii.specs.Splits.{split}
+use Rattle.lent.specs.declared.refusing.Flaw.the-variants as Flaw
 use Rattle.names.specs.Tables as N
 use Rattle.names.specs.Severities.{severities, severityCode}
 use Rattle.single_action.specs.Marks.{quotation, paired, unpaired}
 use Rattle.single_action.specs.Setvar.{SetValue, text, increment, decrement, delete, macro, setvarOf, varName, nameOf, hasMacro, plainValue, valueOf, setvarBare, setvar}
 use Rattle.single_action.specs.Table.{rows, find}
-use Rattle.single_action.specs.Actions.{absent, present, action, Single, done, bad, unknown, withText, withNone, named, single}
+use Rattle.single_action.specs.Actions.{absent, present, action, Single, done, bad, unknown, severityNumber, withText, withNone, named, single}
 
 -- What a piece comes to. To unfold it is to unfold every definition that a piece is read by.
 unfoldable pub Says : String → Single → Type 0
-unfolding bytes white digit lower same stripStart stripEnd value allDigits digitsBy unsignedBy signedWord N.find severities severityCode quotation paired unpaired split nameOf hasMacro plainValue valueOf setvarBare setvar rows find withText withNone named single
+unfolding bytes white digit lower same stripStart stripEnd value allDigits digitsBy unsignedBy signedWord N.find severities severityCode quotation paired unpaired split nameOf hasMacro plainValue valueOf setvarBare setvar rows find severityNumber withText withNone named single
 Says s x = single (bytes s) ≡ x
 
 -- What a setvar alone says: collection, key, value.
@@ -33,9 +34,51 @@ unfolding Says
 blank-name = refl
 
 -- the one spelling with a capital
-pub spelled : Says "SKIPAFTER" (bad (bytes "skipAfter"))
+pub spelled : Says "SKIPAFTER" (bad Flaw.Absent (bytes "skipAfter"))
 unfolding Says
 spelled = refl
+
+-- an argument, the empty one
+pub empty : Says "id:" (bad Flaw.Unreadable (bytes "id"))
+unfolding Says
+empty = refl
+
+pub sign-alone : Says "skip:+" (bad Flaw.Unreadable (bytes "skip"))
+unfolding Says
+sign-alone = refl
+
+-- a byte that is no digit, however large the digits are
+pub spoilt : Says "id:99999999999999999999x" (bad Flaw.Unreadable (bytes "id"))
+unfolding Says
+spoilt = refl
+
+-- a `-` is never read
+pub below : Says "status:-99999999999999999999" (bad Flaw.Unreadable (bytes "status"))
+unfolding Says
+below = refl
+
+-- and a `+` is no obstacle
+pub past-word : Says "id:+99999999999999999999" (bad Flaw.TooLarge (bytes "id"))
+unfolding Says
+past-word = refl
+
+pub past-width : Says "phase:256" (bad Flaw.TooLarge (bytes "phase"))
+unfolding Says
+past-width = refl
+
+-- marks are stripped first
+pub severity-large : Says "severity:'300'" (bad Flaw.TooLarge (bytes "severity"))
+unfolding Says
+severity-large = refl
+
+pub severity-empty : Says "severity:''" (bad Flaw.Unreadable (bytes "severity"))
+unfolding Says
+severity-empty = refl
+
+-- a word that is not in the table
+pub severity-none : Says "severity:fatal" (bad Flaw.Unreadable (bytes "severity"))
+unfolding Says
+severity-none = refl
 
 -- marks are kept before and behind `=`, and the seconds are unreadable
 pub expiry-marked : Says "expirevar:'a=5'" (done (action 25 0 (present (bytes "'a")) absent))

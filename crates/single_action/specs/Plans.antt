@@ -69,13 +69,13 @@ textPlan code number a = record { code = code; number = number; a = a; b = Absen
 -- What a verdict on s says.
 abbrev pub verdictSingle : List ℕ → Verdict → Single
 verdictSingle s (Done p) = done (planAction s p)
-verdictSingle s (Bad row) = bad (rowAt row .name)
+verdictSingle s (Bad flaw row) = bad flaw (rowAt row .name)
 verdictSingle s (Unknown n) = unknown (lowered (take n s))
 
 -- Its places lie in s, and its row in the table.
 abbrev pub Sound : List ℕ → Verdict → Type 0
 Sound s (Done p) = Inside s p
-Sound s (Bad row) = row < 41
+Sound s (Bad flaw row) = row < 41
 Sound s (Unknown n) = n ≤ length s
 
 -- A verdict on s says this of the piece.

@@ -1,4 +1,5 @@
 // An action by places: what its record will say, and where its texts stand in the piece, so that nothing is copied twice.
+use lent::Flaw;
 
 // Where a text of a record comes from.
 pub enum Origin {
@@ -25,8 +26,8 @@ pub struct Plan {
 // What one piece comes to.
 pub enum Verdict {
     Done(Plan),
-    // 6: the row of the table whose name it has
-    Bad(usize),
+    // 10 to 12: why, and the row of the table whose name it has
+    Bad { flaw: Flaw, row: usize },
     // 5: the length of its name
     Unknown(usize),
 }

@@ -3,10 +3,9 @@ ghost use mathlib.Core.Path.{_≡_};
 ghost use mathlib.Core.List.{List};
 ghost use Prim.Native.Nat.{ℕ, _≤_, _<_};
 ghost use lib.ListN.{length, drop};
-ghost use Rattle.ascii.specs.Numbers.{unsignedBy};
 ghost use Rattle.ascii.specs.Splits.{split};
-ghost use Rattle.single_action.specs.Table.{largest, rowAt};
-ghost use Rattle.single_action.specs.Actions.{numberBy, severityBy, bothBy, expiryBy, withText, withNone, transforms, single};
+ghost use Rattle.single_action.specs.Table.{rowAt};
+ghost use Rattle.single_action.specs.Actions.{numberBy, severityNumber, bothBy, expiryBy, withText, withNone, transforms, single};
 ghost use Rattle.single_action.specs.Plans.{textPlan, Planned, Judged};
 use crate::finding::row_of;
 use crate::marking::unmarked;
@@ -19,6 +18,7 @@ use crate::plans::Plan;
 use crate::plans::Verdict;
 use crate::settings::setvar_plan;
 use ascii::Number;
+use lent::Flaw;
 use names::Lookup;
 
 // A record with a number and at most one text.
@@ -35,29 +35,35 @@ fn text_plan(code: u64, number: u64, a: Origin) -> Plan
     }
 }
 
-// A number that was read, or 6. It is kept whole, at every width.
+// A number that was read, or why it was not. It is kept whole, at every width.
 fn number_verdict(row: usize, n: Number) -> Verdict
     requires { ⌜ row < 41 ⌝ }
     ensures { λ r. ⌜ ((s : List ℕ) → Judged s r (numberBy (rowAt row) n)) ⌝ }
 {
     match n {
         Number::Value(v) => Verdict::Done(text_plan(code_of(row), v, Origin::Absent)),
-        Number::Unreadable => Verdict::Bad(row),
-        Number::TooLarge => Verdict::Bad(row),
+        Number::Unreadable => Verdict::Bad {
+            flaw: Flaw::Unreadable,
+            row,
+        },
+        Number::TooLarge => Verdict::Bad {
+            flaw: Flaw::TooLarge,
+            row,
+        },
     }
 }
 
-// parse_severity: a number of the width u8 first, then the words.
-fn severity_verdict(row: usize, word: &[u8]) -> Verdict
-    requires { ⌜ row < 41 ⌝ }
-    ensures { λ r. ⌜ ((s : List ℕ) → Judged s r (severityBy (rowAt row) (now (word .entry)) (unsignedBy (largest 8) (now (word .entry))))) ⌝ }
+// parse_severity: a number of the width u8 first, then the words, where the text says no number.
+fn severity_number(text: &[u8]) -> Number
+    ensures { λ r. ⌜ r ≡ severityNumber (now (text .entry)) ⌝ }
 {
-    if let Number::Value(v) = ascii::unsigned(word, LARGEST_8) {
-        return Verdict::Done(text_plan(code_of(row), v, Origin::Absent));
-    }
-    match names::severity_code(word) {
-        Lookup::Code(v) => Verdict::Done(text_plan(code_of(row), v, Origin::Absent)),
-        Lookup::Unknown => Verdict::Bad(row),
+    match ascii::unsigned(text, LARGEST_8) {
+        Number::Value(v) => Number::Value(v),
+        Number::TooLarge => Number::TooLarge,
+        Number::Unreadable => match names::severity_code(text) {
+            Lookup::Code(v) => Number::Value(v),
+            Lookup::Unknown => Number::Unreadable,
+        },
     }
 }
 
@@ -127,7 +133,7 @@ fn with_text(row: usize, s: &[u8], from: usize) -> Verdict
             let part = unmarked(s, from);
             let first = part.first;
             let past = part.past;
-            severity_verdict(row, &s[first..past])
+            number_verdict(row, severity_number(&s[first..past]))
         }
         Rule::Equation => Verdict::Done(both_plan(s, from, code)),
         Rule::Expiry => Verdict::Done(expiry_plan(s, from, code)),
@@ -146,7 +152,10 @@ fn with_none(row: usize) -> Verdict
         Rule::Plain => Verdict::Done(text_plan(code, 0, Origin::Absent)),
         Rule::Unmarked => Verdict::Done(text_plan(code, 0, empty)),
         Rule::Expiry => Verdict::Done(text_plan(code, 0, empty)),
-        _ => Verdict::Bad(row),
+        _ => Verdict::Bad {
+            flaw: Flaw::Absent,
+            row,
+        },
     }
 }
 

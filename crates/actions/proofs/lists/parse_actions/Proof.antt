@@ -38,12 +38,12 @@ write-actions-requires c κs = open-starts (now (c .before .before .before .befo
 
 returns-4 : tie.Need-returns-4
 returns-4 c =
-    let x = rw (part-is (now (c .before .before .before .before .before .before .before .before .before .before .before .before .before .before .before .before .before .before .before .before .before .before .before .args .input)) (now (c .before .before .before .before .before .before .before .before .before .before .before .before .before .before .before .before .before .before .before .before .before .before .before .args .scratch)) (c .before .before .before .before .before .before .before .before .before .before .before .before .before .fill-scratch .ensures .0) (c .before .before .before .before .before .before .before .before .before .before .before .before .before .fill-scratch .ensures .1) (opened (c .before .before .before .before .before .before .before .before .before .before .before) .2)) at (rw (c .before .piece .given .1) at (c .before .before .before .before .before .before .before .write-actions .ensures)) in
-    actions-bad (now (c .before .before .before .before .before .before .before .before .before .before .before .before .before .before .before .before .before .before .before .before .before .before .before .args .input)) (now (c .before .before .before .before .before .before .before .before .before .before .before .before .before .before .before .before .before .before .before .before .before .before .before .args .text)) (now (c .before .before .before .before .before .before .before .before .before .before .before .before .before .before .before .before .before .before .before .before .before .before .before .args .scratch)) (now (c .before .before .before .before .before .before .before .before .before .before .before .before .before .before .before .before .before .before .before .before .before .before .before .args .records)) (c .before .before .before .before .before .before .before .before .before .before .before .before .before .before .before .before .before .before .shorter .ensures) (c .before .before .before .before .before .before .before .before .before .before .before .before .before .before .before .before .before .admit .ensures) (c .before .before .before .before .before .before .before .before .before .before .before .before .before .before .before .enum-told3 .given .1) (c .before .before .before .before .before .before .before .before .before .before .before .before .before .fill-scratch .ensures .0) _ x
+    let x = rw (part-is (now (c .before .before .before .before .before .before .before .before .before .before .before .before .before .before .before .before .before .before .before .before .before .before .before .args .input)) (now (c .before .before .before .before .before .before .before .before .before .before .before .before .before .before .before .before .before .before .before .before .before .before .before .args .scratch)) (c .before .before .before .before .before .before .before .before .before .before .before .before .before .fill-scratch .ensures .0) (c .before .before .before .before .before .before .before .before .before .before .before .before .before .fill-scratch .ensures .1) (opened (c .before .before .before .before .before .before .before .before .before .before .before) .2)) at (rw (c .before .flaw .given .1) at (c .before .before .before .before .before .before .before .write-actions .ensures)) in
+    actions-bad (now (c .before .before .before .before .before .before .before .before .before .before .before .before .before .before .before .before .before .before .before .before .before .before .before .args .input)) (now (c .before .before .before .before .before .before .before .before .before .before .before .before .before .before .before .before .before .before .before .before .before .before .before .args .text)) (now (c .before .before .before .before .before .before .before .before .before .before .before .before .before .before .before .before .before .before .before .before .before .before .before .args .scratch)) (now (c .before .before .before .before .before .before .before .before .before .before .before .before .before .before .before .before .before .before .before .before .before .before .before .args .records)) (c .before .before .before .before .before .before .before .before .before .before .before .before .before .before .before .before .before .before .shorter .ensures) (c .before .before .before .before .before .before .before .before .before .before .before .before .before .before .before .before .before .admit .ensures) (c .before .before .before .before .before .before .before .before .before .before .before .before .before .before .before .enum-told3 .given .1) (c .before .before .before .before .before .before .before .before .before .before .before .before .before .fill-scratch .ensures .0) _ _ x
 
 returns-5 : tie.Need-returns-5
 returns-5 c =
-    let x = rw (part-is (now (c .before .before .before .before .before .before .before .before .before .before .before .before .before .before .before .before .before .before .before .before .before .before .before .args .input)) (now (c .before .before .before .before .before .before .before .before .before .before .before .before .before .before .before .before .before .before .before .before .before .before .before .args .scratch)) (c .before .before .before .before .before .before .before .before .before .before .before .before .before .fill-scratch .ensures .0) (c .before .before .before .before .before .before .before .before .before .before .before .before .before .fill-scratch .ensures .1) (opened (c .before .before .before .before .before .before .before .before .before .before .before) .2)) at (rw (c .before .piece2 .given .1) at (c .before .before .before .before .before .before .before .write-actions .ensures)) in
+    let x = rw (part-is (now (c .before .before .before .before .before .before .before .before .before .before .before .before .before .before .before .before .before .before .before .before .before .before .before .args .input)) (now (c .before .before .before .before .before .before .before .before .before .before .before .before .before .before .before .before .before .before .before .before .before .before .before .args .scratch)) (c .before .before .before .before .before .before .before .before .before .before .before .before .before .fill-scratch .ensures .0) (c .before .before .before .before .before .before .before .before .before .before .before .before .before .fill-scratch .ensures .1) (opened (c .before .before .before .before .before .before .before .before .before .before .before) .2)) at (rw (c .before .piece .given .1) at (c .before .before .before .before .before .before .before .write-actions .ensures)) in
     actions-unknown (now (c .before .before .before .before .before .before .before .before .before .before .before .before .before .before .before .before .before .before .before .before .before .before .before .args .input)) (now (c .before .before .before .before .before .before .before .before .before .before .before .before .before .before .before .before .before .before .before .before .before .before .before .args .text)) (now (c .before .before .before .before .before .before .before .before .before .before .before .before .before .before .before .before .before .before .before .before .before .before .before .args .scratch)) (now (c .before .before .before .before .before .before .before .before .before .before .before .before .before .before .before .before .before .before .before .before .before .before .before .args .records)) (c .before .before .before .before .before .before .before .before .before .before .before .before .before .before .before .before .before .before .shorter .ensures) (c .before .before .before .before .before .before .before .before .before .before .before .before .before .before .before .before .before .admit .ensures) (c .before .before .before .before .before .before .before .before .before .before .before .before .before .before .before .enum-told3 .given .1) (c .before .before .before .before .before .before .before .before .before .before .before .before .before .fill-scratch .ensures .0) _ x
 
 returns-6 : tie.Need-returns-6

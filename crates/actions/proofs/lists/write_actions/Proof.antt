@@ -56,8 +56,8 @@ add-count c = let x = c .before .before .before .before .before .before .before 
 
 refuse-row-requires : tie.Need-refuse-row-requires Inv-loop μ-loop
 refuse-row-requires c κs =
-    let j = rw (c .before .before .before .row .given .1) at (c .before .before .before .before .before .read-single .ensures) in
-    row-fits (c .before .before .before .before .before .before .before .before .before .before .loop .inv) (c .before .before .before .before .before .before .before .before .before .before .before .before .before .before .pre) (c .before .before .before .before .before .before .before .before .before .part-end .result) (c .before .before .before .before .before .before .before .before .before .part-end .ensures) (now (c .before .before .before .before .before .before .before .trim .result)) (ap bytesOf (c .before .before .before .before .before .before .before .trim .ensures)) (c .before .before .before .before .before .before .if1 .taken) (c .before .before .before .row .given .0 .0) j
+    let j = rw (c .before .before .before .flaw .given .1) at (c .before .before .before .before .before .read-single .ensures) in
+    row-fits (c .before .before .before .before .before .before .before .before .before .before .loop .inv) (c .before .before .before .before .before .before .before .before .before .before .before .before .before .before .pre) (c .before .before .before .before .before .before .before .before .before .part-end .result) (c .before .before .before .before .before .before .before .before .before .part-end .ensures) (now (c .before .before .before .before .before .before .before .trim .result)) (ap bytesOf (c .before .before .before .before .before .before .before .trim .ensures)) (c .before .before .before .before .before .before .if1 .taken) (c .before .before .before .flaw .given .0 .0) (c .before .before .before .flaw .given .0 .1 .0) j
 
 same-length : tie.Need-same-length Inv-loop μ-loop
 same-length c = omega (arith, text-long (c .before .before .before .before .before .before .before .before .before .before .before .before .before .before .before .loop .inv .laid), c .before .before .before .before .refuse-row .kept)
@@ -67,9 +67,9 @@ same-length-2 c = omega (arith, records-long (c .before .before .before .before 
 
 returns : tie.Need-returns Inv-loop μ-loop
 returns c =
-    let j = rw (c .before .before .before .before .before .before .before .before .row .given .1) at (c .before .before .before .before .before .before .before .before .before .before .read-single .ensures) in
+    let j = rw (c .before .before .before .before .before .before .before .before .flaw .given .1) at (c .before .before .before .before .before .before .before .before .before .before .read-single .ensures) in
     let e = c .before .before .before .before .refuse-row .ensures in
-    stopped-bad (c .before .before .before .before .before .before .before .before .before .before .before .before .before .before .before .loop .inv) (c .before .before .before .before .before .before .before .before .before .before .before .before .before .before .before .before .before .before .before .pre) (c .before .before .before .before .before .before .before .before .before .before .before .before .before .before .part-end .result) (c .before .before .before .before .before .before .before .before .before .before .before .before .before .before .part-end .ensures) (now (c .before .before .before .before .before .before .before .before .before .before .before .before .trim .result)) (ap bytesOf (c .before .before .before .before .before .before .before .before .before .before .before .before .trim .ensures)) (c .before .before .before .before .before .before .before .before .before .before .before .if1 .taken) (c .before .before .before .before .before .before .before .before .row .given .0 .0) j (e .0) (e .1 .0) (e .1 .1)
+    stopped-bad (c .before .before .before .before .before .before .before .before .before .before .before .before .before .before .before .loop .inv) (c .before .before .before .before .before .before .before .before .before .before .before .before .before .before .before .before .before .before .before .pre) (c .before .before .before .before .before .before .before .before .before .before .before .before .before .before .part-end .result) (c .before .before .before .before .before .before .before .before .before .before .before .before .before .before .part-end .ensures) (now (c .before .before .before .before .before .before .before .before .before .before .before .before .trim .result)) (ap bytesOf (c .before .before .before .before .before .before .before .before .before .before .before .before .trim .ensures)) (c .before .before .before .before .before .before .before .before .before .before .before .if1 .taken) (c .before .before .before .before .before .before .before .before .flaw .given .0 .0) (c .before .before .before .before .before .before .before .before .flaw .given .0 .1 .0) j (e .0) (e .1 .0) (e .1 .1)
 
 slice-aggregate-refuse-name : tie.Need-slice-aggregate-refuse-name Inv-loop μ-loop
 slice-aggregate-refuse-name c =

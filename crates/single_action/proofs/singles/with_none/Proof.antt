@@ -1,4 +1,5 @@
 -- Each rule by its own law.
+use Rattle.lent.specs.declared.refusing.Flaw.the-variants as Flaw
 use Rattle.single_action.specs.Table.{rowAt}
 use Rattle.single_action.proofs.JudgedLaws.{none-plain, none-unmarked, none-expiry, none-bad, bad-row}
 use borrow.Author.Needs.{needs}
@@ -18,7 +19,7 @@ returns-4 : tie.Need-returns-4
 returns-4 c =
     λ s.
     let r = c .before .before .before .args .row in
-    rw (none-bad (rowAt r .rule) (rowAt r) (rw (c .before .rule-of .ensures) at (c .match .keys4))) (bad-row s r (c .before .before .before .pre))
+    rw (none-bad (rowAt r .rule) (rowAt r) (rw (c .before .rule-of .ensures) at (c .match .keys4))) (bad-row s Flaw.Absent r (c .before .before .before .pre))
 
 pub with-none-spec : {M : Type 1} → statement M
 with-none-spec =

@@ -25,8 +25,8 @@ returns-4 c =
 
 returns-5 : tie.Need-returns-5
 returns-5 c =
-    rw (text-severity (told (c .before .before .before .before .before)) (c .before .before .before .enum-told4 .given .1) (c .before .before .unmarked2 .ensures))
-    (c .severity-verdict .ensures (now (c .before .before .before .before .before .before .before .before .args .s)))
+    rw (text-severity (told (c .before .before .before .before .before .before)) (c .before .before .before .before .enum-told4 .given .1) (c .before .before .before .unmarked2 .ensures), ← (c .before .severity-number .ensures))
+    (c .number-verdict2 .ensures (now (c .before .before .before .before .before .before .before .before .before .args .s)))
 
 returns-6 : tie.Need-returns-6
 returns-6 c = text-equation (told (c .before .before .before)) (c .before .enum-told5 .given .1) (c .both-plan .ensures)
@@ -61,6 +61,7 @@ with-text-spec =
     (λ c. search needs)
     (λ c. search needs)
     (λ c. search needs)
+    (λ c κs. search needs)
     (λ c κs. search needs)
     (λ c. search needs)
     (λ c κs. search needs)
