@@ -43,7 +43,7 @@ then-told x (reads xs) t = tt
 
 single-told : (k : ℕ) (x : Single) (o : Outcome (List Action)) → Told o → Told (singleThen k x o)
 single-told k (done x) o t = then-told x o t
-single-told k (bad name) o t = record { answer = Answer.BadArgument k (length name); is = refl; filling = tt }
+single-told k (bad flaw name) o t = record { answer = Answer.BadArgument flaw k (length name); is = refl; filling = tt }
 single-told k (unknown name) o t = record { answer = Answer.UnknownAction k (length name); is = refl; filling = tt }
 
 from-told : (k : ℕ) (ps : List (List ℕ)) → Told (actionsFrom k ps)

@@ -34,6 +34,7 @@ use Rattle.lent.proofs.room as Room
 use Rattle.lent.proofs.span as Span
 use Rattle.lent.proofs.span_length as SpanLength
 use Rattle.lent.proofs.span_offset as SpanOffset
+use Rattle.lent.proofs.flaw_number as FlawNumber
 use Rattle.names.proofs.operator_code as OperatorCode
 use Rattle.names.proofs.requires_argument as RequiresArgument
 use Rattle.names.proofs.severity_code as SeverityCode
@@ -125,6 +126,7 @@ of-lent = record {
   starts = record { promises = record { tied = λ M 𝓤 H A mem run. refl; met = λ M 𝓤. Starts.Met.met 𝓤 }; fixed = λ κs. gives _ };
   finish = record { promises = record { tied = λ M 𝓤 H A mem run. refl; met = λ M 𝓤. Finish.Met.met 𝓤 }; fixed = finish-fixed };
   refuse-piece = record { promises = record { tied = λ M 𝓤 H A mem run. refl; met = λ M 𝓤. RefusePiece.Met.met 𝓤 }; fixed = both-given _ _ };
+  flaw-number = record { promises = record { tied = λ M 𝓤 H A mem run. refl; met = λ M 𝓤. FlawNumber.Met.met 𝓤 }; fixed = λ κs. gives _ };
 }
 
 of-names : OfNames

@@ -6,20 +6,29 @@ use mathlib.Core.Bool.{Bool, true, false}
 use mathlib.Core.List.{List, [], _∷_}
 use mathlib.Core.Logic.{inl, inr}
 use Prim.Native.Nat.{ℕ, _+_, _≤_, _<_, min}
+use native.Mathlib.Omega.{arith}
 use lib.ListN.{length}
 use lib.Dec.{ltb}
 use borrow.Author.Tests.{lt-ltb, le-ltb, ltb-true, ltb-false}
 use Rattle.lent.specs.Sizes.{actionWords, roomFor}
-use Rattle.lent.specs.Table.{Given, Outcome, reads, Filled, givenBy, textBy, recordsBy}
+use Rattle.lent.specs.Table.{Given, flawNumber, Outcome, reads, Filled, givenBy, textBy, recordsBy}
 use Rattle.lent.specs.declared.gating.Gate.{Gate}
 use Rattle.lent.specs.declared.gating.Gate.the-variants.{Open}
 use Rattle.lent.specs.Admission.{Opened}
+use Rattle.lent.specs.declared.refusing.Flaw.{Flaw}
+use Rattle.lent.specs.declared.refusing.Flaw.the-variants as Flaw
 use Rattle.lent.proofs.GateLaws.{row-gate}
 use Rattle.lent.proofs.OutcomeLaws.{numberOf, given-number, past-row}
 use Rattle.lent.proofs.RowLaws.{Row, row, OneOf, Numbered, Exactly, absent, differ, behind, gated, exactly-gated}
 use Rattle.lexer.specs.Promises as Lexer
 use Rattle.lexer.proofs.ReadLaws.{tokens-0, tokens-1, tokens-2, tokens-3, tokens-4}
 use Rattle.lexer.proofs.PromiseLaws.{next-token-0, next-token-1, next-token-2, next-token-3, next-token-9, next-token-reads}
+use Rattle.single_action.specs.Actions.{Single, done, bad, unknown, single}
+use Rattle.single_action.specs.Flaws.{invalidActionArgument, parsed}
+use Rattle.single_action.proofs.FlawLaws.{flawed, severity-original}
+use Rattle.actions.specs.Normal.{normalised}
+use Rattle.actions.specs.Pieces.{pieces}
+use Rattle.actions.specs.Calls.{FirstRefused}
 use Rattle.actions.specs.Lists.{actionsOf}
 use Rattle.actions.specs.Promises as Actions
 use Rattle.actions.specs.declared.Answer as Listed
@@ -35,7 +44,7 @@ use Rattle.operators.specs.Promises as Operators
 use Rattle.operators.proofs.PromiseLaws.{parse-operator-0, parse-operator-1, parse-operator-2, parse-operator-8}
 use Rattle.listing.proofs.JsonLaws.{printed-json}
 use Rattle.demands.specs.Calls.{Lent, Left, parse-setvar-promise}
-use Rattle.demands.specs.Demand2.{Equals, tokensIn, Equal, Exact, SetvarExact, TargetsExact, Demand2}
+use Rattle.demands.specs.Demand2.{Equals, tokensIn, Equal, Past, ActionsExact, SetvarExact, TargetsExact, Exact, FirstInvalid, OneError, Demand2}
 
 -- ---- what is given back and left
 
@@ -145,7 +154,9 @@ exact = record {
       record {
         gate = record { one = k .number-1; two = k .number-2; three = k .number-3 };
         five = k .number-5;
-        six = k .number-6;
+        ten = k .number-10;
+        eleven = k .number-11;
+        twelve = k .number-12;
         four = k .number-4;
         zero = k .number-0;
       };
@@ -153,7 +164,42 @@ exact = record {
   parse-variables = λ i o x. targets-exact _ (i .input) (i .text) (o .text) (i .records) (o .records) (o .answer) (Targets.parse-variables-numbers (i .input) x);
   parse-update-targets = λ i o x. targets-exact _ (i .input) (i .text) (o .text) (i .records) (o .records) (o .answer) (Targets.parse-update-targets-numbers (i .input) x);
   parse-operator = λ s r x. record { one = parse-operator-1 x; two = parse-operator-2 x; eight = parse-operator-8 x; zero = parse-operator-0 x };
+  flaws = flawed;
+}
+
+-- ---- the Rust's one error
+
+-- a piece that the Rust refuses so is refused here for a flaw
+refused-for : (x : Single) (name : List ℕ) → parsed x ≡ invalidActionArgument name → (flaw : Flaw) × (x ≡ bad flaw name)
+refused-for (bad flaw n) name e = let q : n ≡ name = cc in (flaw, ap (bad flaw) q)
+refused-for (done y) name e = let z : _≡_ {A = ℕ} 0 1 = cc in absurd (omega arith)
+refused-for (unknown n) name e = let z : _≡_ {A = ℕ} 0 1 = cc in absurd (omega arith)
+
+first-invalid : (flaw : Flaw) (ps : List (List ℕ)) → FirstRefused (bad flaw) ps → FirstInvalid ps
+first-invalid flaw ps x =
+    record { passed = x .passed; piece = x .piece; others = x .others; parted = x .parted; before = x .before; name = x .name; error = ap parsed (x .refused) }
+
+first-flawed : (ps : List (List ℕ)) → FirstInvalid ps → (flaw : Flaw) × FirstRefused (bad flaw) ps
+first-flawed ps x =
+    let p = refused-for (single (x .piece)) (x .name) (x .error) in
+    (p .0, record { passed = x .passed; piece = x .piece; others = x .others; parted = x .parted; before = x .before; name = x .name; refused = p .1 })
+
+-- each flaw's number, exactly when
+flaw-exact : {s : List ℕ} {lent m n : ℕ} → ActionsExact s lent m n → (flaw : Flaw) → Past s lent (length s) n (flawNumber flaw) (FirstRefused (bad flaw) (pieces (normalised s)))
+flaw-exact k Flaw.Absent = k .ten
+flaw-exact k Flaw.Unreadable = k .eleven
+flaw-exact k Flaw.TooLarge = k .twelve
+
+one-error : OneError
+one-error = record {
+  parse-actions = λ i o x.
+      let ps = pieces (normalised (i .0 .input)) in
+      let k = flaw-exact (exact .parse-actions i o x) in (
+        λ h. let p = k (h .0) .0 (h .1) in (p .0, first-invalid (h .0) ps (p .1)),
+        λ h. let q = first-flawed ps (h .1) in (q .0, k (q .0) .1 (h .0, q .1)),
+      );
+  severity = severity-original;
 }
 
 pub demand2 : Demand2
-demand2 = record { equal = equal; exact = exact }
+demand2 = record { equal = equal; exact = exact; one-error = one-error }

@@ -25,7 +25,17 @@ outcome-is s m h = ap (λ (g : Gate). pastGate g (roomed (roomsOf m) (directives
 -- the faults in text order, and how a text without any ends
 exactly : (s : List ℕ) (m : Lent) (r : Answer) → Numbers s m r → Exact s m (answerGiven r .number)
 exactly s m r k =
-    let first : Faults s m (answerGiven r .number) = record { thirteen = k .number-13; five = k .number-5; six = k .number-6; seven = k .number-7; eight = k .number-8; fourteen = k .number-14 } in
+    let first : Faults s m (answerGiven r .number) =
+    record {
+      thirteen = k .number-13;
+      five = k .number-5;
+      seven = k .number-7;
+      eight = k .number-8;
+      ten = k .number-10;
+      eleven = k .number-11;
+      twelve = k .number-12;
+      fourteen = k .number-14;
+    } in
     record { gate = record { one = k .number-1; two = k .number-2; three = k .number-3 }; faults = first; fifteen = k .number-15; four = k .number-4; zero = k .number-0 }
 
 pub whole-directives : WholeDirectives

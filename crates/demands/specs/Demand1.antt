@@ -18,6 +18,7 @@ use Rattle.lent.specs.Gates.{firstHigh, gateOf}
 use Rattle.lent.specs.Sizes.{spanWord, spanOffset, spanLength, roomFor, tokenWords, actionWords, variableWords}
 use Rattle.lent.specs.Buffers.{zeros, stored}
 use Rattle.lent.specs.Endings.{starts as startsAt}
+use Rattle.lent.specs.Table.{flawNumber}
 use Rattle.names.specs.Variables.{variableCode, isCollection, isImplemented}
 use Rattle.names.specs.Operators.{operatorCode, requiresArgument}
 use Rattle.names.specs.Severities.{severityCode}
@@ -79,6 +80,7 @@ use Rattle.lent.proofs.room as Room
 use Rattle.lent.proofs.span as Span
 use Rattle.lent.proofs.span_length as SpanLength
 use Rattle.lent.proofs.span_offset as SpanOffset
+use Rattle.lent.proofs.flaw_number as FlawNumber
 use Rattle.names.proofs.operator_code as OperatorCode
 use Rattle.names.proofs.requires_argument as RequiresArgument
 use Rattle.names.proofs.severity_code as SeverityCode
@@ -174,6 +176,8 @@ pub record OfLent : Type 3 where
   pub refuse-piece : Keeps RefusePiece.ended (λ M 𝓤. RefusePiece.spec 𝓤) RefusePiece.Symbol.routine Lent (List ℕ × List ℕ)
       (λ i o. (o .0 ≡ stored (zeros (length (i .text))) 0 (i .input)) × (o .1 ≡ zeros (length (i .records))))
       (λ _ a. lent (now (a .1 .1 .0)) (now (a .0)) (now (a .1 .0))) (λ _ r e. (now (e .0), now (e .1 .0)))
+  -- the number of a refused argument
+  pub flaw-number : Answers FlawNumber.ended (λ M 𝓤. FlawNumber.spec 𝓤) FlawNumber.Symbol.routine (λ _ a. flawNumber (a .0))
 
 -- Lookups, and tests on a code, a selection, an id, records or a word of one: they answer on anything, and never by the table.
 pub record OfNames : Type 3 where

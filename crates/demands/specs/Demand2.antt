@@ -2,9 +2,10 @@
 -- definitions of its rules. Severity words follow the ModSecurity Reference Manual, listings RFC 8259.
 -- Said here of every reader that document 01 names, in two parts (of whole directives: `WholeDirectives`). What is given back and left
 -- is what the definitions say (`Equals`): `reading`, `actionsOf`, `setvar`, `readAll` and `operator` are the Rust's rules. And each number
--- is given exactly when document 01 says so (`Exact`).
+-- is given exactly when documents 01 and 02 say so (`Exact`). Where the Rust has one error for an action's argument, document 02 has three
+-- numbers: these are mapped to it (`OneError`).
 use mathlib.Core.Path.{_≡_}
-use mathlib.Core.List.{List, _++_}
+use mathlib.Core.List.{List, _∷_, _++_}
 use mathlib.Core.Logic.{_↔_}
 use Prim.Native.Nat.{ℕ, _+_, _≤_, _<_, min}
 use lib.ListN.{length, drop}
@@ -13,8 +14,10 @@ use Rattle.ascii.specs.Choice.{pick}
 use Rattle.ascii.specs.Handed.{Standing}
 use Rattle.lent.specs.Sizes.{limit, tokenWords, actionWords, variableWords, roomFor}
 use Rattle.lent.specs.Buffers.{padded}
-use Rattle.lent.specs.Table.{Given, given, noRoom, Outcome, refuses, reads, Filled, givenBy, textBy, recordsBy}
+use Rattle.lent.specs.Table.{Given, given, flawNumber, noRoom, Outcome, refuses, reads, Filled, givenBy, textBy, recordsBy}
 use Rattle.lent.specs.Admission.{FirstAt, Opened, Shortened}
+use Rattle.lent.specs.declared.refusing.Flaw.{Flaw}
+use Rattle.lent.specs.declared.refusing.Flaw.the-variants as Flaw
 use Rattle.lexer.specs.Tokens.{next, reading}
 use Rattle.lexer.specs.Calls.{Fit, Astray, needed}
 use Rattle.lexer.specs.Promises as Lexer
@@ -22,7 +25,9 @@ use Rattle.lexer.specs.declared.stepping.Step.{Step}
 use Rattle.lexer.specs.declared.writing.Answer as Tokens
 use Rattle.actions.specs.Normal.{normalised}
 use Rattle.actions.specs.Pieces as Action
-use Rattle.single_action.specs.Actions.{bad, unknown}
+use Rattle.single_action.specs.Table.{Row}
+use Rattle.single_action.specs.Actions.{bad, unknown, single}
+use Rattle.single_action.specs.Flaws.{Flawed, invalidActionArgument, parsed, severityOurs, severityTheirs}
 use Rattle.actions.specs.Lists.{actionsOf}
 use Rattle.actions.specs.Calls.{AllDone, FirstRefused}
 use Rattle.actions.specs.Promises as Actions
@@ -103,11 +108,13 @@ pub record StepExact (i : Place) (n : ℕ) : Type 0 where
   pub nine : Past (i .input) (length (i .buffer)) (length (i .input)) n 9 (Astray (i .input) (i .from))
   pub zero : Past (i .input) (length (i .buffer)) (length (i .input)) n 0 (Fit (i .input) (i .from))
 
--- 5 and 6 at the first piece that gives no action, and then 4
+-- 5 and 10 to 12 at the first piece that gives no action, and then 4
 pub record ActionsExact (s : List ℕ) (lent m n : ℕ) : Type 0 where
   pub gate : ByGate s lent (length s) n
   pub five : Past s lent (length s) n 5 (FirstRefused unknown (Action.pieces (normalised s)))
-  pub six : Past s lent (length s) n 6 (FirstRefused bad (Action.pieces (normalised s)))
+  pub ten : Past s lent (length s) n 10 (FirstRefused (bad Flaw.Absent) (Action.pieces (normalised s)))
+  pub eleven : Past s lent (length s) n 11 (FirstRefused (bad Flaw.Unreadable) (Action.pieces (normalised s)))
+  pub twelve : Past s lent (length s) n 12 (FirstRefused (bad Flaw.TooLarge) (Action.pieces (normalised s)))
   pub four : Past s lent (length s) n 4 (AllDone (Action.pieces (normalised s)) × (roomFor actionWords m < length (Action.pieces (normalised s))))
   pub zero : Past s lent (length s) n 0 (AllDone (Action.pieces (normalised s)) × (length (Action.pieces (normalised s)) ≤ roomFor actionWords m))
 
@@ -143,7 +150,30 @@ pub record Exact : Type 0 where
   pub parse-update-targets : (i : Lent) (o : Left Read.Answer) → parse-update-targets-promise i o
       → TargetsExact LookedUp (i .input) (length (i .text)) (length (i .records)) (Variables.answerGiven (o .answer) .number)
   pub parse-operator : (s : List ℕ) (r : Parsed.Answer) → parse-operator-promise s r → OperatorExact s (Operators.answerGiven r .number)
+  -- which of 10, 11 and 12 a piece is refused by: no argument where one is wanted, one that denotes no number, one that denotes a number past its width
+  pub flaws : (piece name : List ℕ) (flaw : Flaw) → (single piece ≡ bad flaw name) ↔ Flawed piece name flaw
+
+-- ---- the Rust's one error
+
+-- The first piece that the Rust's parse_single_action refuses, with the error InvalidActionArgument and a name.
+pub record FirstInvalid (ps : List (List ℕ)) : Type 0 where
+  pub passed : List (List ℕ)
+  pub piece : List ℕ
+  pub others : List (List ℕ)
+  pub parted : ps ≡ passed ++ piece ∷ others
+  pub before : AllDone passed
+  pub name : List ℕ
+  pub error : parsed (single piece) ≡ invalidActionArgument name
+
+pub record OneError : Type 0 where
+  -- one of the three is given exactly where the Rust's first error is that one
+  pub parse-actions : (i : Lent × List ℕ) (o : Left Listed.Answer × List ℕ) → parse-actions-promise i o
+      → ((flaw : Flaw) × (Actions.answerGiven (o .0 .answer) .number ≡ flawNumber flaw))
+      ↔ (Opened (i .0 .input) (min (length (i .0 .text)) (length (i .1))) (length (i .0 .input)) × FirstInvalid (Action.pieces (normalised (i .0 .input))))
+  -- that a severity word is looked for only where the text denotes no number changes nothing: the Rust's parse_severity, to the letter
+  pub severity : (r : Row) (t : List ℕ) → severityOurs r t ≡ severityTheirs r t
 
 pub record Demand2 : Type 0 where
   pub equal : Equal
   pub exact : Exact
+  pub one-error : OneError

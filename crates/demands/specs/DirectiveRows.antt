@@ -35,7 +35,7 @@ module _ (g : Given) (m m′ : Lent) where
     short : g ≡ given 3 (0 ∷ []) → m′ ≡ m → Row
     -- 4: the records needed of each kind; all zero
     no-room : (d v a : ℕ) → g ≡ given 4 (d ∷ v ∷ a ∷ []) → m′ ≡ allZero m → Row
-    -- 5, 6 and 7: the line, the piece and the name's length; the text starts with the name, and all else is zero
+    -- 5, 7 and 10 to 12: the line, the piece and the name's length; the text starts with the name, and all else is zero
     named : (why : Naming) (line piece : ℕ) (name : List ℕ) → g ≡ given (namingNumber why) (line ∷ piece ∷ length name ∷ []) → m′ ≡ zeroBut name m → Row
     -- 8: the line, the name's place in the argument and its length; all zero
     no-operator : (line place len : ℕ) → g ≡ given 8 (line ∷ place ∷ len ∷ []) → m′ ≡ allZero m → Row

@@ -26,6 +26,6 @@ module _ (width : ℕ) (g : Given) (text text′ records records′ : List ℕ) 
     short : g ≡ given 3 (0 ∷ []) → Untouched → Row
     -- 4: the records needed; text and records all zero
     no-room : (needed : ℕ) → g ≡ given 4 (needed ∷ []) → text′ ≡ zeros (length text) → records′ ≡ zeros (length records) → Row
-    -- 5, 6 and 7: the piece and the name's length; the text starts with the name, then zeros, and the records are zero
+    -- 5, 7 and 10 to 12: the piece and the name's length; the text starts with the name, then zeros, and the records are zero
     named : (why : Naming) (piece : ℕ) (name : List ℕ) → g ≡ given (namingNumber why) (piece ∷ length name ∷ []) → text′ ≡ padded (length text) name
         → records′ ≡ zeros (length records) → Row

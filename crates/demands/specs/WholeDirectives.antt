@@ -11,6 +11,7 @@ use lib.ListN.{length}
 use Rattle.lent.specs.Sizes.{directiveWords, variableWords, actionWords, roomFor}
 use Rattle.lent.specs.Table.{Given, Naming, noAction, noArgument, noVariable, named, unknownOperator}
 use Rattle.lent.specs.Admission.{Opened}
+use Rattle.lent.specs.declared.refusing.Flaw.the-variants as Flaw
 use Rattle.lexer.specs.Tokens.{reading}
 use Rattle.lexer.specs.Parts.{Closed}
 use Rattle.directives.specs.Groups.{Item, items}
@@ -75,9 +76,11 @@ Roomy m ds =
 pub record Faults (s : List ℕ) (m : Lent) (n : ℕ) : Type 0 where
   pub thirteen : Past s (least m) (length s) n 13 (Lined s wrongCount)
   pub five : Past s (least m) (length s) n 5 (Named s noAction)
-  pub six : Past s (least m) (length s) n 6 (Named s noArgument)
   pub seven : Past s (least m) (length s) n 7 (Named s noVariable)
   pub eight : Past s (least m) (length s) n 8 (Unoperated s)
+  pub ten : Past s (least m) (length s) n 10 (Named s (noArgument Flaw.Absent))
+  pub eleven : Past s (least m) (length s) n 11 (Named s (noArgument Flaw.Unreadable))
+  pub twelve : Past s (least m) (length s) n 12 (Named s (noArgument Flaw.TooLarge))
   pub fourteen : Past s (least m) (length s) n 14 (Lined s untaken)
 
 -- 15 comes behind all of them, and 4 last.

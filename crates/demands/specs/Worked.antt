@@ -5,6 +5,7 @@ use mathlib.Core.Bool.{true, false}
 use mathlib.Core.List.{List, [], _∷_, map}
 use Rattle.ascii.specs.Text.{bytes}
 use Rattle.lent.specs.Table.{Outcome, refuses, reads, unknownAction, badArgument}
+use Rattle.lent.specs.declared.refusing.Flaw.the-variants as Flaw
 use Rattle.lexer.specs.declared.Cursor.{Cursor}
 use Rattle.lexer.specs.declared.Kind.{Kind}
 use Rattle.lexer.specs.declared.Kind.the-variants.{Directive, Word}
@@ -64,8 +65,8 @@ table =
     ∷ row (text "x \\\nsecy") (read (tok Word 1 1 0 1 "x" ∷ tok Directive 2 1 4 8 "secy" ∷ []) (cursor 8 2 5 false))
     -- `a` FF `b`: Word `a`, stop 1
     ∷ row (text "a\u{c}b") (read (tok Word 1 1 0 1 "a" ∷ []) (cursor 1 1 2 false))
-    -- `phase:'2'`: 6
-    ∷ row (actions "phase:'2'") (of-actions (refuses (badArgument 0 (bytes "phase"))))
+    -- `phase:'2'`: 6, since document 02 unreadable
+    ∷ row (actions "phase:'2'") (of-actions (refuses (badArgument Flaw.Unreadable 0 (bytes "phase"))))
     -- `T:none`: 5 with `t`
     ∷ row (actions "T:none") (of-actions (refuses (unknownAction 0 (bytes "t"))))
     -- `severity:255`: accepted

@@ -1,1 +1,1 @@
-// The three demands, and that of whole directives, as theorems over what the other crates promise. There is no code here: read specs/, then proofs/.
+// The three demands, that of whole directives and that 6 occurs no more, as theorems over what the other crates promise. There is no code here: read specs/, then proofs/.

@@ -1,0 +1,99 @@
+-- 6 occurs no more: no row of the table has it, so that no outcome of any reader does.
+use mathlib.Core.Path.{_≡_, _∙_, sym, ap}
+use mathlib.Core.List.{List}
+use Prim.Native.Nat.{ℕ}
+use native.Mathlib.Omega.{arith}
+use lib.ListN.{length}
+use Rattle.lent.specs.Table.{Given, flawNumber, refused, Outcome, refuses, reads, Filled, givenBy}
+use Rattle.lent.specs.declared.refusing.Flaw.{Flaw}
+use Rattle.lent.specs.declared.refusing.Flaw.the-variants as Flaw
+use Rattle.lent.proofs.TableLaws.{not-six}
+use Rattle.lexer.specs.Tokens.{Step}
+use Rattle.lexer.specs.Promises as Lexer
+use Rattle.actions.specs.Promises as Actions
+use Rattle.variables.specs.Promises as Variables
+use Rattle.operators.specs.Operators.{Spec, operator}
+use Rattle.operators.specs.Promises as Operators
+use Rattle.directives.specs.Directives.{wrongCount, untaken, stopped, within}
+use Rattle.directives.specs.Table as Directing
+use Rattle.directives.specs.Promises as Whole
+use Rattle.listing.specs.Listings.{lineOf}
+use Rattle.listing.specs.Promises as Listing
+use Rattle.demands.specs.Calls.{Lent}
+use Rattle.demands.specs.Library.{recordsOutcome, refusalOutcome}
+use Rattle.demands.specs.NoSix.{OfReaders, OfLibrary, NoSix}
+
+-- an answer with the number of a row that is not 6
+given-not : {g h : Given} → g ≡ h → (h .number ≡ 6 → ⊥) → g .number ≡ 6 → ⊥
+given-not e n six = n (sym (ap (λ (x : Given). x .number) e) ∙ six)
+
+filled-not : (o : Outcome Filled) → givenBy o .number ≡ 6 → ⊥
+filled-not (refuses f) e = not-six f e
+filled-not (reads x) e = omega arith
+
+step-not : (o : Outcome Step) → Lexer.nextGivenBy o .number ≡ 6 → ⊥
+step-not (refuses f) e = not-six f e
+step-not (reads x) e = omega arith
+
+operator-not : (s : List ℕ) (o : Outcome Spec) → Operators.givenBy s o .number ≡ 6 → ⊥
+operator-not s (refuses f) e = not-six f e
+operator-not s (reads x) e = omega arith
+
+directives-not : (o : Directing.Outcome) → Directing.givenBy o .number ≡ 6 → ⊥
+directives-not (Directing.shut f) e = not-six f e
+directives-not (Directing.faulty (wrongCount l)) e = omega arith
+directives-not (Directing.faulty (untaken l)) e = omega arith
+directives-not (Directing.faulty (stopped l)) e = omega arith
+directives-not (Directing.faulty (within l f)) e = not-six f e
+directives-not (Directing.overfull d v a) e = omega arith
+directives-not (Directing.filled x) e = omega arith
+
+listing-not : (o : Listing.Outcome) → Listing.givenBy o .number ≡ 6 → ⊥
+listing-not (Listing.writes xs) e = omega arith
+listing-not (Listing.noRoom needed) e = omega arith
+listing-not (Listing.noToken place) e = omega arith
+
+flaw-not : (flaw : Flaw) → flawNumber flaw ≡ 6 → ⊥
+flaw-not Flaw.Absent e = omega arith
+flaw-not Flaw.Unreadable e = omega arith
+flaw-not Flaw.TooLarge e = omega arith
+
+-- the line of a text, in what is lent for it
+abbrev lineOutcome : Lent × List ℕ → Listing.Outcome
+lineOutcome i = Listing.fitted (length (i .1)) (lineOf (i .0 .input) (givenBy (Lexer.tokensOutcome (i .0 .input) (length (i .0 .text)) (length (i .0 .records)))))
+
+of-readers : OfReaders
+of-readers = record {
+  flaw-number = flaw-not;
+  step-in = λ i o x. given-not (x .answer) (step-not (Lexer.stepOutcome (i .input) (i .from) (length (i .buffer))));
+  next-token = λ i o x. given-not (x .answer) (step-not (Lexer.nextOutcome (i .input) (i .from) (length (i .buffer))));
+  tokens = λ i o x. given-not (x .answer) (filled-not (Lexer.tokensOutcome (i .input) (length (i .text)) (length (i .records))));
+  parse-actions = λ i o x. given-not (x .answer) (filled-not (Actions.actionsOutcome (i .0 .input) (length (i .0 .text)) (length (i .1)) (length (i .0 .records))));
+  parse-setvar = λ i o x. given-not (x .answer) (filled-not (Actions.setvarOutcome (i .input) (length (i .text)) (length (i .records))));
+  parse-variables = λ i o x. given-not (x .answer) (filled-not (Variables.variablesOutcome (i .input) (length (i .text)) (length (i .records))));
+  parse-update-targets = λ i o x. given-not (x .answer) (filled-not (Variables.updateOutcome (i .input) (length (i .text)) (length (i .records))));
+  operator-in = λ s r x. given-not (x .answer) (operator-not s (Operators.outcomeOf s (operator s)));
+  parse-operator = λ s r x. given-not (x .answer) (operator-not s (Operators.operatorOutcome s));
+  directives = λ i o x. given-not (x .answer) (directives-not (Whole.outcomeOn (i .0) (i .1)));
+  write-listing = λ i o x. given-not (x .answer) (listing-not (recordsOutcome i));
+  write-refusal = λ i o x. given-not (x .answer) (listing-not (refusalOutcome i));
+  list-text = λ i o x. given-not (x .line .answer) (listing-not (lineOutcome i));
+}
+
+of-library : OfLibrary
+of-library = record {
+  next-token = λ i o x e. step-not (Lexer.nextOutcome (i .0 .input) (i .0 .from) (length (i .0 .buffer))) (sym (x .told .number) ∙ e);
+  tokens = λ i o x e. filled-not (Lexer.tokensOutcome (i .0 .input) (length (i .0 .text)) (length (i .0 .records))) (sym (x .told .number) ∙ e);
+  parse-actions = λ i o x e. filled-not (Actions.actionsOutcome (i .0 .0 .input) (length (i .0 .0 .text)) (length (i .0 .1)) (length (i .0 .0 .records))) (sym (x .fills .told .number) ∙ e);
+  parse-setvar = λ i o x e. filled-not (Actions.setvarOutcome (i .0 .input) (length (i .0 .text)) (length (i .0 .records))) (sym (x .told .number) ∙ e);
+  parse-variables = λ i o x e. filled-not (Variables.variablesOutcome (i .0 .input) (length (i .0 .text)) (length (i .0 .records))) (sym (x .told .number) ∙ e);
+  parse-update-targets = λ i o x e. filled-not (Variables.updateOutcome (i .0 .input) (length (i .0 .text)) (length (i .0 .records))) (sym (x .told .number) ∙ e);
+  parse-operator = λ i o x e. operator-not (i .0) (Operators.operatorOutcome (i .0)) (sym (x .number) ∙ e);
+  directives = λ i o x e. directives-not (Whole.outcomeOn (i .0 .0) (i .0 .1)) (sym (x .told .number) ∙ e);
+  write-listing = λ i o x e. listing-not (recordsOutcome (i .0)) (sym (x .told .number) ∙ e);
+  write-refusal = λ i o x e. listing-not (refusalOutcome (i .0)) (sym (x .told .number) ∙ e);
+  list-text = λ i o x e. listing-not (lineOutcome (i .0)) (sym (x .lists .told .number) ∙ e);
+}
+
+pub no-six : NoSix
+no-six = record { of-readers = of-readers; of-library = of-library }
