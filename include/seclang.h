@@ -11,9 +11,9 @@
  *
  * NUMBERS AND VALUES. A reader returns a number and stores its values at the front of `values` where they fit whole;
  * no other word of `values` is touched, and none at all where they do not fit. SECLANG_VALUES_MOST words are enough
- * for every reader. The numbers are tried in the order 1, 2, 3, 9, then 5 to 8 at the first bad piece, then 19, then
- * 4. In a package 5 to 8, 13, 14 and 15 come in the order of the text; of one directive 13 first, then its variables,
- * its operator and its actions.
+ * for every reader. The numbers are tried in the order 1, 2, 3, 9, then 5, 7, 8 and 10 to 12 at the first bad piece,
+ * then 19, then 4. In a package 5, 7, 8 and 10 to 15 come in the order of the text; of one directive 13 first, then its
+ * variables, its operator and its actions. No call gives 6, which in version 1 stood for 10 to 12.
  *
  *   number  given exactly when                                values          text and records afterwards
  *   0       none below                                        by reader       what was read, and zeros beyond
@@ -22,20 +22,26 @@
  *   3       text or scratch is shorter than the input         0               untouched
  *   4       more records than fit (a listing: more bytes)     how many        all zero
  *   5       unknown action                                    piece, length   its name in small letters and zeros; zero
- *   6       an action's argument is missing or bad            piece, length   the action's name and zeros; zero
  *   7       unknown variable                                  piece, length   its name as written and zeros; zero
  *   8       unknown operator                                  place, length   nothing is lent
  *   9       a cursor past the end, or a line or column that   0               untouched
  *           is 0 or above 16385
+ *   10      an action that must have an argument has none     piece, length   the action's name and zeros; zero
+ *   11      an argument that says no number                   piece, length   as for 10
+ *   12      an argument that is a number past its width       piece, length   as for 10
  *   13      a directive with a wrong count of arguments       line            all zero
  *   14      a word or string that no directive takes          line            all zero
  *   15      reading stopped early, and all before is good     line            all zero
  *   19      a record that no reader makes (listings)          its number      all zero
  *
  * A place is counted from 0, and so is a piece, among those of a list that are not empty. The length is the name's.
- * seclang_directives gives 5 to 8 with the directive's line before these values; there the place of 8 is in the
- * operator's argument as it was read, 8 leaves all lent memory zero, and the values of 4 are directive, variable and
- * action records.
+ * An argument stands behind a colon: `id` has none, and `id:` the empty one, which says no number. Nor does a sign
+ * alone, a `-` before digits, or digits with any other byte among them, however large they are; a severity may be a
+ * word of its table. Widths stand beside the actions below; a `+` before the digits does not count. A severity loses
+ * the quotation marks at both ends first. The seconds of expirevar and the amounts of setvar are never refused.
+ * seclang_directives gives 5, 7, 8 and 10 to 12 with the directive's line before these values; there the place of 8 is
+ * in the operator's argument as it was read, 8 leaves all lent memory zero, and the values of 4 are directive, variable
+ * and action records.
  *
  * RECORDS are whole u64 words. A text is told by a span, offset * 65536 + length, the offset into `text` unless said;
  * SECLANG_SPAN_OFFSET and SECLANG_SPAN_LENGTH take it apart. Texts have no zero byte at their end.
@@ -75,7 +81,7 @@ extern "C" {
 /* The header's version, the longest input, a cursor's largest line and column, the code of a name that has none, the
  * base of a span, and how many words a record has. */
 /* made: sizes */
-#define SECLANG_VERSION 1
+#define SECLANG_VERSION 2
 #define SECLANG_LIMIT 16384
 #define SECLANG_CURSOR_MOST 16385
 #define SECLANG_UNKNOWN UINT64_MAX
@@ -114,10 +120,12 @@ enum seclang_number {
     SECLANG_SHORT_BUFFER = 3,
     SECLANG_NO_ROOM = 4,
     SECLANG_UNKNOWN_ACTION = 5,
-    SECLANG_BAD_ARGUMENT = 6,
     SECLANG_UNKNOWN_VARIABLE = 7,
     SECLANG_UNKNOWN_OPERATOR = 8,
     SECLANG_BAD_CURSOR = 9,
+    SECLANG_ARGUMENT_ABSENT = 10,
+    SECLANG_ARGUMENT_UNREADABLE = 11,
+    SECLANG_ARGUMENT_TOO_LARGE = 12,
     SECLANG_WRONG_COUNT = 13,
     SECLANG_UNTAKEN = 14,
     SECLANG_STOPPED = 15,
@@ -425,20 +433,21 @@ uint64_t seclang_next_token(const uint8_t *input, size_t input_len, size_t place
 uint64_t seclang_tokens(const uint8_t *input, size_t input_len, uint8_t *text, size_t text_len, uint64_t *records,
                         size_t records_len, uint64_t *values, size_t values_len);
 
-/* The directives of a package, with their arguments read. Numbers 0 to 8 and 13 to 15. A directive takes the words and
- * strings up to the next newline, comment or directive, or the end, which a stop is too: SecRule two or three, a list
- * of variables, an operator and an action list, the last of which may be left out; SecAction and SecDefaultAction an
- * action list; SecMarker a name; any other as many as there are. `scratch` too is asked to be as long as the input;
- * past the numbers 1 to 3 it is all zero. Texts stand directive by directive: the name, its variables and exclusions,
- * the operator's argument, its actions. Values with 0: directive, variable and action records, bytes of text. */
+/* The directives of a package, with their arguments read. Numbers 0 to 5, 7, 8 and 10 to 15. A directive takes the
+ * words and strings up to the next newline, comment or directive, or the end, which a stop is too: SecRule two or
+ * three, a list of variables, an operator and an action list, the last of which may be left out; SecAction and
+ * SecDefaultAction an action list; SecMarker a name; any other as many as there are. `scratch` too is asked to be as
+ * long as the input; past the numbers 1 to 3 it is all zero. Texts stand directive by directive: the name, its
+ * variables and exclusions, the operator's argument, its actions. Values with 0: directive, variable and action
+ * records, bytes of text. */
 uint64_t seclang_directives(const uint8_t *input, size_t input_len, uint8_t *text, size_t text_len, uint8_t *scratch,
                             size_t scratch_len, uint64_t *directives, size_t directives_len, uint64_t *variables,
                             size_t variables_len, uint64_t *actions, size_t actions_len, uint64_t *values,
                             size_t values_len);
 
-/* An action list, as the text of its string token has it. Numbers 0 to 6. `scratch` too is asked to be as long as the
- * input; past the numbers 1 to 3 it holds the list without its line continuations and then zeros, refused or not.
- * Values with 0: records, bytes of text. */
+/* An action list, as the text of its string token has it. Numbers 0 to 5 and 10 to 12. `scratch` too is asked to be
+ * as long as the input; past the numbers 1 to 3 it holds the list without its line continuations and then zeros,
+ * refused or not. Values with 0: records, bytes of text. */
 uint64_t seclang_parse_actions(const uint8_t *input, size_t input_len, uint8_t *text, size_t text_len, uint8_t *scratch,
                                size_t scratch_len, uint64_t *records, size_t records_len, uint64_t *values,
                                size_t values_len);

@@ -275,7 +275,6 @@ static void check_actions(void)
     CHECK(record(SECLANG_ACTION_WORDS, 2, SECLANG_ACTION_T, 0, span(2, 4), 0, 0, 0) && shows(records[14], "none"));
     CHECK(actions("skip:4294967295,status:65535,maturity:255") == SECLANG_READ && records[1] == UINT32_MAX &&
           records[7] == 65535 && records[13] == 255);
-    CHECK(actions("skip:4294967296") == SECLANG_BAD_ARGUMENT && actions("status:65536") == SECLANG_BAD_ARGUMENT);
     CHECK(actions("id:18446744073709551615") == SECLANG_READ && records[1] == UINT64_MAX);
     CHECK(actions("de\\\nny,\\\n  pass") == SECLANG_READ && first_values(2, 0) &&
           memcmp(scratch, "deny,pass", 10) == 0);
@@ -284,7 +283,6 @@ static void check_actions(void)
     CHECK(actions("phase:5") == SECLANG_READ && seclang_phase(records, 6) == 5 && seclang_grade(records, 6));
     for (records[1] = 0; records[1] <= 300; records[1]++)
         CHECK(seclang_grade(records, 6) == (1 <= records[1] && records[1] <= 5));
-    CHECK(actions("phase:logging") == SECLANG_BAD_ARGUMENT && first_values(0, 5));
 }
 
 static bool sets(const char *s, uint64_t kind, int64_t number, const char *collection, const char *key,
@@ -403,12 +401,70 @@ static void check_faults(void)
     CHECK(directives("SecAction deny\n\f") == SECLANG_STOPPED && values[0] == 2 && cleared(""));
     CHECK(directives("SecAction Bogus\nSecRule x") == SECLANG_UNKNOWN_ACTION && first_values(1, 0) && values[2] == 5 &&
           cleared("bogus"));
-    CHECK(directives("\nSecAction log,skipafter") == SECLANG_BAD_ARGUMENT && first_values(2, 1) && values[2] == 9 &&
+    CHECK(directives("\nSecAction log,skipafter") == SECLANG_ARGUMENT_ABSENT && first_values(2, 1) && values[2] == 9 &&
           cleared("skipAfter"));
     CHECK(directives("SecRule TX|Nope a") == SECLANG_UNKNOWN_VARIABLE && first_values(1, 1) && values[2] == 4 &&
           cleared("Nope"));
     CHECK(directives("SecRule ARGS \"\\t!@x\"") == SECLANG_UNKNOWN_OPERATOR && first_values(1, 3) && values[2] == 1 &&
           cleared(""));
+}
+
+/* ---- arguments of actions */
+
+/* What a list is refused with, alone and in a package, there in quotation marks where a word would end within it. */
+static void check_flaw(uint64_t number, const char *list, uint64_t piece, const char *name)
+{
+    const char *mark = strpbrk(list, "' ") ? "\"" : "";
+    char package[160];
+    snprintf(package, sizeof package, "SecAction %s%s%s", mark, list, mark);
+    check(actions(list) == number && first_values(piece, strlen(name)) && refused_name(name), list, __LINE__);
+    check(directives(package) == number && first_values(1, piece) && values[2] == strlen(name) && cleared(name),
+          package, __LINE__);
+}
+
+/* An action that reads a number: its largest is read, and the next one and those past every width are too large. */
+static void check_width(const char *name, const char *most, const char *past)
+{
+    const char *unreadable[] = {":",   ":+",   ":-",   ":-1", ":-99999999999999999999", ":99999999999999999999x",
+                                ":''", ":++1", ":1 2", ":x1"};
+    check(actions(with(name, ":+00", most)) == SECLANG_READ && values[0] == 1, name, __LINE__);
+    check_flaw(SECLANG_ARGUMENT_ABSENT, name, 0, name);
+    for (size_t i = 0; i < sizeof unreadable / sizeof *unreadable; i++)
+        check_flaw(SECLANG_ARGUMENT_UNREADABLE, with(name, unreadable[i], ""), 0, name);
+    check_flaw(SECLANG_ARGUMENT_UNREADABLE, with("log,,", name, ":"), 1, name);
+    check_flaw(SECLANG_ARGUMENT_TOO_LARGE, with(name, ":", past), 0, name);
+    check_flaw(SECLANG_ARGUMENT_TOO_LARGE, with(name, ":00", past), 0, name);
+    check_flaw(SECLANG_ARGUMENT_TOO_LARGE, with(name, ":+99999999999999999999", ""), 0, name);
+}
+
+static void check_widths(void)
+{
+    check_width("id", "18446744073709551615", "18446744073709551616");
+    check_width("skip", "4294967295", "4294967296");
+    check_width("status", "65535", "65536");
+    check_width("phase", "255", "256");
+    check_width("maturity", "255", "256");
+    check_width("accuracy", "255", "256");
+    check_width("severity", "255", "256");
+}
+
+static void check_flaws(void)
+{
+    const char *texts[] = {"redirect", "skipAfter", "setvar", "ctl", "initcol"};
+    for (size_t i = 0; i < 5; i++) {
+        check_flaw(SECLANG_ARGUMENT_ABSENT, texts[i], 0, texts[i]);
+        CHECK(actions(with("", texts[i], ":")) == SECLANG_READ && values[0] == 1);
+    }
+    check_flaw(SECLANG_ARGUMENT_ABSENT, "log,SkipAfter", 1, "skipAfter");
+    check_flaw(SECLANG_ARGUMENT_UNREADABLE, "id:'1'", 0, "id");
+    check_flaw(SECLANG_ARGUMENT_UNREADABLE, "phase:logging", 0, "phase");
+    check_flaw(SECLANG_ARGUMENT_UNREADABLE, "severity:fatal", 0, "severity");
+    check_flaw(SECLANG_ARGUMENT_TOO_LARGE, "severity:300", 0, "severity");
+    check_flaw(SECLANG_ARGUMENT_TOO_LARGE, "severity:'300'", 0, "severity");
+    CHECK(directives("SecAction expirevar:a=99999999999999999999,setvar:b=+99999999999999999999") == SECLANG_READ &&
+          four_values(1, 0, 2, 4));
+    CHECK(acts[0] == SECLANG_ACTION_EXPIREVAR && acts[1] == 0);
+    CHECK(acts[SECLANG_ACTION_WORDS + 1] == 1 && acts[SECLANG_ACTION_WORDS + 4] == SECLANG_VALUE_INCREMENT);
 }
 
 /* Too little of each buffer in turn: 3 touches nothing, 4 has all three counts. */
@@ -487,7 +543,7 @@ static void check_numbers(void)
               SECLANG_NO_ROOM &&
           values[0] == 2 && records[0] == 0);
     CHECK(actions("deny,,BOGUS,phase:x") == SECLANG_UNKNOWN_ACTION && first_values(1, 5) && refused_name("bogus"));
-    CHECK(actions("deny,SKIPAFTER") == SECLANG_BAD_ARGUMENT && first_values(1, 9) && refused_name("skipAfter"));
+    CHECK(actions("deny,SKIPAFTER") == SECLANG_ARGUMENT_ABSENT && first_values(1, 9) && refused_name("skipAfter"));
     CHECK(seclang_next_token(bytes("a"), 1, 0, 1, 1, true, text, 1, values, SECLANG_VALUES_MOST) == SECLANG_READ);
     CHECK(values[0] == 1 && values[SECLANG_VALUES_MOST - 1] == 0);
     values[0] = 77;
@@ -576,6 +632,8 @@ int main(void)
     check_operators();
     check_directives();
     check_faults();
+    check_widths();
+    check_flaws();
     check_lent();
     check_listings();
     check_numbers();

@@ -27,8 +27,9 @@ static void quoted(FILE *said, uint64_t span)
 /* A refusal: its number, and the name that it leaves, or its first value. */
 static bool refused(uint64_t number, FILE *said)
 {
+    bool flawed = SECLANG_ARGUMENT_ABSENT <= number && number <= SECLANG_ARGUMENT_TOO_LARGE;
     fprintf(said, "%" PRIu64, number);
-    if (5 <= number && number <= 7)
+    if (flawed || number == SECLANG_UNKNOWN_ACTION || number == SECLANG_UNKNOWN_VARIABLE)
         quoted(said, values[1]);
     else if (number != 0)
         fprintf(said, " at %" PRIu64, values[0]);

@@ -13,6 +13,8 @@ pub struct Set {
 
 const LEXING: &[&str] = &["\\", "\n", "\r", " ", "\t", "\"", "'", "#", "\x0b", "\x0c", "a", "n", "sec", "\0", "include"];
 const ACTING: &[&str] = &[",", ":", "'", "\"", "(", ")", "\\", "\n", "\r", " ", "a", "t", "=", "\x0b", "log"];
+/// Digits past every width.
+const PAST: &str = "99999999999999999999";
 const ACTIONS: &[&str] = &[
     "deny",
     "id",
@@ -38,6 +40,7 @@ const ACTIONS: &[&str] = &[
     "+",
     "-",
     "1",
+    PAST,
     "!",
     "critical",
 ];
@@ -91,6 +94,7 @@ const ACTION_NAMES: &[&str] = &[
     "=",
     " ",
     "7",
+    PAST,
 ];
 const SETTINGS: &[&str] = &["!", "=", "+", "-", ".", "'", "\"", " ", "%", "{", "a", "TX", "1", "9223372036854775807"];
 const TARGETS: &[&str] = &["!", "&", ":", "|", "/", " ", "a", "TX", "args", "\x0b"];
@@ -261,3 +265,24 @@ pub const RULES: &[(Reader, &str)] = &[
     (Reader::Operator, " ! @pmFromFile crawlers-user-agents.data "),
     (Reader::XmlTarget, "//@*"),
 ];
+
+#[cfg(test)]
+mod tests {
+    use super::{Set, ACTIONS, ACTION_NAMES};
+    use crate::original;
+
+    /// Actions by name come to every flaw of an argument within as many pieces as a quick run has.
+    #[test]
+    fn actions_come_to_every_number() {
+        for alphabet in [ACTIONS, ACTION_NAMES] {
+            let mut counts = [0; 13];
+            Set { readers: &[], alphabet, quick: 0, full: 0 }.each(3, &mut |text| {
+                let number = original::actions(std::str::from_utf8(text).expect("ASCII")).number;
+                counts[number as usize] += 1;
+                true
+            });
+            println!("{counts:?}");
+            assert!([0, 5, 10, 11, 12].iter().all(|number| 5 < counts[*number]), "{counts:?}");
+        }
+    }
+}

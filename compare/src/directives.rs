@@ -28,7 +28,7 @@ impl Package {
         Package { number, values: vec![line], ..Package::default() }
     }
 
-    /// 5 to 8: the line, and what the argument's own parser tells; of 8 no name is left.
+    /// 5, 7, 8 and 10 to 12: the line, and what the argument's own parser tells; of 8 no name is left.
     fn of_argument(line: u64, told: Outcome) -> Self {
         Package { number: told.number, values: [vec![line], told.values].concat(), texts: told.texts, ..Package::default() }
     }

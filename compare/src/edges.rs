@@ -1,6 +1,6 @@
 //! The edges of whole directives, each with what comes out; the model is held to them, and the stored answers begin with them.
 
-/// A package, its number and values, and what stands in text: texts, or the name after 5 to 7.
+/// A package, its number and values, and what stands in text: texts, or the name after 5, 7 and 10 to 12.
 pub type Edge = (&'static str, u64, &'static [u64], &'static str);
 
 pub const EDGES: &[Edge] = &[
@@ -9,7 +9,7 @@ pub const EDGES: &[Edge] = &[
     ("SecAction deny SecAction log", 13, &[1], ""),
     ("SecRule ARGS\"@rx a\"\"deny\"", 0, &[1, 1, 1, 1], "a"),
     ("SecRule ARGS \"@rx a\" \\\n# why\n\"deny\"", 14, &[3], ""),
-    ("SecAction \"id:1\nSecAction log", 6, &[1, 0, 2], "id"),
+    ("SecAction \"id:1\nSecAction log", 11, &[1, 0, 2], "id"),
     ("\\SecMarker x", 14, &[1], ""),
     ("sec", 0, &[1, 0, 0, 3], "sec"),
     ("IncludeOptional x", 14, &[1], ""),
@@ -29,10 +29,10 @@ pub const EDGES: &[Edge] = &[
     // a phase is a number: 5 is the manual's last, any byte is read, and the word for 5 is none
     ("SecAction phase:5", 0, &[1, 0, 1, 0], ""),
     ("SecAction phase:100", 0, &[1, 0, 1, 0], ""),
-    ("SecAction phase:logging", 6, &[1, 0, 5], "phase"),
+    ("SecAction phase:logging", 11, &[1, 0, 5], "phase"),
     // real rules: a quotation mark outside of a string ends a word, and an id in marks is no number
     ("SecRule &TX:'/a/' \"@gt 0\" deny", 13, &[1], ""),
-    ("SecAction \"phase:1,id:'1'\"", 6, &[1, 1, 2], "id"),
+    ("SecAction \"phase:1,id:'1'\"", 11, &[1, 1, 2], "id"),
     // our own: nothing, letter cases, other names, both ends of a line, what a stop and a comment end
     ("", 0, &[0, 0, 0, 0], ""),
     (" \t\r\n# x\n", 0, &[0, 0, 0, 0], ""),
@@ -59,7 +59,7 @@ pub const EDGES: &[Edge] = &[
     ("SecRule nope @x bogus", 7, &[1, 0, 4], "nope"),
     ("SecRule TX|!z|TX:|Nope:q a", 7, &[1, 3, 4], "Nope"),
     ("SecRule !x a", 0, &[1, 0, 0, 1], "a"),
-    ("SecRule TX a SkipAfter", 6, &[1, 0, 9], "skipAfter"),
+    ("SecRule TX a SkipAfter", 10, &[1, 0, 9], "skipAfter"),
     ("SecRule ARGS @", 8, &[1, 1, 0], ""),
     ("SecRule ARGS \" ! @rx\x0ba\"", 8, &[1, 4, 4], ""),
     ("Sec\\\nRule ARGS a", 0, &[1, 1, 0, 1], "a"),
@@ -74,9 +74,37 @@ pub const EDGES: &[Edge] = &[
     ("SecRule TX:a|TX:b|!c '@pm d' \"msg:e,setvar:f=g\"\nsecx\nSecMarker h", 0, &[3, 3, 2, 14], "abcdetxfgsecxh"),
 ];
 
+/// Arguments of actions that are refused, and beside them what is not; the stored questions have these behind all others.
+pub const FLAWED: &[Edge] = &[
+    ("SecAction id", 10, &[1, 0, 2], "id"),
+    ("SecAction id:", 11, &[1, 0, 2], "id"),
+    ("SecAction id:-99999999999999999999", 11, &[1, 0, 2], "id"),
+    ("SecAction id:99999999999999999999x", 11, &[1, 0, 2], "id"),
+    ("SecAction log,SkipAfter", 10, &[1, 1, 9], "skipAfter"),
+    ("SecAction expirevar:a=99999999999999999999,setvar:b=+99999999999999999999", 0, &[1, 0, 2, 4], "atxb"),
+    ("SecAction id:+99999999999999999999", 12, &[1, 0, 2], "id"),
+    ("SecAction skip:+", 11, &[1, 0, 4], "skip"),
+    ("SecAction phase:256", 12, &[1, 0, 5], "phase"),
+    ("SecAction severity:300", 12, &[1, 0, 8], "severity"),
+    ("SecAction \"severity:'300'\"", 12, &[1, 0, 8], "severity"),
+    ("SecAction \"severity:''\"", 11, &[1, 0, 8], "severity"),
+    ("SecAction severity:fatal", 11, &[1, 0, 8], "severity"),
+    ("SecDefaultAction \"phase:1,redirect\"", 10, &[1, 1, 8], "redirect"),
+    ("\nSecRule TX a \"deny,,\\\n log, status:065536\"", 12, &[2, 2, 6], "status"),
+    // the first of two, and what comes before and behind it in one directive
+    ("SecAction id:1x\nSecAction id", 11, &[1, 0, 2], "id"),
+    ("SecRule ARGS @x id", 8, &[1, 1, 1], ""),
+    ("SecAction id log", 13, &[1], ""),
+    ("SecAction phase:300\x0c", 12, &[1, 0, 5], "phase"),
+];
+
+pub fn all() -> impl Iterator<Item = &'static Edge> {
+    EDGES.iter().chain(FLAWED)
+}
+
 #[cfg(test)]
 mod tests {
-    use super::EDGES;
+    use super::all;
     use crate::directives::{self, Package};
 
     fn words(list: &[u64], record: usize, width: usize) -> &[u64] {
@@ -89,7 +117,7 @@ mod tests {
 
     #[test]
     fn each_edge_comes_out() {
-        for (input, number, values, text) in EDGES {
+        for (input, number, values, text) in all() {
             let read = directives::read(input);
             assert_eq!((read.number, &read.values[..]), (*number, *values), "{input:?}");
             assert_eq!(read.texts, text.as_bytes(), "{input:?}");
@@ -143,7 +171,7 @@ mod tests {
     /// The join in the original's own types agrees on which packages are read, and on how many directives they have.
     #[test]
     fn both_joins_agree() {
-        for (input, number, values, _) in EDGES.iter().filter(|edge| edge.1 != 15) {
+        for (input, number, values, _) in all().filter(|edge| edge.1 != 15) {
             assert_eq!(directives::owned(input).map(|list| list.len() as u64).ok(), (*number == 0).then(|| values[0]), "{input:?}");
         }
     }

@@ -7,6 +7,7 @@ mod cases;
 mod check;
 mod directives;
 mod edges;
+mod flaws;
 mod lent;
 mod original;
 mod ours;

@@ -1,6 +1,7 @@
 //! What the original gives, as document 01's numbers, values, texts and records.
 
 use crate::error::{Error, SourceLocation};
+use crate::flaws::{self, SEVERITIES};
 use crate::parser::action::{
     parse_actions, probe as acting, Action, DataAction, DisruptiveAction, FlowAction, LoggingAction, MetadataAction, SetVarSpec,
     SetVarValue,
@@ -14,7 +15,7 @@ use crate::parser::variable::{Selection, VariableName, VariableSpec, XmlTarget};
 
 pub const LIMIT: usize = 16_384;
 
-/// What a text comes to past the checks on it: number 0 with values, texts and records, or 5 to 9 with its values and the name.
+/// What a text comes to past the checks on it: number 0 with values, texts and records, or one from 5 on with its values and the name.
 #[derive(Clone, Debug, Default, PartialEq)]
 pub struct Outcome {
     pub number: u64,
@@ -199,10 +200,11 @@ fn pieces(list: &str) -> impl Iterator<Item = &str> {
     list.split(cut).map(str::trim).filter(|piece| !piece.is_empty())
 }
 
-fn action_refusal(error: Error) -> (u64, String) {
+/// The number and the name for a piece: the original has one error for an argument, and the model says which of the three it is.
+fn action_refusal(error: Error, piece: &str) -> (u64, String) {
     match error {
         Error::UnknownAction { name } => (5, name),
-        Error::InvalidActionArgument { action, .. } => (6, action),
+        Error::InvalidActionArgument { action, .. } => (flaws::flaw(piece).expect("the paper refuses it too"), action),
         other => unreachable!("{other:?}"),
     }
 }
@@ -222,12 +224,12 @@ pub fn actions_behind(out: &mut Outcome, text: &str) -> Result<usize, Outcome> {
             Ok(list.len())
         }
         Err(error) => {
-            let told = action_refusal(error);
             let list = normalised(text);
-            let bad = pieces(&list).enumerate().find_map(|(i, piece)| acting::single(piece).err().map(|e| (i, action_refusal(e))));
-            let (piece, again) = bad.expect("a piece is bad");
-            assert_eq!(told, again, "the pieces are cut another way than the original's");
-            Err(Outcome::refused(told.0, piece, told.1))
+            let bad = pieces(&list).enumerate().find_map(|(i, piece)| acting::single(piece).err().map(|again| (i, piece, again)));
+            let (place, piece, again) = bad.expect("a piece is bad");
+            let told = action_refusal(error, piece);
+            assert_eq!(told, action_refusal(again, piece), "the pieces are cut another way than the original's");
+            Err(Outcome::refused(told.0, place, told.1))
         }
     }
 }
@@ -367,8 +369,7 @@ pub fn lookup(table: u64, name: &str) -> Option<u64> {
 }
 
 pub fn names() -> Vec<&'static str> {
-    let words = ["emergency", "alert", "critical", "error", "warning", "notice", "info", "debug"];
-    [targeting::names(), operating::names(), words.to_vec()].concat()
+    [targeting::names(), operating::names(), SEVERITIES.to_vec()].concat()
 }
 
 /// 0 is_collection, 1 is_implemented, 2 requires_argument.
@@ -385,4 +386,30 @@ pub fn test(test: u64, code: u64) -> bool {
 /// Each code is its variant's place.
 pub fn codes_are_places() -> bool {
     variables::ALL.iter().enumerate().all(|(i, v)| *v as usize == i) && operators::ALL.iter().enumerate().all(|(i, o)| *o as usize == i)
+}
+
+#[cfg(test)]
+mod tests {
+    use super::{acting, normalised, pieces};
+    use crate::cases::SETS;
+    use crate::error::Error;
+    use crate::flaws::{flaw, EDGES};
+    use crate::readers::Reader;
+
+    fn both_agree(piece: &str) {
+        let refused = matches!(acting::single(piece), Err(Error::InvalidActionArgument { .. }));
+        assert_eq!(flaw(piece).is_some(), refused, "{piece:?}");
+    }
+
+    /// The model refuses an argument exactly where the original does, at each edge and at each piece of each list.
+    #[test]
+    fn both_refuse_the_same_arguments() {
+        EDGES.iter().for_each(|(piece, _)| both_agree(piece));
+        for set in SETS.iter().filter(|set| set.readers.contains(&Reader::Actions)) {
+            set.each(set.quick, &mut |text| {
+                pieces(&normalised(std::str::from_utf8(text).expect("ASCII"))).for_each(both_agree);
+                true
+            });
+        }
+    }
 }

@@ -29,7 +29,9 @@ pub const JOINTS: &[&str] = &[
     "x",
     "@x",
     "deny",
+    "id",
     "id:",
+    "phase:300",
     "\"@rx a\"",
     "'TX:k'",
     "\"\\\"\\t\"",
@@ -52,7 +54,9 @@ pub const LINES: &[&str] = &[
     " '!@pm x '",
     " \"\\t!@y\"",
     " deny",
+    " skip",
     " id:x",
+    " status:+65536",
     " \"msg:'a\\\n  b',setvar:y\"",
     " \\\n",
     "#c\n",
@@ -71,6 +75,9 @@ pub const ARGUMENTS: &[&str] = &[
     "\"id:1,t:none\" ",
     "setvar:!x.y ",
     "'id:1,bogus' ",
+    "'id:1,ctl' ",
+    "\"log,severity:'x'\" ",
+    "log,severity:300 ",
     "\\\n",
     "\n",
     "Include ",
@@ -112,13 +119,30 @@ const ARGUED: &[&str] = &[
     "setvar:a='b c'",
 ];
 const BAD: &[&str] = &["bogus", "id", "id:x", "id:'1'", "phase:256", "skipAfter", "setvar", "T:none", "status:65536", "ctl", "deny x"];
+/// More arguments that are refused; the stored packages have none of them, so that they stay as they were asked first.
+const FLAWED: &[&str] = &[
+    "id:",
+    "id:99999999999999999999",
+    "id:99999999999999999999x",
+    "severity",
+    "severity:300",
+    "severity:'300'",
+    "severity:'x'",
+    "severity:''",
+    "skip:-1",
+    "skip:+",
+    "accuracy:+256",
+    "redirect",
+    "initcol",
+];
 const SELECTED: &[&str] = &["", "", "", ":k", ":/^a/", ":", "://", ":a b", ":'x'"];
 const SAID: &[&str] = &["", "a", "(?i)union\\s+select", "a b ", "%{TX.0}", "\"q\"", "it's", "^[^\\\\]$", "1"];
 
-/// The names that lists and operators may have.
+/// The names that lists and operators may have, and bad actions.
 pub struct Pools {
     variables: Vec<&'static str>,
     operators: Vec<&'static str>,
+    bad: Vec<&'static str>,
 }
 
 impl Pools {
@@ -127,7 +151,12 @@ impl Pools {
         let mut names = original::names();
         names.sort_unstable();
         let known = |table| names.iter().copied().filter(|name| original::lookup(table, name).is_some()).collect();
-        Pools { variables: known(0), operators: known(1) }
+        Pools { variables: known(0), operators: known(1), bad: [BAD, FLAWED].concat() }
+    }
+
+    /// Those that the stored packages are made of.
+    pub fn of_stored() -> Self {
+        Pools { bad: BAD.to_vec(), ..Pools::new() }
     }
 
     fn list(&self, random: &mut Random) -> String {
@@ -150,9 +179,9 @@ impl Pools {
         }
     }
 
-    fn actions(random: &mut Random) -> String {
+    fn actions(&self, random: &mut Random) -> String {
         let parts = (0..random.below(6)).map(|_| match random.below(40) {
-            0 => random.one(BAD).to_string(),
+            0 => random.one(&self.bad).to_string(),
             1 => String::new(),
             2..=12 => in_some_case_of(random, FLAGS),
             _ => random.one(ARGUED).to_string(),
@@ -164,9 +193,9 @@ impl Pools {
     fn directive(&self, random: &mut Random, name: &str, out: &mut String) {
         let mut arguments = match name {
             "SecRule" if random.below(4) == 0 => vec![self.list(random), self.operator(random)],
-            "SecRule" => vec![self.list(random), self.operator(random), Pools::actions(random)],
+            "SecRule" => vec![self.list(random), self.operator(random), self.actions(random)],
             "SecMarker" => vec![random.one(SAID).to_string()],
-            "SecAction" | "SecDefaultAction" => vec![Pools::actions(random)],
+            "SecAction" | "SecDefaultAction" => vec![self.actions(random)],
             _ => (0..random.below(4)).map(|_| random.one(SAID).to_string()).collect(),
         };
         match random.below(40) {
@@ -260,7 +289,7 @@ mod tests {
             assert!(read.number == 15 || directives::owned(&text).is_ok() == (read.number == 0), "{text:?}");
             numbers[read.number as usize] += 1;
         }
-        [0, 5, 6, 7, 8, 13, 14, 15].map(|number| (number as u64, numbers[number])).to_vec()
+        [0, 5, 7, 8, 10, 11, 12, 13, 14, 15].map(|number| (number as u64, numbers[number])).to_vec()
     }
 
     /// Pieces that make many records in few bytes.
@@ -297,7 +326,8 @@ mod tests {
                 true
             });
             let numbers = told(texts.into_iter());
-            assert!([0, 5, 7, 8, 13, 14].iter().all(|number| numbers.iter().any(|(n, count)| n == number && 50 < *count)), "{numbers:?}");
+            println!("{numbers:?}");
+            assert!(numbers.iter().all(|(number, count)| 50 < *count || *number == 15), "{numbers:?}");
         }
     }
 

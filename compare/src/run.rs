@@ -2,11 +2,11 @@
 
 use crate::cases::{pieces_of, Random, RULES, SETS, TEXT_READERS};
 use crate::check::Checker;
-use crate::edges::EDGES;
 use crate::original::{self, LIMIT};
 use crate::packages::Pools;
 use crate::readers::{Reader, READERS, SHAPES};
 use crate::real::{self, Real};
+use crate::{edges, flaws};
 use std::path::PathBuf;
 use std::time::Instant;
 
@@ -149,11 +149,14 @@ impl Run {
         }
     }
 
-    /// The edges of whole directives, which tell a difference soonest.
+    /// The edges of whole directives and of arguments, which tell a difference soonest.
     fn edges(&mut self) {
-        let all = EDGES.iter().all(|(package, ..)| self.case(Reader::Directives, package.as_bytes()));
-        if all {
-            println!("{} edges of whole directives: {} cases", EDGES.len(), self.checker.counts[Reader::Directives as usize]);
+        let before = self.done();
+        let packages = edges::all().map(|edge| (Reader::Directives, edge.0));
+        let mut texts = packages.chain(flaws::EDGES.iter().map(|edge| (Reader::Actions, edge.0)));
+        if texts.all(|(reader, text)| (0..turns(reader, SHAPES.len())).all(|_| self.case(reader, text.as_bytes()))) {
+            let [packages, arguments] = [edges::all().count(), flaws::EDGES.len()];
+            println!("{packages} edges of whole directives and {arguments} of arguments: {} cases", self.done() - before);
         }
     }
 

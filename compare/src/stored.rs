@@ -2,11 +2,11 @@
 //!
 //! A question is `D`, a blank and the package in hexadecimal. Its answer is the number; for 0 the counts of directive, variable and
 //! action records, the length of the texts, the words of all three lists of records and the texts in hexadecimal (`-` where empty);
-//! for a refusal its values, and the name in hexadecimal behind 5 to 7, else `-`.
+//! for a refusal its values, and the name in hexadecimal behind 5, 7 and 10 to 12, else `-`.
 
 use crate::cases::Random;
 use crate::directives::{self, Package};
-use crate::edges::EDGES;
+use crate::edges::{Edge, EDGES, FLAWED};
 use crate::original::LIMIT;
 use crate::packages::Pools;
 use std::path::Path;
@@ -38,12 +38,15 @@ fn long() -> Vec<Vec<u8>> {
     texts
 }
 
+/// What was asked first stays in its place: a new question stands behind all others.
 fn asked() -> Vec<Vec<u8>> {
-    let (pools, mut random) = (Pools::new(), Random(100));
-    let mut all: Vec<Vec<u8>> = EDGES.iter().map(|edge| edge.0.as_bytes().to_vec()).collect();
+    let (pools, mut random) = (Pools::of_stored(), Random(100));
+    let edges = |list: &[Edge]| list.iter().map(|edge| edge.0.as_bytes().to_vec()).collect::<Vec<_>>();
+    let mut all = edges(EDGES);
     all.extend(SAMPLES.iter().map(|sample| sample.as_bytes().to_vec()));
     all.extend(long());
     all.extend((0..RANDOM).map(|_| pools.package(&mut random, 2000)));
+    all.extend(edges(FLAWED));
     all
 }
 

@@ -208,11 +208,14 @@ impl Action {
 /// The actions of a list, as it stands in a rule.
 ///
 /// ```
-/// use seclang::{parse_actions, Action, Refusal};
+/// use seclang::{parse_actions, Action, Flaw, Refusal};
 ///
 /// assert_eq!(parse_actions("id:7, t:none, deny")?, [Action::Id(7), Action::Transformation("none".to_string()), Action::Deny]);
 /// assert_eq!(parse_actions("deny,bogus"), Err(Refusal::UnknownAction { piece: 1, name: "bogus".to_string() }));
-/// assert_eq!(parse_actions("id:'7'"), Err(Refusal::BadArgument { piece: 0, action: "id".to_string() }));
+/// let bad = |flaw| Err(Refusal::BadArgument { flaw, piece: 0, action: "id".to_string() });
+/// assert_eq!(parse_actions("id"), bad(Flaw::Absent));
+/// assert_eq!(parse_actions("id:'7'"), bad(Flaw::Unreadable));
+/// assert_eq!(parse_actions("id:18446744073709551616"), bad(Flaw::TooLarge));
 /// # Ok::<(), Refusal>(())
 /// ```
 pub fn parse_actions(input: &(impl AsRef<[u8]> + ?Sized)) -> Result<Vec<Action>, Refusal> {

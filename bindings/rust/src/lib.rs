@@ -50,7 +50,7 @@ pub use actions::{parse_actions, parse_setvar, Action, SetVar, SetVarValue};
 pub use codes::{severity, ActionCode, DirectiveCode, OperatorName, ValueKind, VariableName};
 pub use directives::{directives, Directive, DirectiveKind, RuleOperator};
 pub use operators::{parse_operator, Operator};
-pub use refusals::Refusal;
+pub use refusals::{Flaw, Refusal};
 pub use rules::{grade, phase, RuleIdSelector};
 pub use tokens::{list_text, next_token, tokens, Cursor, Step, Stop, Token, TokenKind, Tokens};
 pub use variables::{parse_update_targets, parse_variables, Selection, Targets, Variable, XmlTarget};
@@ -59,7 +59,7 @@ pub use variables::{parse_update_targets, parse_variables, Selection, Targets, V
 pub const LIMIT: usize = 16_384;
 
 /// The version of the library that this crate was made for.
-pub const VERSION: u64 = 1;
+pub const VERSION: u64 = 2;
 
 /// The version of the library that is linked.
 ///

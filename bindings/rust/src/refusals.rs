@@ -3,6 +3,18 @@
 use crate::lent::{another, said, size, Values};
 use std::fmt;
 
+/// What is wrong with an action's argument, which stands behind a colon: `id` has none, and `id:` has the empty one.
+#[derive(Clone, Copy, Debug, PartialEq, Eq, Hash)]
+pub enum Flaw {
+    /// 10: there is none, and the action must have one.
+    Absent,
+    /// 11: it says no number: empty, a sign alone, with a minus or any other byte that is no digit, however large the digits are.
+    /// A severity may be a word of its table too, and loses the quotation marks around it first.
+    Unreadable,
+    /// 12: it is a number past the action's width: above 2^64 - 1 for id, 2^32 - 1 for skip, 65,535 for status, 255 for the others.
+    TooLarge,
+}
+
 /// Why an input was not read. The crate sizes what it lends, so that the numbers for short buffers, 3 and 4, do not come.
 #[derive(Clone, Debug, PartialEq, Eq, Hash)]
 #[non_exhaustive]
@@ -21,8 +33,10 @@ pub enum Refusal {
         /// Its name in small letters.
         name: String,
     },
-    /// 6: an action's argument is missing or bad.
+    /// 10, 11 or 12: an action's argument is absent, unreadable or too large.
     BadArgument {
+        /// Which of the three.
+        flaw: Flaw,
         /// Which non-empty piece of the list it is, from 0.
         piece: usize,
         /// The action's name.
@@ -59,7 +73,7 @@ pub enum Refusal {
         /// Its line, from 1.
         line: usize,
     },
-    /// 5 to 8 in a package: what an argument of a directive is refused for.
+    /// 5, 7, 8 or 10 to 12 in a package: what an argument of a directive is refused for.
     InDirective {
         /// The directive's line, from 1.
         line: usize,
@@ -73,14 +87,17 @@ impl Refusal {
     pub(crate) fn of(number: u64, values: &Values, text: &[u8]) -> Self {
         let at = size(values[0]);
         let name = || said(&text[..size(values[1])]);
+        let bad_argument = |flaw| Refusal::BadArgument { flaw, piece: at, action: name() };
         match number {
             1 => Refusal::TooLong,
             2 => Refusal::NotAscii { place: at },
             5 => Refusal::UnknownAction { piece: at, name: name() },
-            6 => Refusal::BadArgument { piece: at, action: name() },
             7 => Refusal::UnknownVariable { piece: at, name: name() },
             8 => Refusal::UnknownOperator { place: at, name: name() },
             9 => Refusal::BadCursor,
+            10 => bad_argument(Flaw::Absent),
+            11 => bad_argument(Flaw::Unreadable),
+            12 => bad_argument(Flaw::TooLarge),
             _ => another("the number", number),
         }
     }
@@ -124,10 +141,12 @@ impl Refusal {
             Refusal::TooLong => 1,
             Refusal::NotAscii { .. } => 2,
             Refusal::UnknownAction { .. } => 5,
-            Refusal::BadArgument { .. } => 6,
             Refusal::UnknownVariable { .. } => 7,
             Refusal::UnknownOperator { .. } => 8,
             Refusal::BadCursor => 9,
+            Refusal::BadArgument { flaw: Flaw::Absent, .. } => 10,
+            Refusal::BadArgument { flaw: Flaw::Unreadable, .. } => 11,
+            Refusal::BadArgument { flaw: Flaw::TooLarge, .. } => 12,
             Refusal::WrongCount { .. } => 13,
             Refusal::Untaken { .. } => 14,
             Refusal::Stopped { .. } => 15,
@@ -142,7 +161,13 @@ impl fmt::Display for Refusal {
             Refusal::TooLong => write!(out, "the input is over {} bytes", crate::LIMIT),
             Refusal::NotAscii { place } => write!(out, "the byte at place {place} is not ASCII"),
             Refusal::UnknownAction { piece, name } => write!(out, "unknown action '{name}' in piece {piece}"),
-            Refusal::BadArgument { piece, action } => write!(out, "missing or bad argument of '{action}' in piece {piece}"),
+            Refusal::BadArgument { flaw: Flaw::Absent, piece, action } => write!(out, "no argument for '{action}' in piece {piece}"),
+            Refusal::BadArgument { flaw: Flaw::Unreadable, piece, action } => {
+                write!(out, "the argument of '{action}' in piece {piece} says no number")
+            }
+            Refusal::BadArgument { flaw: Flaw::TooLarge, piece, action } => {
+                write!(out, "the argument of '{action}' in piece {piece} is too large a number")
+            }
             Refusal::UnknownVariable { piece, name } => write!(out, "unknown variable '{name}' in piece {piece}"),
             Refusal::UnknownOperator { place, name } => write!(out, "unknown operator '{name}' at place {place}"),
             Refusal::BadCursor => write!(out, "the cursor is no place of the input"),

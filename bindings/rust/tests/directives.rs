@@ -1,8 +1,8 @@
 //! Whole directives as Rust types: what each takes, the order of faults, and what the crate lends at the edges.
 
 use seclang::{
-    directives, Action, Directive, DirectiveKind, OperatorName, Refusal, RuleOperator, Selection, SetVar, SetVarValue, Targets, Variable,
-    VariableName, LIMIT,
+    directives, Action, Directive, DirectiveKind, Flaw, OperatorName, Refusal, RuleOperator, Selection, SetVar, SetVarValue, Targets,
+    Variable, VariableName, LIMIT,
 };
 
 fn kinds(package: &str) -> Vec<DirectiveKind> {
@@ -87,10 +87,27 @@ fn an_argument_is_refused_with_its_line() {
     let unknown = |piece, said: &str| Refusal::UnknownAction { piece, name: name(said) };
     assert_eq!(refusal("SecAction bogus\nSecRule x"), inside(1, unknown(0, "bogus")));
     assert_eq!(refusal("\n\nSecAction \\\n\"deny,\\\n bogus\""), inside(3, unknown(1, "bogus")));
-    assert_eq!(refusal("SecAction \"id:1\nSecAction log"), inside(1, Refusal::BadArgument { piece: 0, action: name("id") }));
     assert_eq!(refusal("SecRule ARGS|Nope @x x"), inside(1, Refusal::UnknownVariable { piece: 1, name: name("Nope") }));
     assert_eq!(refusal("SecAction bogus").number(), 5);
     assert_eq!(refusal("\nSecAction bogus").to_string(), "line 2: unknown action 'bogus' in piece 0");
+}
+
+#[test]
+fn an_argument_of_an_action_has_its_flaw() {
+    let bad = |line, flaw, piece, action| inside(line, Refusal::BadArgument { flaw, piece, action: name(action) });
+    assert_eq!(refusal("SecAction id"), bad(1, Flaw::Absent, 0, "id"));
+    assert_eq!(refusal("\nSecRule TX a log,SKIPAFTER"), bad(2, Flaw::Absent, 1, "skipAfter"));
+    for package in ["SecAction id:", "SecAction id:-99999999999999999999", "SecAction id:99999999999999999999x", "SecAction \"id:'1'\""] {
+        assert_eq!(refusal(package), bad(1, Flaw::Unreadable, 0, "id"), "{package}");
+    }
+    // the mark that is left open takes the line feed into the argument
+    assert_eq!(refusal("SecAction \"id:1\nSecAction log"), bad(1, Flaw::Unreadable, 0, "id"));
+    assert_eq!(refusal("SecAction id:+99999999999999999999"), bad(1, Flaw::TooLarge, 0, "id"));
+    assert_eq!(refusal("#\nSecDefaultAction \"log,severity:'300'\""), bad(2, Flaw::TooLarge, 1, "severity"));
+    assert!(directives("SecAction expirevar:a=99999999999999999999,setvar:b=+99999999999999999999").is_ok());
+    let told = ["SecAction id", "SecAction id:", "SecAction phase:256"].map(refusal);
+    assert_eq!(told.iter().map(Refusal::number).collect::<Vec<_>>(), [10, 11, 12]);
+    assert_eq!(told[2].to_string(), "line 1: the argument of 'phase' in piece 0 is too large a number");
 }
 
 /// The name of an operator is read again, since nothing is left of it in what was lent.

@@ -2,11 +2,15 @@
 
 use seclang::{
     list_text, next_token, parse_actions, parse_operator, parse_setvar, parse_update_targets, parse_variables, tokens, Action, Cursor,
-    Refusal, RuleIdSelector, SetVar, SetVarValue, Token, XmlTarget, LIMIT,
+    Flaw, Refusal, RuleIdSelector, SetVar, SetVarValue, Token, XmlTarget, LIMIT,
 };
 
 fn set(collection: &str, key: &str, value: SetVarValue) -> SetVar {
     SetVar { collection: collection.to_string(), key: key.to_string(), value }
+}
+
+fn bad_argument(flaw: Flaw, piece: usize, action: &str) -> Refusal {
+    Refusal::BadArgument { flaw, piece, action: action.to_string() }
 }
 
 /// All tokens by single steps, and where the last one stands.
@@ -58,7 +62,7 @@ fn setvars_are_read() {
 #[test]
 fn ids_are_whole_words() {
     assert_eq!(parse_actions("id:18446744073709551615"), Ok(vec![Action::Id(u64::MAX)]));
-    assert_eq!(parse_actions("id:18446744073709551616"), Err(Refusal::BadArgument { piece: 0, action: "id".to_string() }));
+    assert_eq!(parse_actions("id:18446744073709551616"), Err(bad_argument(Flaw::TooLarge, 0, "id")));
     assert!(RuleIdSelector::Range(1, u64::MAX).matches(u64::MAX) && RuleIdSelector::Single(u64::MAX).matches(u64::MAX));
     assert!(!RuleIdSelector::Range(2, 1).matches(1) && !RuleIdSelector::Single(1).matches(2));
 }
@@ -84,13 +88,36 @@ fn xml_selections_are_told_apart() {
 fn refusals_have_their_values() {
     let name = |name: &str| name.to_string();
     assert_eq!(parse_actions("deny,,Bogus:1,phase:x"), Err(Refusal::UnknownAction { piece: 1, name: name("bogus") }));
-    assert_eq!(parse_actions("log,phase:'2'"), Err(Refusal::BadArgument { piece: 1, action: name("phase") }));
+    assert_eq!(parse_actions("log,phase:'2'"), Err(bad_argument(Flaw::Unreadable, 1, "phase")));
     assert_eq!(parse_variables("ARGS:/a|b/"), Err(Refusal::UnknownVariable { piece: 1, name: name("b/") }));
     assert_eq!(parse_update_targets("!x"), Err(Refusal::UnknownVariable { piece: 0, name: name("x") }));
     assert_eq!(parse_operator(" !@rx\x0ba"), Err(Refusal::UnknownOperator { place: 3, name: name("rx\x0ba") }));
     assert_eq!(parse_operator("@"), Err(Refusal::UnknownOperator { place: 1, name: name("") }));
     let shown = parse_actions("bogus").map_err(|refusal| refusal.to_string());
     assert_eq!(shown, Err(name("unknown action 'bogus' in piece 0")));
+}
+
+/// Why an argument is refused, by number and in words.
+#[test]
+fn arguments_have_three_flaws() {
+    for list in ["id", "ID", "skipAfter", "setvar", "ctl", "severity"] {
+        let action = if list == "ID" { "id" } else { list };
+        assert_eq!(parse_actions(list), Err(bad_argument(Flaw::Absent, 0, action)));
+    }
+    for argument in ["", "+", "-1", "-99999999999999999999", "99999999999999999999x", "''", "fatal", "1 2"] {
+        let list = format!("log,,severity:{argument},bogus");
+        assert_eq!(parse_actions(&list), Err(bad_argument(Flaw::Unreadable, 1, "severity")), "{list}");
+    }
+    for list in ["id:+99999999999999999999", "skip:4294967296", "status:65536", "phase:256", "severity:'300'", "accuracy:00256"] {
+        let action = list.split(':').next().unwrap_or_default();
+        assert_eq!(parse_actions(list), Err(bad_argument(Flaw::TooLarge, 0, action)), "{list}");
+    }
+    assert!(parse_actions("expirevar:a=99999999999999999999,setvar:b=+99999999999999999999,severity:\"+0255'").is_ok());
+    let told = ["id", "id:", "id:99999999999999999999"].map(|list| parse_actions(list).expect_err(list));
+    assert_eq!(told.iter().map(Refusal::number).collect::<Vec<_>>(), [10, 11, 12]);
+    assert_eq!(told[0].to_string(), "no argument for 'id' in piece 0");
+    assert_eq!(told[1].to_string(), "the argument of 'id' in piece 0 says no number");
+    assert_eq!(told[2].to_string(), "the argument of 'id' in piece 0 is too large a number");
 }
 
 /// The numbers of every reader on one input.
