@@ -84,6 +84,19 @@ pub open-mark : Refuses "SecAction \"id:1\nSecAction log" 11 (1 ∷ 0 ∷ 2 ∷ 
 unfolding Comes
 open-mark = refl
 
+-- why an argument is refused, with the line first: no colon; an empty argument; a number past its width
+pub absent-in : Refuses "SecAction log,SkipAfter" 10 (1 ∷ 1 ∷ 9 ∷ []) "skipAfter"
+unfolding Comes
+absent-in = refl
+
+pub empty-in : Refuses "\nSecAction id:" 11 (2 ∷ 0 ∷ 2 ∷ []) "id"
+unfolding Comes
+empty-in = refl
+
+pub large-in : Refuses "SecAction phase:256" 12 (1 ∷ 0 ∷ 5 ∷ []) "phase"
+unfolding Comes
+large-in = refl
+
 -- a lone backslash drops the mark: two Words that no directive takes
 pub slashed : Refuses "\\SecMarker x" 14 (1 ∷ []) ""
 unfolding Comes

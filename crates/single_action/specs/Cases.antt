@@ -1,7 +1,10 @@
 -- Single actions and setvars worked out, at the edges.
 use mathlib.Core.Path.{_≡_, refl}
-use Prim.Native.Nat.{_^_, _-_}
+use mathlib.Core.Bool.{Bool, true, false}
+use mathlib.Core.List.{List, [], _∷_}
+use Prim.Native.Nat.{ℕ, _^_, _-_}
 use Prim.Native.String.{String}
+use Rattle.ascii.specs.Choice.{pick}
 use Rattle.ascii.specs.Text.{bytes}
 use Rattle.ascii.specs.Classes.{white, digit}
 use Rattle.ascii.specs.Fold.{lower, same}
@@ -13,7 +16,7 @@ use Rattle.names.specs.Tables as N
 use Rattle.names.specs.Severities.{severities, severityCode}
 use Rattle.single_action.specs.Marks.{quotation, paired, unpaired}
 use Rattle.single_action.specs.Setvar.{SetValue, text, increment, decrement, delete, macro, setvarOf, varName, nameOf, hasMacro, plainValue, valueOf, setvarBare, setvar}
-use Rattle.single_action.specs.Table.{rows, find}
+use Rattle.single_action.specs.Table.{Rule, plain, wanted, unmarked, upTo, severity, equation, expiry, setting, Row, rows, find}
 use Rattle.single_action.specs.Actions.{absent, present, action, Single, done, bad, unknown, severityNumber, withText, withNone, named, single}
 
 -- What a piece comes to. To unfold it is to unfold every definition that a piece is read by.
@@ -25,6 +28,28 @@ Says s x = single (bytes s) ≡ x
 unfoldable pub Sets : String → String → String → SetValue → Type 0
 unfolding Says
 Sets s c k v = setvar (bytes s) ≡ setvarOf (varName (bytes c) (bytes k)) v
+
+-- ---- who wants an argument
+
+abbrev pub wants : Rule → Bool
+wants plain = false
+wants wanted = true
+wants unmarked = false
+wants (upTo most) = true
+wants severity = true
+wants equation = true
+wants expiry = false
+wants setting = true
+
+unfoldable pub wanting : List Row → List (List ℕ)
+wanting [] = []
+wanting (r ∷ rs) = pick (wants (r .rule)) (r .name ∷ wanting rs) (wanting rs)
+
+-- the twelve actions of document 02: seven that read a number, and five that take a text
+pub twelve : wanting rows
+    ≡ bytes "redirect" ∷ bytes "skip" ∷ bytes "skipAfter" ∷ bytes "id" ∷ bytes "phase" ∷ bytes "severity" ∷ bytes "maturity" ∷ bytes "accuracy" ∷ bytes "status" ∷ bytes "setvar" ∷ bytes "ctl" ∷ bytes "initcol" ∷ []
+unfolding wanting rows bytes
+twelve = refl
 
 -- ---- a piece
 
