@@ -5,9 +5,11 @@ use mathlib.Core.Bool.{Bool, true, false}
 use mathlib.Core.List.{List, [], _∷_, _++_}
 use lib.ListN.{length, drop}
 use lib.Dec.{ltb, leb, eqb}
-use Rattle.ascii.specs.Choice.{pick, bit}
-use Rattle.lent.specs.Sizes.{limit, cursorMost, tokenWords, roomFor}
+use Rattle.ascii.specs.Choice.{pick, and, bit}
+use Rattle.lent.specs.Sizes.{limit, cursorMost, tokenWords, roomFor, spanWord}
 use Rattle.lent.specs.Gates.{gateOf}
+use Rattle.lent.specs.Buffers.{stored}
+use Rattle.lent.specs.Endings.{overfull, Finished}
 use Rattle.lent.specs.Table.{Given, given, tooLong, notAscii, shortBuffer, noRoom, badCursor, refused, refusedText, Outcome, refuses, reads, pastGate, Filled, givenBy, textBy, recordsBy}
 use Rattle.lexer.specs.Cursors.{Cursor}
 use Rattle.lexer.specs.Tokens.{Token, Reading, next, reading, nothing, token}
@@ -16,6 +18,7 @@ use Rattle.lexer.specs.Layout.{kindCode, wordsFrom, texts}
 use Rattle.lexer.specs.declared.stepping.Lexeme.{Lexeme}
 use Rattle.lexer.specs.declared.stepping.Step.{Step}
 use Rattle.lexer.specs.declared.stepping.Step.the-variants as Step
+use Rattle.lexer.specs.declared.writing.Tally.{Tally}
 use Rattle.lexer.specs.declared.writing.Answer.{Answer}
 use Rattle.lexer.specs.declared.writing.Answer.the-variants as Answer
 
@@ -118,3 +121,26 @@ pub record Tokens (s text text′ records records′ : List ℕ) (r : Answer) : 
   pub answer : answerGiven r ≡ givenBy (tokensOutcome s (length text) (length records))
   pub texts : text′ ≡ textBy (tokensOutcome s (length text) (length records)) text
   pub words : records′ ≡ recordsBy (tokensOutcome s (length text) (length records)) records
+
+-- ---- what both lexers end with
+
+-- The five words of a token whose text starts at the offset o.
+abbrev pub lexemeRecord : ℕ → Lexeme → List ℕ
+lexemeRecord o t = kindCode (t .kind) ∷ t .line .0 ∷ t .column .0 ∷ spanWord (t .first) (t .next .place - t .first) ∷ spanWord o (t .len) ∷ []
+
+-- Its numbers go into span words.
+abbrev pub narrow : ℕ → Lexeme → Bool
+narrow o t = and (leb (t .first) (t .next .place)) (and (leb (t .next .place) limit) (and (leb o limit) (leb (t .len) limit)))
+
+-- Its record in a buffer, at a place where it fits.
+abbrev pub tokenStored : List ℕ → ℕ → ℕ → Lexeme → List ℕ
+tokenStored old at o t = pick (narrow o t) (stored old at (lexemeRecord o t)) old
+
+-- What is answered of a reading, by whether its records are too many.
+abbrev pub endedBy : Bool → Tally → Answer
+endedBy true r = Answer.NoRoom (r .count)
+endedBy false r = Answer.Read (r .count) (r .used) (r .stop .place) (r .stop .line) (r .stop .column)
+
+pub record EndReading (r : Tally) (text text′ records records′ : List ℕ) (a : Answer) : Type 0 where
+  pub answer : a ≡ endedBy (overfull tokenWords (r .count) records) r
+  pub left : Finished (r .used) (r .count) tokenWords text text′ records records′ (overfull tokenWords (r .count) records)

@@ -5,14 +5,14 @@ use mathlib.Core.Bool.{Bool, true, false}
 use mathlib.Core.List.{List, [], _∷_, _++_}
 use lib.ListN.{length, take, drop, getD}
 use Rattle.ascii.specs.Classes.{white}
-use Rattle.lent.specs.Sizes.{limit, cursorMost, spanWord}
+use Rattle.lent.specs.Sizes.{limit, cursorMost}
 use Rattle.lexer.specs.Cursors.{Cursor, moves}
 use Rattle.lexer.specs.Runs.{Does, closes, takes, run, text, took}
 use Rattle.lexer.specs.Rules.{before}
 use Rattle.lexer.specs.Places.{feeds, since}
 use Rattle.lexer.specs.Tokens.{Kind, Token, next, reading, nothing, token}
 use Rattle.lexer.specs.Tokens as T
-use Rattle.lexer.specs.Layout.{kindCode, texts, wordsFrom}
+use Rattle.lexer.specs.Layout.{texts, wordsFrom}
 use Rattle.lexer.specs.Promises.{lexeme, stepText}
 use Rattle.lexer.specs.declared.moving.Run.{Run}
 use Rattle.lexer.specs.declared.stepping.Lexeme.{Lexeme}
@@ -106,10 +106,6 @@ pub record Stepped (s : List ℕ) (c : Cursor) (old new : List ℕ) (r : Found) 
   pub step-is : r ≡ found (next (drop (c .place) s) c)
   pub text-is : new ≡ stepText (next (drop (c .place) s) c) ++ drop (length (stepText (next (drop (c .place) s) c))) old
   pub onward : Onward s c r
-
--- The five words of a token whose text starts at the offset o.
-abbrev pub lexemeRecord : ℕ → Lexeme → List ℕ
-lexemeRecord o t = kindCode (t .kind) ∷ t .line .0 ∷ t .column .0 ∷ spanWord (t .first) (t .next .place - t .first) ∷ spanWord o (t .len) ∷ []
 
 -- Numbers that a span word takes.
 pub record Narrow (o : ℕ) (t : Lexeme) : Type 0 where

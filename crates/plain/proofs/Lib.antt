@@ -1,0 +1,10 @@
+pub mod ClassLaws
+pub mod FutureLaws
+pub mod WordTurnLaws
+pub mod QuoteTurnLaws
+pub mod TurnLaws
+pub mod TableLaws
+pub mod SameLaws
+pub mod StepLaws
+pub mod StoreLaws
+pub mod WholeLaws
