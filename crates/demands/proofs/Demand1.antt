@@ -45,6 +45,11 @@ use Rattle.lexer.proofs.next_token as NextToken
 use Rattle.lexer.proofs.step_in as StepIn
 use Rattle.lexer.proofs.start as Start
 use Rattle.lexer.proofs.tokens as TokensOf
+use Rattle.lexer.proofs.word_kind as WordKind
+use Rattle.lexer.proofs.pass_gate as PassGate
+use Rattle.lexer.proofs.put_token as PutToken
+use Rattle.lexer.proofs.end_reading as EndReading
+use Rattle.plain.proofs.plain_tokens as PlainTokens
 use Rattle.reader.proofs.reader_of as ReaderOf
 use Rattle.reader.proofs.reader_at as ReaderAt
 use Rattle.reader.proofs.next_of as NextOf
@@ -73,7 +78,7 @@ use Rattle.listing.proofs.list_text as ListText
 use Rattle.listing.proofs.write_listing as WriteListing
 use Rattle.listing.proofs.write_refusal as WriteRefusal
 use Rattle.demands.specs.Demand1.{OfBytes, OfTexts, OfNumbers, OfLent, OfNames, OfLexer, OfSingles, OfParsers, OfDirectives, OfListing, Demand1}
-use Rattle.demands.proofs.FixedLaws.{gives, both-given, finish-fixed, reader-fixed}
+use Rattle.demands.proofs.FixedLaws.{gives, both-given, finish-fixed, end-reading-fixed, reader-fixed}
 use Rattle.demands.proofs.TokenCalls.{step-in-fixed, next-token-fixed, tokens-fixed, tokens-row}
 use Rattle.demands.proofs.ActionCalls.{parse-actions-fixed, normalise-fixed, read-actions-fixed, parse-setvar-fixed, parse-actions-row, parse-setvar-row}
 use Rattle.demands.proofs.VariableCalls.{read-targets-fixed, parse-variables-fixed, parse-update-targets-fixed, parse-variables-row, parse-update-targets-row}
@@ -150,6 +155,11 @@ of-lexer = record {
   step-in = record { promises = record { tied = λ M 𝓤 H A mem run. refl; met = λ M 𝓤. StepIn.Met.met 𝓤 }; fixed = step-in-fixed };
   next-token = record { promises = record { tied = λ M 𝓤 H A mem run. refl; met = λ M 𝓤. NextToken.Met.met 𝓤 }; fixed = next-token-fixed };
   tokens = record { promises = record { tied = λ M 𝓤 H A mem run. refl; met = λ M 𝓤. TokensOf.Met.met 𝓤 }; fixed = tokens-fixed };
+  plain-tokens = record { promises = record { tied = λ M 𝓤 H A mem run. refl; met = λ M 𝓤. PlainTokens.Met.met 𝓤 }; fixed = tokens-fixed };
+  pass-gate = record { promises = record { tied = λ M 𝓤 H A mem run. refl; met = λ M 𝓤. PassGate.Met.met 𝓤 }; fixed = λ κs. gives _ };
+  word-kind = record { promises = record { tied = λ M 𝓤 H A mem run. refl; met = λ M 𝓤. WordKind.Met.met 𝓤 }; fixed = λ κs. gives _ };
+  put-token = record { promises = record { tied = λ M 𝓤 H A mem run. refl; met = λ M 𝓤. PutToken.Met.met 𝓤 }; fixed = gives _ };
+  end-reading = record { promises = record { tied = λ M 𝓤 H A mem run. refl; met = λ M 𝓤. EndReading.Met.met 𝓤 }; fixed = end-reading-fixed };
   reader-of = record { promises = record { tied = λ M 𝓤 H A mem run. refl; met = λ M 𝓤. ReaderOf.Met.met 𝓤 }; fixed = λ κs. reader-fixed (λ a. a .0) (λ a. fresh) };
   reader-at = record { promises = record { tied = λ M 𝓤 H A mem run. refl; met = λ M 𝓤. ReaderAt.Met.met 𝓤 }; fixed = λ κs. reader-fixed (λ a. a .0 .text) (λ a. a .1 .0) };
   next-of = record { promises = record { tied = λ M 𝓤 H A mem run. refl; met = λ M 𝓤. NextOf.Met.met 𝓤 }; fixed = next-token-fixed };

@@ -6,10 +6,13 @@ use Rattle.lent.specs.Endings.{overfull}
 use Prim.Native.Nat.{ℕ}
 use denote.Ref.{RefT}
 use Rattle.ascii.proofs.OneAnswer.{one-answer}
+use Rattle.lent.specs.Sizes.{tokenWords}
+use Rattle.lexer.specs.Promises.{endedBy}
 use Rattle.lexer.specs.declared.Cursor.{Cursor}
+use Rattle.lexer.specs.declared.writing.Answer as Lexer
 use Rattle.reader.specs.declared.Reader.{Reader}
 use Rattle.demands.specs.Fixed.{Fixed, Gives}
-use Rattle.demands.specs.Calls.{Left, Wrote, Filling, finish-promise}
+use Rattle.demands.specs.Calls.{Left, Wrote, Filling, finish-promise, Ending, end-reading-promise}
 
 -- An equation with a definition is total, and no second answer meets it.
 pub gives : {In Out : Type 0} (f : In → Out) → Gives f
@@ -46,4 +49,11 @@ pub finish-fixed : Fixed Filling (Left Bool) finish-promise
 finish-fixed = record {
   total = λ i. (record { answer = overfull (i .width) (i .count) (i .records); text = _; records = _ }, record { told = refl; texts = refl; words = refl });
   once = λ i o p x y. left-same o p (one-answer (x .told) (y .told), one-answer (x .texts) (y .texts), one-answer (x .words) (y .words));
+}
+
+-- and of a lexer
+pub end-reading-fixed : Fixed Ending (Left Lexer.Answer) end-reading-promise
+end-reading-fixed = record {
+  total = λ i. (record { answer = endedBy (overfull tokenWords (i .read .count) (i .records)) (i .read); text = _; records = _ }, record { answer = refl; left = record { told = refl; texts = refl; words = refl } });
+  once = λ i o p x y. left-same o p (one-answer (x .answer) (y .answer), one-answer (x .left .texts) (y .left .texts), one-answer (x .left .words) (y .left .words));
 }

@@ -11,6 +11,7 @@ pub mod Library
 pub mod Demand1
 pub mod Worked
 pub mod Demand3
+pub mod Plain
 pub mod Demand2
 pub mod WholeDirectives
 pub mod NoSix

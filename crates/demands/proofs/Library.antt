@@ -31,6 +31,7 @@ use Rattle.seclang.proofs.seclang_parse_operator as SeclangParseOperator
 use Rattle.seclang.proofs.seclang_parse_setvar as SeclangParseSetvar
 use Rattle.seclang.proofs.seclang_parse_update_targets as SeclangParseUpdateTargets
 use Rattle.seclang.proofs.seclang_parse_variables as SeclangParseVariables
+use Rattle.seclang.proofs.seclang_plain_tokens as SeclangPlainTokens
 use Rattle.seclang.proofs.seclang_tokens as SeclangTokens
 use Rattle.seclang.proofs.seclang_version as SeclangVersion
 use Rattle.demands.specs.Fixed.{Fixed}
@@ -146,6 +147,7 @@ pub of-library : OfLibrary
 of-library = record {
   next-token = record { promises = record { tied = λ M 𝓤 H A mem run. refl; met = λ M 𝓤. SeclangNextToken.Met.met 𝓤 }; fixed = steps-fixed };
   tokens = record { promises = record { tied = λ M 𝓤 H A mem run. refl; met = λ M 𝓤. SeclangTokens.Met.met 𝓤 }; fixed = fills-fixed _ };
+  plain-tokens = record { promises = record { tied = λ M 𝓤 H A mem run. refl; met = λ M 𝓤. SeclangPlainTokens.Met.met 𝓤 }; fixed = fills-fixed _ };
   parse-actions = record { promises = record { tied = λ M 𝓤 H A mem run. refl; met = λ M 𝓤. SeclangParseActions.Met.met 𝓤 }; fixed = fills-actions-fixed };
   parse-setvar = record { promises = record { tied = λ M 𝓤 H A mem run. refl; met = λ M 𝓤. SeclangParseSetvar.Met.met 𝓤 }; fixed = fills-fixed _ };
   parse-variables = record { promises = record { tied = λ M 𝓤 H A mem run. refl; met = λ M 𝓤. SeclangParseVariables.Met.met 𝓤 }; fixed = fills-fixed _ };

@@ -5,8 +5,9 @@ use mathlib.Core.List.{List}
 use Rattle.ascii.specs.Handed.{Standing}
 use Rattle.lent.specs.Endings.{Finished}
 use Rattle.lexer.specs.declared.Cursor.{Cursor}
-use Rattle.lexer.specs.Promises.{StepIn, NextToken, Tokens}
+use Rattle.lexer.specs.Promises.{StepIn, NextToken, Tokens, EndReading}
 use Rattle.lexer.specs.declared.stepping.Step.{Step}
+use Rattle.lexer.specs.declared.writing.Tally.{Tally}
 use Rattle.lexer.specs.declared.writing.Answer as Lexer
 use Rattle.actions.specs.Promises.{ParseActions, SetvarAlone}
 use Rattle.actions.specs.Cores.{Normalise, ReadActions}
@@ -86,6 +87,15 @@ next-token-promise i o = NextToken (i .input) (i .from) (i .buffer) (o .buffer) 
 
 abbrev pub tokens-promise : Lent → Left Lexer.Answer → Type 0
 tokens-promise i o = Tokens (i .input) (i .text) (o .text) (i .records) (o .records) (o .answer)
+
+-- end_reading: both buffers of a lexer, and what it read.
+pub record Ending : Type 0 where
+  pub read : Tally
+  pub text : List ℕ
+  pub records : List ℕ
+
+abbrev pub end-reading-promise : Ending → Left Lexer.Answer → Type 0
+end-reading-promise i o = EndReading (i .read) (i .text) (o .text) (i .records) (o .records) (o .answer)
 
 -- parse_actions has a scratch buffer besides.
 abbrev pub parse-actions-promise : Lent × List ℕ → Left Actions.Answer × List ℕ → Type 0

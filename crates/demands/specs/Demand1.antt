@@ -23,8 +23,10 @@ use Rattle.names.specs.Variables.{variableCode, isCollection, isImplemented}
 use Rattle.names.specs.Operators.{operatorCode, requiresArgument}
 use Rattle.names.specs.Severities.{severityCode}
 use Rattle.lexer.specs.Cursors.{fresh}
+use Rattle.lexer.specs.Tokens.{wordKind}
 use Rattle.lexer.specs.Promises as Lexer
 use Rattle.lexer.specs.declared.stepping.Step.{Step}
+use Rattle.lexer.specs.declared.stepping.Lexeme.{Lexeme}
 use Rattle.lexer.specs.declared.writing.Answer as Tokens
 use Rattle.records.specs.Codes.{setVarCode}
 use Rattle.records.specs.Marks.{marksFor}
@@ -91,6 +93,11 @@ use Rattle.lexer.proofs.next_token as NextToken
 use Rattle.lexer.proofs.step_in as StepIn
 use Rattle.lexer.proofs.start as Start
 use Rattle.lexer.proofs.tokens as TokensOf
+use Rattle.lexer.proofs.word_kind as WordKind
+use Rattle.lexer.proofs.pass_gate as PassGate
+use Rattle.lexer.proofs.put_token as PutToken
+use Rattle.lexer.proofs.end_reading as EndReading
+use Rattle.plain.proofs.plain_tokens as PlainTokens
 use Rattle.reader.proofs.reader_of as ReaderOf
 use Rattle.reader.proofs.reader_at as ReaderAt
 use Rattle.reader.proofs.next_of as NextOf
@@ -119,7 +126,7 @@ use Rattle.listing.proofs.list_text as ListText
 use Rattle.listing.proofs.write_listing as WriteListing
 use Rattle.listing.proofs.write_refusal as WriteRefusal
 use Rattle.demands.specs.Contracts.{Promises, Decides, Answers, Keeps}
-use Rattle.demands.specs.Calls.{Lent, lent, Left, left, Wrote, wrote, Filling, finish-promise, Place, place, Records, Refusal, step-in-promise, next-token-promise, tokens-promise, parse-actions-promise, normalise-promise, read-actions-promise, parse-setvar-promise, parse-variables-promise, parse-update-targets-promise, From, read-targets-promise, operator-in-promise, parse-operator-promise, operator-argument-promise, directives-promise, write-listing-promise, write-refusal-promise, list-text-promise}
+use Rattle.demands.specs.Calls.{Lent, lent, Left, left, Wrote, wrote, Filling, finish-promise, Place, place, Records, Refusal, step-in-promise, next-token-promise, tokens-promise, Ending, end-reading-promise, parse-actions-promise, normalise-promise, read-actions-promise, parse-setvar-promise, parse-variables-promise, parse-update-targets-promise, From, read-targets-promise, operator-in-promise, parse-operator-promise, operator-argument-promise, directives-promise, write-listing-promise, write-refusal-promise, list-text-promise}
 use Rattle.demands.specs.Rows.{Row}
 use Rattle.demands.specs.DirectiveRows as Directive
 use Rattle.demands.specs.Library.{OfLibrary}
@@ -195,7 +202,7 @@ pub record OfNames : Type 3 where
 
 -- ---- the readers
 
--- The lexer, and the reader that holds a reference to its text, of whatever kind.
+-- Both lexers, what they begin and end with, and the reader that holds a reference to its text, of whatever kind.
 pub record OfLexer : Type 3 where
   pub start : Answers Start.ended (λ M 𝓤. Start.spec 𝓤) Start.Symbol.routine (λ _ a. fresh)
   pub step-in : Keeps StepIn.ended (λ M 𝓤. StepIn.spec 𝓤) StepIn.Symbol.routine Place (Wrote Step) step-in-promise (λ _ a. place (now (a .0)) (a .1 .0) (now (a .1 .1 .0))) (λ _ r e. wrote r (now (e .1 .1 .0)))
@@ -203,6 +210,14 @@ pub record OfLexer : Type 3 where
       (λ _ a. place (now (a .0)) (a .1 .0) (now (a .1 .1 .0))) (λ _ r e. wrote r (now (e .1 .1 .0)))
   pub tokens : Keeps TokensOf.ended (λ M 𝓤. TokensOf.spec 𝓤) TokensOf.Symbol.routine Lent (Left Tokens.Answer) tokens-promise
       (λ _ a. lent (now (a .0)) (now (a .1 .0)) (now (a .1 .1 .0))) (λ _ r e. left r (now (e .1 .0)) (now (e .1 .1 .0)))
+  pub plain-tokens : Keeps PlainTokens.ended (λ M 𝓤. PlainTokens.spec 𝓤) PlainTokens.Symbol.routine Lent (Left Tokens.Answer) tokens-promise
+      (λ _ a. lent (now (a .0)) (now (a .1 .0)) (now (a .1 .1 .0))) (λ _ r e. left r (now (e .1 .0)) (now (e .1 .1 .0)))
+  pub pass-gate : Answers PassGate.ended (λ M 𝓤. PassGate.spec 𝓤) PassGate.Symbol.routine (λ _ a. Lexer.passedBy (gateOf (now (a .0)) (a .1 .0) (length (now (a .0)))))
+  pub word-kind : Answers WordKind.ended (λ M 𝓤. WordKind.spec 𝓤) WordKind.Symbol.routine (λ _ a. wordKind (a .0) (now (a .1 .0)))
+  pub put-token : Keeps PutToken.ended (λ M 𝓤. PutToken.spec 𝓤) PutToken.Symbol.routine (List ℕ × ℕ × ℕ × Lexeme) (List ℕ) (λ i o. o ≡ Lexer.tokenStored (i .0) (i .1) (i .2) (i .3))
+      (λ _ a. (now (a .0), a .1 .0, a .1 .1 .0, a .1 .1 .1 .0)) (λ _ r e. now (e .0))
+  pub end-reading : Keeps EndReading.ended (λ M 𝓤. EndReading.spec 𝓤) EndReading.Symbol.routine Ending (Left Tokens.Answer) end-reading-promise
+      (λ _ a. record { read = a .0; text = now (a .1 .0); records = now (a .1 .1 .0) }) (λ _ r e. left r (now (e .1 .0)) (now (e .1 .1 .0)))
   pub reader-of : Decides ReaderOf.ended (λ M 𝓤. ReaderOf.spec 𝓤) ReaderOf.Symbol.routine (λ _ a r. (r .text ≡ a .0) × (r .cursor ≡ fresh))
   pub reader-at : Decides ReaderAt.ended (λ M 𝓤. ReaderAt.spec 𝓤) ReaderAt.Symbol.routine (λ _ a r. (r .text ≡ a .0 .text) × (r .cursor ≡ a .1 .0))
   pub next-of : Keeps NextOf.ended (λ M 𝓤. NextOf.spec 𝓤) NextOf.Symbol.routine Place (Wrote Step) next-token-promise

@@ -36,6 +36,7 @@ use Rattle.seclang.proofs.seclang_parse_operator as SeclangParseOperator
 use Rattle.seclang.proofs.seclang_parse_setvar as SeclangParseSetvar
 use Rattle.seclang.proofs.seclang_parse_update_targets as SeclangParseUpdateTargets
 use Rattle.seclang.proofs.seclang_parse_variables as SeclangParseVariables
+use Rattle.seclang.proofs.seclang_plain_tokens as SeclangPlainTokens
 use Rattle.seclang.proofs.seclang_tokens as SeclangTokens
 use Rattle.seclang.proofs.seclang_version as SeclangVersion
 use Rattle.demands.specs.Contracts.{Answers, Keeps}
@@ -83,6 +84,9 @@ pub record OfLibrary : Type 3 where
       (λ _ a. (place (now (a .0)) (cursor (a .1 .0) (a .1 .1 .0) (a .1 .1 .1 .0) (a .1 .1 .1 .1 .0)) (now (a .1 .1 .1 .1 .1 .0)), now (a .1 .1 .1 .1 .1 .1 .0)))
       (λ _ r e. (wrote r (now (e .1 .1 .1 .1 .1 .0)), now (e .1 .1 .1 .1 .1 .1 .0)))
   pub tokens : Keeps SeclangTokens.ended (λ M 𝓤. SeclangTokens.spec 𝓤) SeclangTokens.Symbol.routine (With Lent) (With (Left ℕ)) (fills-promise (λ i. tokensOutcome (i .input) (length (i .text)) (length (i .records))))
+      (λ _ a. (lent (now (a .0)) (now (a .1 .0)) (now (a .1 .1 .0)), now (a .1 .1 .1 .0)))
+      (λ _ r e. (left r (now (e .1 .0)) (now (e .1 .1 .0)), now (e .1 .1 .1 .0)))
+  pub plain-tokens : Keeps SeclangPlainTokens.ended (λ M 𝓤. SeclangPlainTokens.spec 𝓤) SeclangPlainTokens.Symbol.routine (With Lent) (With (Left ℕ)) (fills-promise (λ i. tokensOutcome (i .input) (length (i .text)) (length (i .records))))
       (λ _ a. (lent (now (a .0)) (now (a .1 .0)) (now (a .1 .1 .0)), now (a .1 .1 .1 .0)))
       (λ _ r e. (left r (now (e .1 .0)) (now (e .1 .1 .0)), now (e .1 .1 .1 .0)))
   pub parse-actions : Keeps SeclangParseActions.ended (λ M 𝓤. SeclangParseActions.spec 𝓤) SeclangParseActions.Symbol.routine (With (Lent × List ℕ)) (With (Left ℕ × List ℕ)) fills-actions-promise

@@ -8,6 +8,8 @@ use lib.Dec.{ltb, leb, eqb}
 use Rattle.ascii.specs.Choice.{pick, and, bit}
 use Rattle.lent.specs.Sizes.{limit, cursorMost, tokenWords, roomFor, spanWord}
 use Rattle.lent.specs.Gates.{gateOf}
+use Rattle.lent.specs.declared.gating.Gate.{Gate}
+use Rattle.lent.specs.declared.gating.Gate.the-variants as Gate
 use Rattle.lent.specs.Buffers.{stored}
 use Rattle.lent.specs.Endings.{overfull, Finished}
 use Rattle.lent.specs.Table.{Given, given, tooLong, notAscii, shortBuffer, noRoom, badCursor, refused, refusedText, Outcome, refuses, reads, pastGate, Filled, givenBy, textBy, recordsBy}
@@ -18,6 +20,8 @@ use Rattle.lexer.specs.Layout.{kindCode, wordsFrom, texts}
 use Rattle.lexer.specs.declared.stepping.Lexeme.{Lexeme}
 use Rattle.lexer.specs.declared.stepping.Step.{Step}
 use Rattle.lexer.specs.declared.stepping.Step.the-variants as Step
+use Rattle.lexer.specs.declared.writing.Passed.{Passed}
+use Rattle.lexer.specs.declared.writing.Passed.the-variants as Passed
 use Rattle.lexer.specs.declared.writing.Tally.{Tally}
 use Rattle.lexer.specs.declared.writing.Answer.{Answer}
 use Rattle.lexer.specs.declared.writing.Answer.the-variants as Answer
@@ -122,7 +126,14 @@ pub record Tokens (s text text′ records records′ : List ℕ) (r : Answer) : 
   pub texts : text′ ≡ textBy (tokensOutcome s (length text) (length records)) text
   pub words : records′ ≡ recordsBy (tokensOutcome s (length text) (length records)) records
 
--- ---- what both lexers end with
+-- ---- what both lexers begin and end with
+
+-- The gate's answer as a lexer's.
+abbrev pub passedBy : Gate → Passed
+passedBy Gate.Open = Passed.Open
+passedBy Gate.TooLong = Passed.Refused Answer.TooLong
+passedBy (Gate.NotAscii place) = Passed.Refused (Answer.NotAscii place)
+passedBy Gate.Short = Passed.Refused Answer.Short
 
 -- The five words of a token whose text starts at the offset o.
 abbrev pub lexemeRecord : ℕ → Lexeme → List ℕ

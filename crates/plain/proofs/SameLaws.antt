@@ -12,7 +12,7 @@ use Rattle.plain.specs.Table.{State, S, Class, classOf, Ends, stays, her
 use Rattle.plain.specs.Automaton.{kept, cleared, joined, left, told, tell, stops, leads, step, opened, automaton, plainReading}
 use Rattle.plain.proofs.ClassLaws.{known}
 use Rattle.plain.proofs.FutureLaws.{between-is, future, idle, Clear}
-use Rattle.plain.proofs.TableLaws.{columns, row-at, column-at}
+use Rattle.plain.proofs.TableLaws.{cell-at}
 use Rattle.plain.proofs.TurnLaws.{turn, finish}
 
 -- ---- the open text stays empty between tokens, and is empty where reading stops
@@ -57,7 +57,7 @@ clear-by q y b t p h = go (y .next) refl
 -- one computed test over the table
 pub clear : (q : State) (k : Class) (b : ℕ) (t : List ℕ) → Clear q t → ClearNext (cell q k .next) (left (cell q k) b t)
 unfolding cell
-clear q k b t h = clear-by q (cell q k) b t (column-at (λ k. tidy q (cell q k)) (row-at (λ q. columns (λ k. tidy q (cell q k))) refl q) k) h
+clear q k b t h = clear-by q (cell q k) b t (cell-at (λ q k. tidy q (cell q k)) refl q k) h
 
 -- from every state the automaton gives what the relation says
 pub automaton-is : (q : State) (xs : List ℕ) (c d : Cursor) (t : List ℕ) → Clear q t → automaton q xs c d t ≡ future q xs c d t

@@ -16,7 +16,7 @@ use Rattle.lexer.specs.Promises.{tokenStored}
 use Rattle.lexer.proofs.NarrowLaws.{stored-narrow}
 use Rattle.plain.specs.Table.{Ends, stays, here, earlier, with-it, Joins, nothing, itself, control}
 use Rattle.plain.specs.Coding.{keepsIn, endsIn, feedsIn, joinsBy, joinsIn}
-use Rattle.plain.specs.Steps.{held, words, Adds, Kept, Joined, Tells, Ended, Fed, Feeding, Behind, Room, RoomFor, joinsWidth, CanEnd, Ready, Stepped}
+use Rattle.plain.specs.Steps.{held, words, Adds, Kept, Joined, Tells, Ended, Fed, Behind, Room, RoomFor, joinsWidth, CanEnd, Ready, Acted, Stepped}
 use Rattle.plain.specs.declared.acting.Held.{Held}
 
 -- the record of a token whose numbers go into span words is stored
@@ -147,10 +147,17 @@ module _ {x : ℕ} {c : Cursor} {h : Held} {text : List ℕ} (y : Ready x c h te
       can-feed =
           (y .line-low, omega (arith, v .start-low (can-end .start-low), v .used-is, can-end .used-low), omega (arith, v .count-low, can-end .count-low))
 
-      pub can-join : (records₂ : List ℕ) (h₃ : Held) → Feeding x c h₂ records₁ records₂ h₃ → (d : Cursor) → RoomFor (joinsIn x) (held d (h₃ .start) (h₃ .used) (h₃ .count)) text₁
-      can-join records₂ h₃ g d =
-          let u = fed-onward (feedsIn x) c h₂ records₁ records₂ h₃ (g .fed) in
-          room-for (joinsIn x) (held d (h₃ .start) (h₃ .used) (h₃ .count)) text₁ (omega (arith, y .room, w .used-is, w .long, v .used-is, u .used-is))
+  pub can-join : {state : ℕ} {text₁ records records₁ : List ℕ} {r : Held} → Acted x state c h text text₁ records records₁ r → RoomFor (joinsIn x) r text₁
+  can-join {state} {text₁} {records} {records₁} {r} a =
+      let w = kept-wider (keepsIn x) h text text₁ (a .held₁) (a .kept-is) in
+      let v = ended-onward (endsIn x) state (c .place) text₁ (a .held₁) records (a .records₁) (a .held₂) (a .ended-is) in
+      let u = fed-onward (feedsIn x) c (a .held₂) (a .records₁) records₁ (a .held₃) (a .fed-is) in
+      room-for (joinsIn x) r text₁ (omega (arith, y .room, w .used-is, w .long, v .used-is, u .used-is, ap (λ (i : Held). i .used) (a .begun-is)))
+
+-- where the byte gives nothing to the text, the acts are all
+pub closing : {x state : ℕ} {c : Cursor} {h : Held} {text text′ records records′ : List ℕ} {r : Held} (b : ℕ) → joinsIn x ≡ nothing → Acted x state c h text text′ records records′ r
+    → Stepped x state b c h text text′ records records′ r
+closing b e a = record { text₁ = _; begun = _; acted = a; joined-is = rw e (refl, refl) }
 
 -- ---- the cells that most bytes come to
 
@@ -172,14 +179,18 @@ module _ (x state b : ℕ) (c : Cursor) (h : Held) (text records : List ℕ) whe
   alone : {j : ℕ} → Alone x j → (text′ : List ℕ) (r : Held) → Joined (joinsBy j) b h text text′ r → Stepped x state b c h text text′ records records r
   alone p text′ r e = record {
     text₁ = text;
-    records₁ = records;
-    held₁ = h;
-    held₂ = h;
-    held₃ = h;
-    kept-is = rw (p .keeps-not) (refl, refl);
-    ended-is = rw (p .ends-not) (refl, refl);
-    fed-is = rw (p .feeds-not) (refl, refl);
-    joined-is = rw (p .begins-not, p .joins-is) e;
+    begun = h;
+    acted = record {
+      records₁ = records;
+      held₁ = h;
+      held₂ = h;
+      held₃ = h;
+      kept-is = rw (p .keeps-not) (refl, refl);
+      ended-is = rw (p .ends-not) (refl, refl);
+      fed-is = rw (p .feeds-not) (refl, refl);
+      begun-is = rw (p .begins-not);
+    };
+    joined-is = rw (p .joins-is) e;
   }
 
   -- no act

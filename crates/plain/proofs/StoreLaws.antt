@@ -188,29 +188,31 @@ pub stored-step : {text₀ records₀ text records text′ records′ : List ℕ
     → Stored text₀ records₀ text records done said h → x ≡ encode y → state ≡ code q → h .used + bit (y .keeps) + joinsWidth (y .joins) ≤ length text₀
     → Stepped x state b c h text text′ records records′ r → Left text₀ records₀ text′ records′ done said y q b c h r
 stored-step {text₀} {records₀} {text} {records} {text′} {records′} {done} {said} {h} {r} x state b y q c p e f l z =
-    let k : Kept (y .keeps) h text (z .text₁) (z .held₁) = subst (λ (i : Bool). Kept i h text (z .text₁) (z .held₁)) (ap keepsIn e ∙ keeps-in y) (z .kept-is) in
-    let n : Ended (y .ends) (code q) (c .place) (z .text₁) (z .held₁) records (z .records₁) (z .held₂) =
-    subst (λ (i : ℕ). Ended (y .ends) i (c .place) (z .text₁) (z .held₁) records (z .records₁) (z .held₂)) f
-    (subst (λ (i : Ends). Ended i state (c .place) (z .text₁) (z .held₁) records (z .records₁) (z .held₂)) (ap endsIn e ∙ ends-in y) (z .ended-is)) in
-    let g : Fed (y .feeds) c (z .held₂) (z .records₁) records′ (z .held₃) = subst (λ (i : Bool). Fed i c (z .held₂) (z .records₁) records′ (z .held₃)) (ap feedsIn e ∙ feeds-in y) (z .fed-is) in
-    let d : Cursor = opened (y .begins) c (z .held₃ .from) in
-    let begun : Held = held d (z .held₃ .start) (z .held₃ .used) (z .held₃ .count) in
+    let a = z .acted in
+    let k : Kept (y .keeps) h text (z .text₁) (a .held₁) = subst (λ (i : Bool). Kept i h text (z .text₁) (a .held₁)) (ap keepsIn e ∙ keeps-in y) (a .kept-is) in
+    let n : Ended (y .ends) (code q) (c .place) (z .text₁) (a .held₁) records (a .records₁) (a .held₂) =
+    subst (λ (i : ℕ). Ended (y .ends) i (c .place) (z .text₁) (a .held₁) records (a .records₁) (a .held₂)) f
+    (subst (λ (i : Ends). Ended i state (c .place) (z .text₁) (a .held₁) records (a .records₁) (a .held₂)) (ap endsIn e ∙ ends-in y) (a .ended-is)) in
+    let g : Fed (y .feeds) c (a .held₂) (a .records₁) records′ (a .held₃) = subst (λ (i : Bool). Fed i c (a .held₂) (a .records₁) records′ (a .held₃)) (ap feedsIn e ∙ feeds-in y) (a .fed-is) in
+    let d : Cursor = opened (y .begins) c (a .held₃ .from) in
+    let begun : Held = held d (a .held₃ .start) (a .held₃ .used) (a .held₃ .count) in
+    let s : z .begun ≡ begun =
+    a .begun-is ∙ ap (λ (i : Bool). held (opened i c (a .held₃ .from)) (a .held₃ .start) (a .held₃ .used) (a .held₃ .count)) (ap beginsIn e ∙ begins-in y) in
     let j : Joined (y .joins) b begun (z .text₁) text′ r =
-    subst (λ (i : Bool). Joined (y .joins) b (held (opened i c (z .held₃ .from)) (z .held₃ .start) (z .held₃ .used) (z .held₃ .count)) (z .text₁) text′ r) (ap beginsIn e ∙ begins-in y)
-    (subst (λ (i : Joins). Joined i b (held (opened (beginsIn x) c (z .held₃ .from)) (z .held₃ .start) (z .held₃ .used) (z .held₃ .count)) (z .text₁) text′ r) (ap joinsIn e ∙ joins-in y) (z .joined-is)) in
-    let w = kept-wider (y .keeps) h text (z .text₁) (z .held₁) k in
-    let v = ended-onward (y .ends) (code q) (c .place) (z .text₁) (z .held₁) records (z .records₁) (z .held₂) n in
-    let u = fed-onward (y .feeds) c (z .held₂) (z .records₁) records′ (z .held₃) g in
+    subst (λ (i : Held). Joined (y .joins) b i (z .text₁) text′ r) s (subst (λ (i : Joins). Joined i b (z .begun) (z .text₁) text′ r) (ap joinsIn e ∙ joins-in y) (z .joined-is)) in
+    let w = kept-wider (y .keeps) h text (z .text₁) (a .held₁) k in
+    let v = ended-onward (y .ends) (code q) (c .place) (z .text₁) (a .held₁) records (a .records₁) (a .held₂) n in
+    let u = fed-onward (y .feeds) c (a .held₂) (a .records₁) records′ (a .held₃) g in
     let o = joined-wider (y .joins) b begun (z .text₁) text′ r j in
-    let same : z .held₃ .from ≡ h .from = u .from-is ∙ v .from-is ∙ w .from-is in
-    let p₁ = stored-kept p (y .keeps) (z .text₁) (z .held₁) (omega arith) k in
-    let p₂ = stored-ended p₁ (y .ends) q c (z .records₁) (z .held₂) n in
-    let p₃ = stored-fed p₂ (y .feeds) c records′ (z .held₃) g in
+    let same : a .held₃ .from ≡ h .from = u .from-is ∙ v .from-is ∙ w .from-is in
+    let p₁ = stored-kept p (y .keeps) (z .text₁) (a .held₁) (omega arith) k in
+    let p₂ = stored-ended p₁ (y .ends) q c (a .records₁) (a .held₂) n in
+    let p₃ = stored-fed p₂ (y .feeds) c records′ (a .held₃) g in
     let p₄ = stored-joined (stored-begun p₃ d) (y .joins) b text′ r (omega (arith, w .used-is, v .used-is, u .used-is)) j in
     let t : List ℕ = kept (y .keeps) said in
-    let ts : done ++ ended (y .ends) q c (z .held₁ .from) t [] ++ fed (y .feeds) c ≡ done ++ told y q c (h .from) said =
-    append-assoc done (ended (y .ends) q c (z .held₁ .from) t []) (fed (y .feeds) c)
-    ∙ ap (λ (i : List Token). done ++ i) (sym (ended-fed (y .ends) q c (z .held₁ .from) t (fed (y .feeds) c)))
+    let ts : done ++ ended (y .ends) q c (a .held₁ .from) t [] ++ fed (y .feeds) c ≡ done ++ told y q c (h .from) said =
+    append-assoc done (ended (y .ends) q c (a .held₁ .from) t []) (fed (y .feeds) c)
+    ∙ ap (λ (i : List Token). done ++ i) (sym (ended-fed (y .ends) q c (a .held₁ .from) t (fed (y .feeds) c)))
     ∙ ap (λ (i : Cursor). done ++ ended (y .ends) q c i t (fed (y .feeds) c)) (w .from-is) in
     record {
       stored = subst (λ (i : List Token). Stored text₀ records₀ text′ records′ i (left y b said) r) ts p₄;

@@ -14,41 +14,66 @@ use Rattle.plain.specs.Coding.{code, classCode, endsCode, joinsCode, nex
 
 -- ---- a test at every row and every column
 
+abbrev all : List Bool → Bool
+all [] = true
+all (t ∷ ts) = and t (all ts)
+
+all-at : (ts : List Bool) → all ts ≡ true → (i : ℕ) → getD ts i true ≡ true
+all-at [] e i = refl
+all-at (t ∷ ts) e zero = and-left t (all ts) e
+all-at (t ∷ ts) e (suc i) = all-at ts (and-right t (all ts) e) i
+
+abbrev inColumns : (Class → Bool) → List Bool
+inColumns f = f feed ∷ f return ∷ f blank ∷ f stop ∷ f slash ∷ f double ∷ f single ∷ f hash ∷ f letter ∷ f other ∷ f over ∷ []
+
+abbrev inRows : (State → Bool) → List Bool
+inRows f = f S ∷ f SB ∷ f SC ∷ f W ∷ f WB ∷ f WC ∷ f K ∷ f D ∷ f DB ∷ f DC ∷ f DM ∷ f Q ∷ f QB ∷ f QC ∷ f QM ∷ []
+
 abbrev pub columns : (Class → Bool) → Bool
-columns f = and (f feed) (and (f return) (and (f blank) (and (f stop) (and (f slash) (and (f double) (and (f single) (and (f hash) (and (f letter) (and (f other) (f over))))))))))
+columns f = all (inColumns f)
 
 abbrev pub rows : (State → Bool) → Bool
-rows f = and (f S) (and (f SB) (and (f SC) (and (f W) (and (f WB) (and (f WC) (and (f K) (and (f D) (and (f DB) (and (f DC) (and (f DM) (and (f Q) (and (f QB) (and (f QC) (f QM))))))))))))))
+rows f = all (inRows f)
+
+column-is : (f : Class → Bool) (k : Class) → getD (inColumns f) (classCode k) true ≡ f k
+column-is f feed = refl
+column-is f return = refl
+column-is f blank = refl
+column-is f stop = refl
+column-is f slash = refl
+column-is f double = refl
+column-is f single = refl
+column-is f hash = refl
+column-is f letter = refl
+column-is f other = refl
+column-is f over = refl
+
+row-is : (f : State → Bool) (q : State) → getD (inRows f) (code q / 11) true ≡ f q
+row-is f S = refl
+row-is f SB = refl
+row-is f SC = refl
+row-is f W = refl
+row-is f WB = refl
+row-is f WC = refl
+row-is f K = refl
+row-is f D = refl
+row-is f DB = refl
+row-is f DC = refl
+row-is f DM = refl
+row-is f Q = refl
+row-is f QB = refl
+row-is f QC = refl
+row-is f QM = refl
 
 pub column-at : (f : Class → Bool) → columns f ≡ true → (k : Class) → f k ≡ true
-column-at f e feed = and-left _ _ e
-column-at f e return = and-left _ _ (and-right (f feed) _ e)
-column-at f e blank = and-left _ _ (and-right (f return) _ (and-right (f feed) _ e))
-column-at f e stop = and-left _ _ (and-right (f blank) _ (and-right (f return) _ (and-right (f feed) _ e)))
-column-at f e slash = and-left _ _ (and-right (f stop) _ (and-right (f blank) _ (and-right (f return) _ (and-right (f feed) _ e))))
-column-at f e double = and-left _ _ (and-right (f slash) _ (and-right (f stop) _ (and-right (f blank) _ (and-right (f return) _ (and-right (f feed) _ e)))))
-column-at f e single = and-left _ _ (and-right (f double) _ (and-right (f slash) _ (and-right (f stop) _ (and-right (f blank) _ (and-right (f return) _ (and-right (f feed) _ e))))))
-column-at f e hash = and-left _ _ (and-right (f single) _ (and-right (f double) _ (and-right (f slash) _ (and-right (f stop) _ (and-right (f blank) _ (and-right (f return) _ (and-right (f feed) _ e)))))))
-column-at f e letter = and-left _ _ (and-right (f hash) _ (and-right (f single) _ (and-right (f double) _ (and-right (f slash) _ (and-right (f stop) _ (and-right (f blank) _ (and-right (f return) _ (and-right (f feed) _ e))))))))
-column-at f e other = and-left _ _ (and-right (f letter) _ (and-right (f hash) _ (and-right (f single) _ (and-right (f double) _ (and-right (f slash) _ (and-right (f stop) _ (and-right (f blank) _ (and-right (f return) _ (and-right (f feed) _ e)))))))))
-column-at f e over = and-right (f other) _ (and-right (f letter) _ (and-right (f hash) _ (and-right (f single) _ (and-right (f double) _ (and-right (f slash) _ (and-right (f stop) _ (and-right (f blank) _ (and-right (f return) _ (and-right (f feed) _ e)))))))))
+column-at f e k = sym (column-is f k) ∙ all-at (inColumns f) e (classCode k)
 
-pub row-at : (f : State → Bool) → rows f ≡ true → (k : State) → f k ≡ true
-row-at f e S = and-left _ _ e
-row-at f e SB = and-left _ _ (and-right (f S) _ e)
-row-at f e SC = and-left _ _ (and-right (f SB) _ (and-right (f S) _ e))
-row-at f e W = and-left _ _ (and-right (f SC) _ (and-right (f SB) _ (and-right (f S) _ e)))
-row-at f e WB = and-left _ _ (and-right (f W) _ (and-right (f SC) _ (and-right (f SB) _ (and-right (f S) _ e))))
-row-at f e WC = and-left _ _ (and-right (f WB) _ (and-right (f W) _ (and-right (f SC) _ (and-right (f SB) _ (and-right (f S) _ e)))))
-row-at f e K = and-left _ _ (and-right (f WC) _ (and-right (f WB) _ (and-right (f W) _ (and-right (f SC) _ (and-right (f SB) _ (and-right (f S) _ e))))))
-row-at f e D = and-left _ _ (and-right (f K) _ (and-right (f WC) _ (and-right (f WB) _ (and-right (f W) _ (and-right (f SC) _ (and-right (f SB) _ (and-right (f S) _ e)))))))
-row-at f e DB = and-left _ _ (and-right (f D) _ (and-right (f K) _ (and-right (f WC) _ (and-right (f WB) _ (and-right (f W) _ (and-right (f SC) _ (and-right (f SB) _ (and-right (f S) _ e))))))))
-row-at f e DC = and-left _ _ (and-right (f DB) _ (and-right (f D) _ (and-right (f K) _ (and-right (f WC) _ (and-right (f WB) _ (and-right (f W) _ (and-right (f SC) _ (and-right (f SB) _ (and-right (f S) _ e)))))))))
-row-at f e DM = and-left _ _ (and-right (f DC) _ (and-right (f DB) _ (and-right (f D) _ (and-right (f K) _ (and-right (f WC) _ (and-right (f WB) _ (and-right (f W) _ (and-right (f SC) _ (and-right (f SB) _ (and-right (f S) _ e))))))))))
-row-at f e Q = and-left _ _ (and-right (f DM) _ (and-right (f DC) _ (and-right (f DB) _ (and-right (f D) _ (and-right (f K) _ (and-right (f WC) _ (and-right (f WB) _ (and-right (f W) _ (and-right (f SC) _ (and-right (f SB) _ (and-right (f S) _ e)))))))))))
-row-at f e QB = and-left _ _ (and-right (f Q) _ (and-right (f DM) _ (and-right (f DC) _ (and-right (f DB) _ (and-right (f D) _ (and-right (f K) _ (and-right (f WC) _ (and-right (f WB) _ (and-right (f W) _ (and-right (f SC) _ (and-right (f SB) _ (and-right (f S) _ e))))))))))))
-row-at f e QC = and-left _ _ (and-right (f QB) _ (and-right (f Q) _ (and-right (f DM) _ (and-right (f DC) _ (and-right (f DB) _ (and-right (f D) _ (and-right (f K) _ (and-right (f WC) _ (and-right (f WB) _ (and-right (f W) _ (and-right (f SC) _ (and-right (f SB) _ (and-right (f S) _ e)))))))))))))
-row-at f e QM = and-right (f QC) _ (and-right (f QB) _ (and-right (f Q) _ (and-right (f DM) _ (and-right (f DC) _ (and-right (f DB) _ (and-right (f D) _ (and-right (f K) _ (and-right (f WC) _ (and-right (f WB) _ (and-right (f W) _ (and-right (f SC) _ (and-right (f SB) _ (and-right (f S) _ e)))))))))))))
+pub row-at : (f : State → Bool) → rows f ≡ true → (q : State) → f q ≡ true
+row-at f e q = sym (row-is f q) ∙ all-at (inRows f) e (code q / 11)
+
+-- a test at every cell
+pub cell-at : (f : State → Class → Bool) → rows (λ q. columns (f q)) ≡ true → (q : State) (k : Class) → f q k ≡ true
+cell-at f e q k = column-at (f q) (row-at (λ q. columns (f q)) e q) k
 
 -- ---- the source's lists
 
@@ -70,8 +95,7 @@ class-is b h = eqb-true _ _ (at (λ i. eqb (getD columnDigits i 0) (classCode (c
 
 pub cell-is : (q : State) (k : Class) → getD cellNumbers (code q + classCode k) 0 ≡ encode (cell q k)
 unfolding cellNumbers cell
-cell-is q k = eqb-true _ _ (column-at (λ k. eqb (getD cellNumbers (code q + classCode k) 0) (encode (cell q k)))
-    (row-at (λ q. columns (λ k. eqb (getD cellNumbers (code q + classCode k) 0) (encode (cell q k)))) refl q) k)
+cell-is q k = eqb-true _ _ (cell-at (λ q k. eqb (getD cellNumbers (code q + classCode k) 0) (encode (cell q k))) refl q k)
 
 pub code-low : (q : State) → code q ≤ 154
 code-low q = leb-true _ _ (row-at (λ q. leb (code q) 154) refl q)
@@ -101,7 +125,7 @@ ends-is here = refl
 ends-is earlier = refl
 ends-is with-it = refl
 
-joins-is : (x : Joins) → joinsBy (joinsCode x) ≡ x
+pub joins-is : (x : Joins) → joinsBy (joinsCode x) ≡ x
 joins-is nothing = refl
 joins-is itself = refl
 joins-is control = refl

@@ -3,6 +3,7 @@ use mathlib.Core.Path.{_≡_, refl, sym, subst}
 use Prim.Native.Nat.{ℕ}
 use mathlib.Core.List.{List, [], _∷_, _++_, append-nil}
 use Rattle.lexer.specs.declared.Cursor.{Cursor}
+use Rattle.lexer.specs.declared.quotes.Mode.the-variants.{Plain as plain, Escaped as escaped, AfterCr as afterCr, Margin as margin}
 use Rattle.lexer.specs.Runs.{run, text}
 use Rattle.lexer.specs.Rules.{lineEnd, feedNext}
 use Rattle.lexer.specs.Tokens.{tokens, tokenAt}
@@ -11,7 +12,7 @@ use Rattle.plain.specs.Automaton.{told, tell, stops}
 use Rattle.plain.proofs.ClassLaws.{Known}
 use Rattle.plain.proofs.FutureLaws.{future, Clear}
 use Rattle.plain.proofs.WordTurnLaws.{Turn, turn-S, turn-SB, turn-SC, turn-W, turn-WB, turn-WC, turn-K}
-use Rattle.plain.proofs.QuoteTurnLaws.{turn-D, turn-DB, turn-DC, turn-DM, turn-Q, turn-QB, turn-QC, turn-QM}
+use Rattle.plain.proofs.QuoteTurnLaws.{double, single, turn-inside}
 
 module _ (r : List ℕ) (c d : Cursor) where
   pub turn : (q : State) {b : ℕ} {k : Class} → Known b k → (t : List ℕ) → Clear q t → Turn q b k r c d t
@@ -22,14 +23,14 @@ module _ (r : List ℕ) (c d : Cursor) where
   turn WB x t h = turn-WB r c d t x
   turn WC x t h = turn-WC r c d t x
   turn K x t h = turn-K r c d t x
-  turn D x t h = turn-D r c d t x
-  turn DB x t h = turn-DB r c d t x
-  turn DC x t h = turn-DC r c d t x
-  turn DM x t h = turn-DM r c d t x
-  turn Q x t h = turn-Q r c d t x
-  turn QB x t h = turn-QB r c d t x
-  turn QC x t h = turn-QC r c d t x
-  turn QM x t h = turn-QM r c d t x
+  turn D x t h = turn-inside r c d double plain x t
+  turn DB x t h = turn-inside r c d double escaped x t
+  turn DC x t h = turn-inside r c d double afterCr x t
+  turn DM x t h = turn-inside r c d double margin x t
+  turn Q x t h = turn-inside r c d single plain x t
+  turn QB x t h = turn-inside r c d single escaped x t
+  turn QC x t h = turn-inside r c d single afterCr x t
+  turn QM x t h = turn-inside r c d single margin x t
 
 -- at the end of the text
 pub finish : (q : State) (c d : Cursor) (t : List ℕ) → future q [] c d t ≡ tell (told (cell q over) q c d t) (stops c)

@@ -7,7 +7,7 @@ use native.Mathlib.Numerals.{add-one}
 use native.Mathlib.Omega.{arith}
 use lib.Dec.{leb, eqb}
 use lib.ListN.{length, take, drop, getD, drop-of-length-le}
-use borrow.Author.Tests.{leb-true}
+use borrow.Author.Tests.{eqb-true, leb-true}
 use Rattle.ascii.specs.Choice.{and, bit, pick}
 use Rattle.ascii.proofs.ListLaws.{next-byte}
 use Rattle.ascii.proofs.SameLaws.{and-left, and-right}
@@ -21,14 +21,15 @@ use Rattle.lexer.specs.Layout.{texts, wordsFrom}
 use Rattle.lexer.specs.Steps.{Whole}
 use Rattle.lexer.proofs.LayoutLaws.{words-length}
 use Rattle.lexer.proofs.MoveLaws.{moved-place, Bounded, moves-bounded}
-use Rattle.plain.specs.Table.{State, S, SB, SC, W, WB, WC, K, D, DB, DC, DM, Q, QB, QC, QM, Class, over, classOf, Ends, stays, here, earlier, with-it, Next, goes, halts, Cell, cell}
+use Rattle.plain.specs.Table.{State, S, SB, SC, W, WB, WC, K, D, DB, DC, DM, Q, QB, QC, QM, Class, over, classOf, Ends, stays, here, earlier, with-it, nothing, Next, goes, halts, Cell, cell}
 use Rattle.plain.specs.Automaton.{told, left, tell, stops, leads, opened, automaton, plainReading}
-use Rattle.plain.specs.Coding.{code, encode, keepsIn, endsIn, feedsIn, joinsIn}
-use Rattle.plain.specs.Steps.{held, Behind, joinsWidth, Ready, Stepped, tallied}
+use Rattle.plain.specs.Coding.{code, joinsCode, joinsBy, encode, keepsIn, endsIn, feedsIn, joinsIn}
+use Rattle.plain.specs.Steps.{held, Behind, joinsWidth, Ready, Acted, Stepped, tallied}
 use Rattle.plain.specs.declared.acting.Held.{Held}
 use Rattle.plain.proofs.FutureLaws.{Clear}
 use Rattle.plain.proofs.SameLaws.{ClearNext, clear, plain-is}
-use Rattle.plain.proofs.TableLaws.{columns, rows, column-at, row-at, code-low, rowOf, stopsAt, next-in, stops-in, keeps-in, ends-in, feeds-in, joins-in}
+use Rattle.plain.proofs.TableLaws.{row-at, cell-at, code-low, rowOf, stopsAt, next-in, stops-in, keeps-in, ends-in, feeds-in, joins-is, joins-in}
+use Rattle.plain.proofs.StepLaws.{closing}
 use Rattle.plain.proofs.StoreLaws.{Stored, Left, stored-step}
 
 -- ---- what a state may still write, and how far behind its token began: a computed test of the table
@@ -110,7 +111,7 @@ paid-told n q y e =
 
 paid-cell : (q : State) (k : Class) → Paid 1 q (cell q k)
 unfolding cell
-paid-cell q k = paid-told 1 q (cell q k) (column-at (λ k. paid 1 q (cell q k)) (row-at (λ q. columns (λ k. paid 1 q (cell q k))) refl q) k)
+paid-cell q k = paid-told 1 q (cell q k) (cell-at (λ q k. paid 1 q (cell q k)) refl q k)
 
 paid-over : (q : State) → Paid 0 q (cell q over)
 unfolding cell
@@ -209,6 +210,10 @@ over-clear Q b t h = refl
 over-clear QB b t h = refl
 over-clear QC b t h = refl
 over-clear QM b t h = refl
+
+over-joins : (q : State) → cell q over .joins ≡ nothing
+unfolding cell
+over-joins q = sym (joins-is (cell q over .joins)) ∙ ap joinsBy (eqb-true (joinsCode (cell q over .joins)) 0 (row-at (λ q. eqb (joinsCode (cell q over .joins)) 0) refl q))
 
 -- the buffers hold all tokens, and reading stops at c
 finished : {s text₀ records₀ text records : List ℕ} {ts : List Token} {said : List ℕ} {c : Cursor} {h : Held} → plainReading s ≡ tell ts (stops c) → said ≡ []
@@ -348,11 +353,11 @@ module _ {s text₀ records₀ text records : List ℕ} {c : Cursor} {h : Held} 
     pub ready-over : Ready v c h text
     ready-over = can-step 0 v z (omega (arith, x .inside)) (f (x .q) (x .state-is)) (paid-over (x .q))
 
-    pub ended : (b : ℕ) {text′ records′ : List ℕ} {h′ : Held} → Stepped v state b c h text text′ records records′ h′ → Whole s text₀ text′ records₀ records′ (tallied h′ c)
+    pub ended : {text′ records′ : List ℕ} {h′ : Held} → Acted v state c h text text′ records records′ h′ → Whole s text₀ text′ records₀ records′ (tallied h′ c)
     unfolding automaton
-    ended b w =
+    ended w =
         finished
         (x .reading-is ∙ ap (λ (r : List ℕ). tell (x .done) (automaton (x .q) r c (h .from) (x .said))) (drop-of-length-le s l)
         ∙ sym (tell-append (x .done) (told z (x .q) c (h .from) (x .said)) (stops c)))
-        (over-clear (x .q) b (x .said) (x .clear-is))
-        (leaves 0 v z (omega (arith, x .inside)) (f (x .q) (x .state-is)) (paid-over (x .q)) b w .stored)
+        (over-clear (x .q) 0 (x .said) (x .clear-is))
+        (leaves 0 v z (omega (arith, x .inside)) (f (x .q) (x .state-is)) (paid-over (x .q)) 0 (closing 0 (ap joinsIn (f (x .q) (x .state-is)) ∙ joins-in z ∙ over-joins (x .q)) w) .stored)

@@ -111,17 +111,23 @@ pub record Ready (x : ℕ) (c : Cursor) (h : Held) (text : List ℕ) : Type 0 wh
   pub behind : Behind (endsIn x) c h
   pub line-low : c .place + bit (feedsIn x) ≤ limit
 
--- A whole step: its acts, one after another.
-pub record Stepped (x state b : ℕ) (c : Cursor) (h : Held) (text text′ records records′ : List ℕ) (r : Held) : Type 0 where
-  pub text₁ : List ℕ
+-- The acts of a step but the last, one after another.
+pub record Acted (x state : ℕ) (c : Cursor) (h : Held) (text text′ records records′ : List ℕ) (r : Held) : Type 0 where
   pub records₁ : List ℕ
   pub held₁ : Held
   pub held₂ : Held
   pub held₃ : Held
-  pub kept-is : Kept (keepsIn x) h text text₁ held₁
-  pub ended-is : Ended (endsIn x) state (c .place) text₁ held₁ records records₁ held₂
+  pub kept-is : Kept (keepsIn x) h text text′ held₁
+  pub ended-is : Ended (endsIn x) state (c .place) text′ held₁ records records₁ held₂
   pub fed-is : Fed (feedsIn x) c held₂ records₁ records′ held₃
-  pub joined-is : Joined (joinsIn x) b (held (opened (beginsIn x) c (held₃ .from)) (held₃ .start) (held₃ .used) (held₃ .count)) text₁ text′ r
+  pub begun-is : r ≡ held (opened (beginsIn x) c (held₃ .from)) (held₃ .start) (held₃ .used) (held₃ .count)
+
+-- A whole step.
+pub record Stepped (x state b : ℕ) (c : Cursor) (h : Held) (text text′ records records′ : List ℕ) (r : Held) : Type 0 where
+  pub text₁ : List ℕ
+  pub begun : Held
+  pub acted : Acted x state c h text text₁ records records′ begun
+  pub joined-is : Joined (joinsIn x) b begun text₁ text′ r
 
 -- What was read, by the registers and where reading stopped.
 abbrev pub tallied : Held → Cursor → Tally

@@ -18,9 +18,9 @@ use crate::table::OVER;
 use crate::table::S;
 use crate::table::cell_of;
 use crate::table::column_of;
-use lent::Gate;
 use lexer::Answer;
 use lexer::Cursor;
+use lexer::Passed;
 use lexer::Tally;
 
 // What was read, where the last token was told and reading stopped.
@@ -67,7 +67,7 @@ fn run_by(
         here = past(here, class);
     }
     let x = cell_of(cells, state, OVER);
-    held = act(x, state, 0, here, held, text, records);
+    held = act(x, state, here, held, text, records);
     tally(held, here)
 }
 
@@ -86,12 +86,11 @@ fn run(s: &[u8], text: &mut [u8], records: &mut [u64]) -> Tally
 pub fn plain_tokens(input: &[u8], text: &mut [u8], records: &mut [u64]) -> Answer
     ensures { λ r. ⌜ Tokens (now (input .entry)) (now (text .entry)) (now (text .exit)) (now (records .entry)) (now (records .exit)) r ⌝ }
 {
-    match lent::admit(input, text.len(), input.len()) {
-        Gate::TooLong => return Answer::TooLong,
-        Gate::NotAscii(place) => return Answer::NotAscii(place),
-        Gate::Short => return Answer::Short,
-        Gate::Open => {}
+    match lexer::pass_gate(input, text.len()) {
+        Passed::Refused(answer) => answer,
+        Passed::Open => {
+            let read = run(input, text, records);
+            lexer::end_reading(read, text, records)
+        }
     }
-    let read = run(input, text, records);
-    lexer::end_reading(read, text, records)
 }

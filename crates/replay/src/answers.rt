@@ -76,6 +76,7 @@ pub fn answer(letter: u8, body: &[u8]) {
         b'o' => print_code(names::operator_code(body)),
         b's' => print_code(names::severity_code(body)),
         b'T' => lexing::print_tokens(body),
+        b'P' => lexing::print_plain_tokens(body),
         b'S' => lexing::print_step(body),
         b'R' => thin::print_steps(body),
         b'p' => operating::print_operator(body),

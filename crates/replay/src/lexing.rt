@@ -14,10 +14,8 @@ use lexer::Line;
 use lexer::Step;
 
 // Records needed, where the buffer of this program is too small for them.
-pub fn print_tokens(input: &[u8]) {
-    let mut text = [0u8; sizes::TEXT];
-    let mut records = [0u64; sizes::RECORDS];
-    match lexer::tokens(input, &mut text, &mut records) {
+fn print_read(answer: Answer, text: &[u8], records: &[u64]) {
+    match answer {
         Answer::Read {
             count,
             text: used,
@@ -31,14 +29,28 @@ pub fn print_tokens(input: &[u8]) {
             print_number(line.0 as u64);
             print_number(column.0 as u64);
             print_number(used as u64);
-            print_records(&records, count, lent::TOKEN_WORDS);
-            print_text(&text, used);
+            print_records(records, count, lent::TOKEN_WORDS);
+            print_text(text, used);
         }
         Answer::TooLong => print_refusal(1, lent::LIMIT),
         Answer::NotAscii(place) => print_refusal(2, place),
         Answer::Short => print_refusal(3, 0),
         Answer::NoRoom(needed) => print_refusal(4, needed),
     }
+}
+
+pub fn print_tokens(input: &[u8]) {
+    let mut text = [0u8; sizes::TEXT];
+    let mut records = [0u64; sizes::RECORDS];
+    let answer = lexer::tokens(input, &mut text, &mut records);
+    print_read(answer, &text, &records);
+}
+
+pub fn print_plain_tokens(input: &[u8]) {
+    let mut text = [0u8; sizes::TEXT];
+    let mut records = [0u64; sizes::RECORDS];
+    let answer = plain::plain_tokens(input, &mut text, &mut records);
+    print_read(answer, &text, &records);
 }
 
 fn kind_code(k: Kind) -> u64 {

@@ -25,6 +25,10 @@ pub record Fills (o : Outcome Filled) (text text′ records records′ old new :
   pub texts : text′ ≡ textBy o text
   pub words : records′ ≡ recordsBy o records
 
+-- both lexers
+abbrev pub Lexes : (s text text′ records records′ old new : List ℕ) → ℕ → Type 0
+Lexes s text text′ records records′ old new r = Fills (tokensOutcome s (length text) (length records)) text text′ records records′ old new r
+
 -- and a scratch buffer
 pub record FillsActions (s text text′ work work′ records records′ old new : List ℕ) (r : ℕ) : Type 0 where
   pub fills : Fills (actionsOutcome s (length text) (length work) (length records)) text text′ records records′ old new r

@@ -21,5 +21,6 @@ pub use reading::seclang_parse_operator;
 pub use reading::seclang_parse_setvar;
 pub use reading::seclang_parse_update_targets;
 pub use reading::seclang_parse_variables;
+pub use reading::seclang_plain_tokens;
 pub use reading::seclang_tokens;
 pub use versioning::seclang_version;

@@ -2,13 +2,12 @@
 ghost use mathlib.Core.Path.{_≡_};
 ghost use lib.ListN.{length};
 ghost use Rattle.lexer.specs.Cursors.{cursor};
-ghost use Rattle.lexer.specs.Promises.{tokensOutcome};
 ghost use Rattle.actions.specs.Promises.{setvarOutcome};
 ghost use Rattle.variables.specs.Promises.{variablesOutcome, updateOutcome};
 ghost use Rattle.operators.specs.Promises as Operating;
 ghost use Rattle.directives.specs.Promises.{lentOf};
 ghost use Rattle.seclang.specs.Told.{Told};
-ghost use Rattle.seclang.specs.Readers.{Steps, Fills, FillsActions, FillsDirectives};
+ghost use Rattle.seclang.specs.Readers.{Steps, Fills, Lexes, FillsActions, FillsDirectives};
 use crate::telling::tell_acted;
 use crate::telling::tell_directed;
 use crate::telling::tell_operated;
@@ -47,9 +46,21 @@ pub extern "C" fn seclang_tokens(
     records: &mut [u64],
     values: &mut [u64],
 ) -> u64
-    ensures { λ r. ⌜ Fills (tokensOutcome (now (input .entry)) (length (now (text .entry))) (length (now (records .entry)))) (now (text .entry)) (now (text .exit)) (now (records .entry)) (now (records .exit)) (now (values .entry)) (now (values .exit)) r ⌝ }
+    ensures { λ r. ⌜ Lexes (now (input .entry)) (now (text .entry)) (now (text .exit)) (now (records .entry)) (now (records .exit)) (now (values .entry)) (now (values .exit)) r ⌝ }
 {
     tell_reading(lexer::tokens(input, text, records), values)
+}
+
+#[no_mangle]
+pub extern "C" fn seclang_plain_tokens(
+    input: &[u8],
+    text: &mut [u8],
+    records: &mut [u64],
+    values: &mut [u64],
+) -> u64
+    ensures { λ r. ⌜ Lexes (now (input .entry)) (now (text .entry)) (now (text .exit)) (now (records .entry)) (now (records .exit)) (now (values .entry)) (now (values .exit)) r ⌝ }
+{
+    tell_reading(plain::plain_tokens(input, text, records), values)
 }
 
 #[no_mangle]

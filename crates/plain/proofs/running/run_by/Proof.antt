@@ -54,13 +54,13 @@ act-requires : tie.Need-act-requires Inv-loop μ-loop
 act-requires c κs = ready-over (c .before .before .before .before .before .loop .inv) (c .before .before .before .if1 .left) _ (λ q e. c .before .before .cell-of2 .ensures q over e refl)
 
 same-length-3 : tie.Need-same-length-3 Inv-loop μ-loop
-same-length-3 c = c .before .before .before .before .before .act .kept .1 .1 .1 .1 .1 .0 ∙ c .before .before .before .before .before .before .before .before .before .before .before .loop .inv .stored .written .long
+same-length-3 c = c .before .before .before .before .before .act .kept .1 .1 .1 .1 .0 ∙ c .before .before .before .before .before .before .before .before .before .before .before .loop .inv .stored .written .long
 
 same-length-4 : tie.Need-same-length-4 Inv-loop μ-loop
-same-length-4 c = c .before .before .before .before .before .act .kept .1 .1 .1 .1 .1 .1 .0 ∙ c .before .before .before .before .before .before .before .before .before .before .before .loop .inv .stored .long
+same-length-4 c = c .before .before .before .before .before .act .kept .1 .1 .1 .1 .1 .0 ∙ c .before .before .before .before .before .before .before .before .before .before .before .loop .inv .stored .long
 
 returns-2 : tie.Need-returns-2 Inv-loop μ-loop
-returns-2 c = rw (c .tally2 .ensures) (ended (c .before .before .before .before .before .before .before .before .before .before .before .loop .inv) (c .before .before .before .before .before .before .before .before .before .if1 .left) _ (λ q e. c .before .before .before .before .before .before .before .before .cell-of2 .ensures q over e refl) _ (c .before .before .before .before .before .act .ensures))
+returns-2 c = rw (c .tally2 .ensures) (ended (c .before .before .before .before .before .before .before .before .before .before .before .loop .inv) (c .before .before .before .before .before .before .before .before .before .if1 .left) _ (λ q e. c .before .before .before .before .before .before .before .before .cell-of2 .ensures q over e refl) (c .before .before .before .before .before .act .ensures))
 
 pub run-by-spec : {M : Type 1} → statement M
 run-by-spec =
