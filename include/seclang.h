@@ -433,6 +433,11 @@ uint64_t seclang_next_token(const uint8_t *input, size_t input_len, size_t place
 uint64_t seclang_tokens(const uint8_t *input, size_t input_len, uint8_t *text, size_t text_len, uint64_t *records,
                         size_t records_len, uint64_t *values, size_t values_len);
 
+/* The same by a second lexer, for those who trust one that they can draw on paper: a table of byte classes and states,
+ * and one byte at a step. On every call it gives what seclang_tokens gives, more slowly. */
+uint64_t seclang_plain_tokens(const uint8_t *input, size_t input_len, uint8_t *text, size_t text_len, uint64_t *records,
+                              size_t records_len, uint64_t *values, size_t values_len);
+
 /* The directives of a package, with their arguments read. Numbers 0 to 5, 7, 8 and 10 to 15. A directive takes the
  * words and strings up to the next newline, comment or directive, or the end, which a stop is too: SecRule two or
  * three, a list of variables, an operator and an action list, the last of which may be left out; SecAction and

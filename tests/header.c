@@ -34,10 +34,15 @@ static const uint8_t *bytes(const char *s) { return (const uint8_t *)s; }
 
 static uint64_t lookup(uint64_t table, const char *name) { return seclang_lookup(table, bytes(name), strlen(name)); }
 
-static uint64_t tokens(const char *s)
+/* Either of the two that give all tokens of a text. */
+typedef uint64_t lexer(const uint8_t *, size_t, uint8_t *, size_t, uint64_t *, size_t, uint64_t *, size_t);
+
+static uint64_t lexed(lexer *lex, const char *s)
 {
-    return seclang_tokens(bytes(s), strlen(s), text, ROOM, records, WORDS, values, SECLANG_VALUES_MOST);
+    return lex(bytes(s), strlen(s), text, ROOM, records, WORDS, values, SECLANG_VALUES_MOST);
 }
+
+static uint64_t tokens(const char *s) { return lexed(seclang_tokens, s); }
 
 static uint64_t actions(const char *s)
 {
@@ -204,13 +209,13 @@ static void check_tests(void)
     CHECK(seclang_xml_target(SECLANG_SELECTION_REGEX, bytes("/*"), 2) == SECLANG_XML_NEITHER);
 }
 
-/* ---- the lexer */
+/* ---- the lexers */
 
 static const char rule[] = "SecRule ARGS \"@rx a\" # x\n \\\n\tsecy\n";
 
-static void check_tokens(void)
+static void check_tokens(lexer *lex)
 {
-    CHECK(tokens(rule) == SECLANG_READ && values[0] == 6 && values[1] == 20 && values[2] == strlen(rule) &&
+    CHECK(lexed(lex, rule) == SECLANG_READ && values[0] == 6 && values[1] == 20 && values[2] == strlen(rule) &&
           values[3] == 4 && values[4] == 1);
     CHECK(record(SECLANG_TOKEN_WORDS, 0, SECLANG_TOKEN_DIRECTIVE, 1, 1, span(0, 7), span(0, 7), 0));
     CHECK(record(SECLANG_TOKEN_WORDS, 1, SECLANG_TOKEN_WORD, 1, 9, span(8, 4), span(7, 4), 0));
@@ -220,7 +225,106 @@ static void check_tokens(void)
     CHECK(record(SECLANG_TOKEN_WORDS, 5, SECLANG_TOKEN_NEWLINE, 3, 6, span(33, 1), span(20, 0), 0));
     CHECK(shows(records[4 * SECLANG_TOKEN_WORDS + 4], "secy") && text[20] == 0 &&
           records[6 * SECLANG_TOKEN_WORDS] == 0);
-    CHECK(tokens("a\fb") == SECLANG_READ && first_values(1, 1) && values[2] == 1 && values[3] == 1 && values[4] == 2);
+    CHECK(lexed(lex, "a\fb") == SECLANG_READ && first_values(1, 1) && values[2] == 1 && values[3] == 1 &&
+          values[4] == 2);
+}
+
+/* Where a lexer is easily wrong: a text, its tokens, what they say in a row, and where reading stops. */
+static const struct awkward {
+    const char *text;
+    uint64_t tokens;
+    const char *said;
+    uint64_t place, line, column;
+} awkward[] = {
+    {"", 0, "", 0, 1, 1},
+    {"a\\\rb", 2, "a\\b", 4, 1, 5},
+    {"\\\r\r\n", 1, "", 4, 2, 1},
+    {"\\\r\r\nsec", 2, "sec", 7, 2, 4},
+    {"a\\\\\nb", 1, "a\\b", 5, 2, 2},
+    {"\"\\\r\n\t\t x\"", 1, "x", 9, 2, 6},
+    {"'\\\r\tx'", 1, "x", 6, 1, 7},
+    {"a\vb", 1, "a", 1, 1, 2},
+    {"a \vb", 1, "a", 2, 1, 3},
+    {"\\\fsec", 0, "", 1, 1, 2},
+    {"\\SecRule x", 2, "SecRulex", 10, 1, 11},
+    {"\n\\ Include", 2, "Include", 10, 2, 10},
+    {"\"a\\", 1, "a", 3, 1, 4},
+    {"'\\", 1, "", 2, 1, 3},
+    {"x \\\nsecy", 2, "xsecy", 8, 2, 5},
+    {"#a\\\nsec", 2, "sec", 7, 2, 4},
+    {"sec\\", 1, "sec\\", 4, 1, 5},
+    {"a\"b\nc\"d", 3, "ab\ncd", 7, 2, 4},
+    {"\rsec\r\n", 2, "sec", 6, 2, 1},
+};
+enum { AWKWARD = sizeof awkward / sizeof *awkward };
+
+static void check_awkward(lexer *lex)
+{
+    for (const struct awkward *a = awkward; a < awkward + AWKWARD; a++) {
+        const size_t n = strlen(a->said);
+        const bool read = lexed(lex, a->text) == SECLANG_READ && first_values(a->tokens, n);
+        check(read && memcmp(text, a->said, n + 1) == 0, a->text, __LINE__);
+        check(values[2] == a->place && values[3] == a->line && values[4] == a->column, a->text, __LINE__);
+    }
+}
+
+/* Too long, not ASCII, too short a buffer and too few records; what each leaves of lent memory. */
+static void check_lexer_numbers(lexer *lex)
+{
+    memset(input, ' ', ROOM);
+    memset(text, 'x', ROOM);
+    records[0] = 77;
+    CHECK(lex(input, ROOM, text, ROOM, records, WORDS, values, 10) == SECLANG_TOO_LONG && values[0] == SECLANG_LIMIT &&
+          text[0] == 'x');
+    CHECK(lex(bytes("a\x80"), 2, text, 0, records, 0, values, 10) == SECLANG_NOT_ASCII && values[0] == 1);
+    CHECK(lex(bytes("ab"), 2, text, 1, records, WORDS, values, 10) == SECLANG_SHORT_BUFFER && values[0] == 0 &&
+          text[0] == 'x' && records[0] == 77);
+    CHECK(lex(bytes("a b"), 3, text, 3, records, 9, values, 10) == SECLANG_NO_ROOM && values[0] == 2 && text[0] == 0 &&
+          text[3] == 'x' && records[0] == 0);
+    CHECK(lex(input, SECLANG_LIMIT, text, SECLANG_LIMIT, records, 0, values, 10) == SECLANG_READ && text[0] == 0 &&
+          text[SECLANG_LIMIT] == 'x');
+}
+
+static uint8_t plain_text[sizeof text];
+static uint64_t plain_records[WORDS], plain_values[SECLANG_VALUES_MOST];
+
+/* Whether both lexers give the same with the same room: the number, and every byte and word, also past what is lent. */
+static bool same(const uint8_t *s, size_t n, size_t text_len, size_t records_len, size_t values_len)
+{
+    const size_t wide = (records_len + (records_len < WORDS)) * sizeof *records;
+    uint64_t number, plain;
+    memset(text, 'x', sizeof text), memset(plain_text, 'x', sizeof text);
+    memset(records, 'x', wide), memset(plain_records, 'x', wide);
+    memset(values, 'x', sizeof values), memset(plain_values, 'x', sizeof values);
+    number = seclang_tokens(s, n, text, text_len, records, records_len, values, values_len);
+    plain = seclang_plain_tokens(s, n, plain_text, text_len, plain_records, records_len, plain_values, values_len);
+    return plain == number && memcmp(plain_text, text, sizeof text) == 0 &&
+           memcmp(plain_records, records, wide) == 0 && memcmp(plain_values, values, sizeof values) == 0;
+}
+
+/* A text with the room that it needs, with more, one byte, word or record short, and none, of each buffer. */
+static void check_same(const char *s)
+{
+    const size_t n = strlen(s), need = tokens(s) == SECLANG_READ ? (size_t)values[0] * SECLANG_TOKEN_WORDS : 0;
+    const size_t texts[] = {n, n + 3, n ? n - 1 : 0, 0};
+    const size_t words[] = {need, need + 7, need ? need - 1 : 0, need ? need - SECLANG_TOKEN_WORDS : 0, 0};
+    const size_t kept[] = {5, SECLANG_VALUES_MOST, 4, 1, 0};
+    for (size_t i = 0; i < 4; i++)
+        for (size_t j = 0; j < 5; j++)
+            for (size_t k = 0; k < 5; k++) check(same(bytes(s), n, texts[i], words[j], kept[k]), s, __LINE__);
+}
+
+static void check_lexers(void)
+{
+    lexer *const both[] = {seclang_tokens, seclang_plain_tokens};
+    for (size_t i = 0; i < 2; i++) check_tokens(both[i]), check_awkward(both[i]), check_lexer_numbers(both[i]);
+    for (size_t i = 0; i < AWKWARD; i++) check_same(awkward[i].text);
+    check_same(rule);
+    check_same("a\fb");
+    check_same("ab \x80");
+    check_same("\xff");
+    memset(input, '\\', ROOM);
+    CHECK(same(input, ROOM, ROOM, 0, 10) && same(input, ROOM, 0, WORDS, 1) && same(input, SECLANG_LIMIT, ROOM, 5, 10));
 }
 
 static uint64_t step(const char *s, const uint64_t *cursor)
@@ -528,12 +632,6 @@ static void check_listings(void)
 static void check_numbers(void)
 {
     uint64_t few[3] = {77, 77, 77};
-    memset(input, ' ', ROOM);
-    memset(text, 'x', ROOM);
-    CHECK(seclang_tokens(input, ROOM, text, ROOM, records, WORDS, values, 10) == SECLANG_TOO_LONG &&
-          values[0] == SECLANG_LIMIT && text[0] == 'x');
-    CHECK(seclang_tokens(input, SECLANG_LIMIT, text, SECLANG_LIMIT, records, 0, values, 10) == SECLANG_READ &&
-          text[0] == 0 && text[SECLANG_LIMIT] == 'x');
     CHECK(operator_of("a\x80") == SECLANG_NOT_ASCII && values[0] == 1);
     CHECK(seclang_parse_actions(bytes("deny"), 4, text, 4, scratch, 3, records, 6, values, 10) ==
               SECLANG_SHORT_BUFFER &&
@@ -579,6 +677,9 @@ static void check_bounds_at(size_t n)
 {
     fill(n, "", "\n");
     TIGHT(seclang_tokens(input, n, text, n, records, room, values, 10), SECLANG_TOKENS_MOST(n), SECLANG_TOKEN_WORDS);
+    TIGHT(seclang_plain_tokens(input, n, text, n, records, room, values, 10), SECLANG_TOKENS_MOST(n),
+          SECLANG_TOKEN_WORDS);
+    CHECK(same(input, n, n, SECLANG_TOKENS_MOST(n) * SECLANG_TOKEN_WORDS, 10));
     CHECK(seclang_list_text(input, n, text, n, records, WORDS, out, SECLANG_LISTING_MOST(n), values, 10) ==
           SECLANG_READ);
     fill(n, "t:", ",t:");
@@ -624,7 +725,7 @@ int main(void)
     CHECK(seclang_version() == SECLANG_VERSION);
     check_names();
     check_tests();
-    check_tokens();
+    check_lexers();
     check_steps();
     check_actions();
     check_setvars();

@@ -171,9 +171,12 @@ fn all_tokens(text: &str) {
 fn text_rows(inputs: &Inputs) -> Vec<Row<'_>> {
     let roomy = |list: &[String]| vec![[20_480, 0, 0]; list.len()];
     let tokens = |input: &[u8], words, room: &mut Room| fills(ours::tokens, input, words, room);
+    let plain_tokens = |input: &[u8], words, room: &mut Room| fills(ours::plain_tokens, input, words, room);
+    let (texts, exact) = (&inputs.texts, needs(&inputs.texts, original::tokens));
     vec![
-        Row { name: "tokens", inputs: &inputs.texts, words: needs(&inputs.texts, original::tokens), ours: tokens, original: all_tokens },
-        Row { name: "tokens-roomy", inputs: &inputs.texts, words: roomy(&inputs.texts), ours: tokens, original: all_tokens },
+        Row { name: "tokens", inputs: texts, words: exact.clone(), ours: tokens, original: all_tokens },
+        Row { name: "tokens-roomy", inputs: texts, words: roomy(texts), ours: tokens, original: all_tokens },
+        Row { name: "plain_tokens", inputs: texts, words: exact, ours: plain_tokens, original: all_tokens },
         Row {
             name: "directives",
             inputs: &inputs.packages,

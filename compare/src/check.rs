@@ -317,6 +317,7 @@ impl Checker {
         match reader {
             Reader::NextToken => self.steps(input),
             Reader::Tokens => self.fills(reader, input, original::tokens, 5, 0, ours::tokens),
+            Reader::PlainTokens => self.fills(reader, input, original::tokens, 5, 0, ours::plain_tokens),
             Reader::Actions | Reader::Phase | Reader::Grade => self.actions(input),
             Reader::Setvar => self.fills(reader, input, original::setvar, 6, 3, ours::parse_setvar),
             Reader::Variables => self.fills(reader, input, original::parsed_variables, 5, 0, ours::parse_variables),

@@ -4,6 +4,7 @@
 pub enum Reader {
     NextToken,
     Tokens,
+    PlainTokens,
     Actions,
     Setvar,
     Variables,
@@ -21,9 +22,10 @@ pub enum Reader {
     Directives,
 }
 
-pub const READERS: [Reader; 17] = [
+pub const READERS: [Reader; 18] = [
     Reader::NextToken,
     Reader::Tokens,
+    Reader::PlainTokens,
     Reader::Actions,
     Reader::Setvar,
     Reader::Variables,

@@ -52,7 +52,7 @@ pub use directives::{directives, Directive, DirectiveKind, RuleOperator};
 pub use operators::{parse_operator, Operator};
 pub use refusals::{Flaw, Refusal};
 pub use rules::{grade, phase, RuleIdSelector};
-pub use tokens::{list_text, next_token, tokens, Cursor, Step, Stop, Token, TokenKind, Tokens};
+pub use tokens::{list_text, next_token, plain_tokens, tokens, Cursor, Step, Stop, Token, TokenKind, Tokens};
 pub use variables::{parse_update_targets, parse_variables, Selection, Targets, Variable, XmlTarget};
 
 /// The longest input that is read, in bytes.

@@ -28,6 +28,16 @@ mod c {
             values: *mut u64,
             values_len: usize,
         ) -> u64;
+        pub fn seclang_plain_tokens(
+            input: *const u8,
+            input_len: usize,
+            text: *mut u8,
+            text_len: usize,
+            records: *mut u64,
+            records_len: usize,
+            values: *mut u64,
+            values_len: usize,
+        ) -> u64;
         pub fn seclang_parse_actions(
             input: *const u8,
             input_len: usize,
@@ -151,6 +161,10 @@ macro_rules! filler {
 filler! {
     /// All tokens of a text: five words to a record.
     tokens, seclang_tokens
+}
+filler! {
+    /// The same by the plain lexer.
+    plain_tokens, seclang_plain_tokens
 }
 filler! {
     /// A setvar alone: one action record. `text` is asked to be three bytes longer than the input.

@@ -74,6 +74,14 @@ pub struct Tokens {
     pub stop: Stop,
 }
 
+/// The tokens of a text by one of the two lexers.
+fn tokens_by(lexer: raw::Filler, input: &[u8]) -> Result<Tokens, Refusal> {
+    let read = filled(input, 0, 5, |text, records, values| lexer(input, text, records, values))?;
+    let list = read.records().map(|word| Token::of(word[0], word[1], word[2], span(word[3]), read.texts.said(word[4]))).collect();
+    let [_, _, place, line, column, ..] = read.values.map(size);
+    Ok(Tokens { list, stop: Stop { place, line, column } })
+}
+
 /// All tokens of a text.
 ///
 /// ```
@@ -87,11 +95,20 @@ pub struct Tokens {
 /// # Ok::<(), seclang::Refusal>(())
 /// ```
 pub fn tokens(input: &(impl AsRef<[u8]> + ?Sized)) -> Result<Tokens, Refusal> {
-    let input = input.as_ref();
-    let read = filled(input, 0, 5, |text, records, values| raw::tokens(input, text, records, values))?;
-    let list = read.records().map(|word| Token::of(word[0], word[1], word[2], span(word[3]), read.texts.said(word[4]))).collect();
-    let [_, _, place, line, column, ..] = read.values.map(size);
-    Ok(Tokens { list, stop: Stop { place, line, column } })
+    tokens_by(raw::tokens, input.as_ref())
+}
+
+/// All tokens of a text by the second lexer, a table of byte classes and states that takes one byte at a step: what [`tokens`]
+/// gives, more slowly.
+///
+/// ```
+/// let package = "SecRule ARGS \\\n  \"@rx a\\\"b\"\n";
+/// assert_eq!(seclang::plain_tokens(package)?.list[2].text(), "@rx a\"b");
+/// assert_eq!(seclang::plain_tokens(package), seclang::tokens(package));
+/// # Ok::<(), seclang::Refusal>(())
+/// ```
+pub fn plain_tokens(input: &(impl AsRef<[u8]> + ?Sized)) -> Result<Tokens, Refusal> {
+    tokens_by(raw::plain_tokens, input.as_ref())
 }
 
 /// Where a step starts, and whether a word there is at the start of a line.

@@ -1,8 +1,8 @@
 //! Each reader's answers and refusals as Rust types, and what the crate lends at the edges.
 
 use seclang::{
-    list_text, next_token, parse_actions, parse_operator, parse_setvar, parse_update_targets, parse_variables, tokens, Action, Cursor,
-    Flaw, Refusal, RuleIdSelector, SetVar, SetVarValue, Token, XmlTarget, LIMIT,
+    list_text, next_token, parse_actions, parse_operator, parse_setvar, parse_update_targets, parse_variables, plain_tokens, tokens,
+    Action, Cursor, Flaw, Refusal, RuleIdSelector, SetVar, SetVarValue, Token, XmlTarget, LIMIT,
 };
 
 fn set(collection: &str, key: &str, value: SetVarValue) -> SetVar {
@@ -35,6 +35,21 @@ fn steps_give_what_the_whole_gives() {
         assert_eq!((all.stop.place, all.stop.line, all.stop.column), (end.place, end.line, end.column), "{text:?}");
     }
     assert_eq!(tokens("a \x0cb").expect("ASCII").stop.place, 2);
+}
+
+#[test]
+fn both_lexers_give_the_same() {
+    let rules = [include_str!("../../../samples/desk.conf"), include_str!("../../../tests/rules.conf")];
+    let edges = ["", "a\\\rb", "\\\r\r\nsec", "a\\\\\nb", "\"\\\r\n\t x\"", "a \x0bb", "\\Sec", "'a\\", "x \\\nsecy", "#a\\\nsec"];
+    for text in rules.into_iter().chain(edges) {
+        let (plain, list) = (plain_tokens(text).expect("ASCII"), stepped(text).0);
+        assert_eq!((&plain.list, Ok(&plain)), (&list, tokens(text).as_ref()), "{text:?}");
+    }
+    // each rule cut short at every byte
+    for text in rules.iter().flat_map(|rule| (0..rule.len()).map(move |len| &rule[..len])) {
+        assert_eq!(plain_tokens(text), tokens(text), "{text:?}");
+    }
+    assert_eq!(plain_tokens("ab\u{e9}"), Err(Refusal::NotAscii { place: 2 }));
 }
 
 #[test]
@@ -125,6 +140,7 @@ fn numbers(input: &[u8]) -> Vec<u64> {
     let number = |refusal: Option<Refusal>| refusal.map_or(0, |refusal| refusal.number());
     vec![
         number(tokens(input).err()),
+        number(plain_tokens(input).err()),
         number(next_token(input, Cursor::START).err()),
         number(parse_actions(input).err()),
         number(parse_setvar(input).err()),
@@ -136,15 +152,15 @@ fn numbers(input: &[u8]) -> Vec<u64> {
 
 #[test]
 fn lengths_and_bytes_are_judged_first() {
-    assert_eq!(numbers(b""), [0; 7]);
-    assert_eq!(numbers(&vec![b' '; LIMIT]), [0; 7]);
+    assert_eq!(numbers(b""), [0; 8]);
+    assert_eq!(numbers(&vec![b' '; LIMIT]), [0; 8]);
     for len in [LIMIT + 1, 4 << 20] {
-        assert_eq!(numbers(&vec![0xff; len]), [1; 7]);
+        assert_eq!(numbers(&vec![0xff; len]), [1; 8]);
         assert_eq!(list_text(&vec![b' '; len]), "[1,16384]\n");
     }
     let mut bytes = vec![b' '; LIMIT];
     bytes[LIMIT - 1] = 0x80;
-    assert_eq!(numbers(&bytes), [2; 7]);
+    assert_eq!(numbers(&bytes), [2; 8]);
     assert_eq!(tokens(&bytes), Err(Refusal::NotAscii { place: LIMIT - 1 }));
 }
 
@@ -153,6 +169,7 @@ fn lengths_and_bytes_are_judged_first() {
 fn rooms_are_as_large_as_is_asked() {
     for len in [1, 2, 3, 7, 8, 100, LIMIT] {
         assert_eq!(tokens(&"\n".repeat(len)).map(|all| all.list.len()), Ok(len));
+        assert_eq!(plain_tokens(&"\n".repeat(len)).map(|all| all.list.len()), Ok(len));
         assert_eq!(parse_update_targets(&"TX|".repeat(len / 3)).map(|all| all.variables.len()), Ok(len / 3));
         assert_eq!(parse_variables(&format!("TX{}", "|!".repeat((len - 1) / 2))).map(|all| all.exclusions.len()), Ok((len - 1) / 2));
         assert_eq!(parse_actions(&"t:,".repeat(len / 3)).map(|all| all.len()), Ok(len / 3));

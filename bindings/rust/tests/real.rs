@@ -38,6 +38,7 @@ fn texts(file: &[u8]) -> Vec<Vec<u8>> {
 fn plain(text: &[u8]) -> String {
     if let Some(place) = text.iter().position(|b| !b.is_ascii()) {
         assert_eq!(seclang::tokens(text), Err(Refusal::NotAscii { place }));
+        assert_eq!(seclang::plain_tokens(text), Err(Refusal::NotAscii { place }));
     }
     text.iter().map(|b| if b.is_ascii() { char::from(*b) } else { '?' }).collect()
 }
@@ -197,6 +198,7 @@ impl Seen {
     fn text(&mut self, text: &str) {
         let all = seclang::tokens(text).expect("ASCII within the limit");
         assert_eq!(all.stop.place, text.len());
+        assert_eq!(seclang::plain_tokens(text).as_ref(), Ok(&all));
         all.list.iter().fold(0, |past, token| {
             check_token(text, past, token);
             token.bytes.end
