@@ -45,7 +45,7 @@ use Rattle.lexer.proofs.next_token as NextToken
 use Rattle.lexer.proofs.step_in as StepIn
 use Rattle.lexer.proofs.start as Start
 use Rattle.lexer.proofs.tokens as TokensOf
-use Rattle.lexer.proofs.word_kind as WordKind
+use Rattle.lexer.proofs.is_directive as IsDirective
 use Rattle.lexer.proofs.pass_gate as PassGate
 use Rattle.lexer.proofs.put_token as PutToken
 use Rattle.lexer.proofs.end_reading as EndReading
@@ -157,7 +157,7 @@ of-lexer = record {
   tokens = record { promises = record { tied = λ M 𝓤 H A mem run. refl; met = λ M 𝓤. TokensOf.Met.met 𝓤 }; fixed = tokens-fixed };
   plain-tokens = record { promises = record { tied = λ M 𝓤 H A mem run. refl; met = λ M 𝓤. PlainTokens.Met.met 𝓤 }; fixed = tokens-fixed };
   pass-gate = record { promises = record { tied = λ M 𝓤 H A mem run. refl; met = λ M 𝓤. PassGate.Met.met 𝓤 }; fixed = λ κs. gives _ };
-  word-kind = record { promises = record { tied = λ M 𝓤 H A mem run. refl; met = λ M 𝓤. WordKind.Met.met 𝓤 }; fixed = λ κs. gives _ };
+  is-directive = record { promises = record { tied = λ M 𝓤 H A mem run. refl; met = λ M 𝓤. IsDirective.Met.met 𝓤 }; fixed = λ κs. gives _ };
   put-token = record { promises = record { tied = λ M 𝓤 H A mem run. refl; met = λ M 𝓤. PutToken.Met.met 𝓤 }; fixed = gives _ };
   end-reading = record { promises = record { tied = λ M 𝓤 H A mem run. refl; met = λ M 𝓤. EndReading.Met.met 𝓤 }; fixed = end-reading-fixed };
   reader-of = record { promises = record { tied = λ M 𝓤 H A mem run. refl; met = λ M 𝓤. ReaderOf.Met.met 𝓤 }; fixed = λ κs. reader-fixed (λ a. a .0) (λ a. fresh) };

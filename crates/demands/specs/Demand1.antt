@@ -23,7 +23,7 @@ use Rattle.names.specs.Variables.{variableCode, isCollection, isImplemented}
 use Rattle.names.specs.Operators.{operatorCode, requiresArgument}
 use Rattle.names.specs.Severities.{severityCode}
 use Rattle.lexer.specs.Cursors.{fresh}
-use Rattle.lexer.specs.Tokens.{wordKind}
+use Rattle.lexer.specs.Tokens.{directive}
 use Rattle.lexer.specs.Promises as Lexer
 use Rattle.lexer.specs.declared.stepping.Step.{Step}
 use Rattle.lexer.specs.declared.stepping.Lexeme.{Lexeme}
@@ -93,7 +93,7 @@ use Rattle.lexer.proofs.next_token as NextToken
 use Rattle.lexer.proofs.step_in as StepIn
 use Rattle.lexer.proofs.start as Start
 use Rattle.lexer.proofs.tokens as TokensOf
-use Rattle.lexer.proofs.word_kind as WordKind
+use Rattle.lexer.proofs.is_directive as IsDirective
 use Rattle.lexer.proofs.pass_gate as PassGate
 use Rattle.lexer.proofs.put_token as PutToken
 use Rattle.lexer.proofs.end_reading as EndReading
@@ -213,7 +213,7 @@ pub record OfLexer : Type 3 where
   pub plain-tokens : Keeps PlainTokens.ended (λ M 𝓤. PlainTokens.spec 𝓤) PlainTokens.Symbol.routine Lent (Left Tokens.Answer) tokens-promise
       (λ _ a. lent (now (a .0)) (now (a .1 .0)) (now (a .1 .1 .0))) (λ _ r e. left r (now (e .1 .0)) (now (e .1 .1 .0)))
   pub pass-gate : Answers PassGate.ended (λ M 𝓤. PassGate.spec 𝓤) PassGate.Symbol.routine (λ _ a. Lexer.passedBy (gateOf (now (a .0)) (a .1 .0) (length (now (a .0)))))
-  pub word-kind : Answers WordKind.ended (λ M 𝓤. WordKind.spec 𝓤) WordKind.Symbol.routine (λ _ a. wordKind (a .0) (now (a .1 .0)))
+  pub is-directive : Answers IsDirective.ended (λ M 𝓤. IsDirective.spec 𝓤) IsDirective.Symbol.routine (λ _ a. directive (now (a .0)))
   pub put-token : Keeps PutToken.ended (λ M 𝓤. PutToken.spec 𝓤) PutToken.Symbol.routine (List ℕ × ℕ × ℕ × Lexeme) (List ℕ) (λ i o. o ≡ Lexer.tokenStored (i .0) (i .1) (i .2) (i .3))
       (λ _ a. (now (a .0), a .1 .0, a .1 .1 .0, a .1 .1 .1 .0)) (λ _ r e. now (e .0))
   pub end-reading : Keeps EndReading.ended (λ M 𝓤. EndReading.spec 𝓤) EndReading.Symbol.routine Ending (Left Tokens.Answer) end-reading-promise

@@ -56,7 +56,8 @@ pub fn read_word(s: &[u8], from: usize, text: &mut [u8]) -> Run
     }
 }
 
-fn is_directive(w: &[u8]) -> bool
+// Whether a word names a directive, where one may stand.
+pub fn is_directive(w: &[u8]) -> bool
     ensures { λ r. ⌜ r ≡ directive (now (w .entry)) ⌝ }
 {
     if 3 <= w.len() {

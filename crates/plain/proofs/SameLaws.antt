@@ -6,10 +6,10 @@ use native.Mathlib.Omega.{arith}
 use mathlib.Core.List.{List, [], _∷_}
 use Rattle.lexer.specs.declared.Cursor.{Cursor}
 use Rattle.lexer.specs.Cursors.{fresh, moved}
-use Rattle.lexer.specs.Tokens.{Token, Reading, reading}
+use Rattle.lexer.specs.Tokens.{reading}
 use Rattle.ascii.specs.Choice.{pick}
 use Rattle.plain.specs.Table.{State, S, Class, classOf, Ends, stays, here, earlier, with-it, Joins, nothing, itself, control, Next, goes, halts, Cell, cell}
-use Rattle.plain.specs.Automaton.{kept, cleared, joined, left, told, tell, stops, leads, step, opened, automaton, plainReading}
+use Rattle.plain.specs.Automaton.{kept, cleared, joined, left, told, tell, leads, opened, automaton, plainReading}
 use Rattle.plain.proofs.ClassLaws.{known}
 use Rattle.plain.proofs.FutureLaws.{between-is, future, idle, Clear}
 use Rattle.plain.proofs.TableLaws.{cell-at}

@@ -1,5 +1,5 @@
 -- The acts of a step one after another: what each leaves of the registers' bounds, so that the next can be done.
-use mathlib.Core.Path.{_≡_, refl, sym, ap, _∙_}
+use mathlib.Core.Path.{_≡_, refl, ap, _∙_}
 use mathlib.Core.Bool.{Bool, true, false}
 use mathlib.Core.List.{List}
 use Prim.Native.Nat.{ℕ, _+_, _/_, _%_, _≤_, _<_}
@@ -16,7 +16,7 @@ use Rattle.lexer.specs.Promises.{tokenStored}
 use Rattle.lexer.proofs.NarrowLaws.{stored-narrow}
 use Rattle.plain.specs.Table.{Ends, stays, here, earlier, with-it, Joins, nothing, itself, control}
 use Rattle.plain.specs.Coding.{keepsIn, endsIn, feedsIn, joinsBy, joinsIn}
-use Rattle.plain.specs.Steps.{held, words, Adds, Kept, Joined, Tells, Ended, Fed, Behind, Room, RoomFor, joinsWidth, CanEnd, Ready, Acted, Stepped}
+use Rattle.plain.specs.Steps.{words, Adds, Kept, Joined, Tells, Ended, Fed, Behind, Room, RoomFor, joinsWidth, CanEnd, Ready, Acted, Stepped}
 use Rattle.plain.specs.declared.acting.Held.{Held}
 
 -- the record of a token whose numbers go into span words is stored

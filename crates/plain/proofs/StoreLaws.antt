@@ -5,10 +5,10 @@ use mathlib.Core.List.{List, [], _∷_, _++_, append-assoc, append-nil}
 use Prim.Native.Nat.{ℕ, suc, _+_, _-_, _*_, _≤_, _<_}
 use native.Mathlib.Numerals.{add-one}
 use native.Mathlib.Omega.{arith}
-use lib.ListN.{length, take, drop, set, length-append, take-append-drop}
+use lib.ListN.{length, take, drop, length-append, take-append-drop}
 use lib.Seq.{drop-at, take-at}
 use Rattle.ascii.specs.Choice.{bit}
-use Rattle.lent.specs.Sizes.{tokenWords, spanWord}
+use Rattle.lent.specs.Sizes.{tokenWords}
 use Rattle.lent.specs.Buffers.{stored}
 use Rattle.lent.proofs.BufferLaws.{Written, written-one, front-one, stored-length, written-stored, taken-stored}
 use Rattle.lent.proofs.LayoutLaws.{count-more}
@@ -16,7 +16,7 @@ use Rattle.lexer.specs.declared.Cursor.{Cursor}
 use Rattle.lexer.specs.declared.Kind.{Kind}
 use Rattle.lexer.specs.declared.Kind.the-variants.{Newline}
 use Rattle.lexer.specs.Tokens.{Token}
-use Rattle.lexer.specs.Layout.{kindCode, tokenRecord, wordsFrom, texts}
+use Rattle.lexer.specs.Layout.{tokenRecord, wordsFrom, texts}
 use Rattle.lexer.proofs.LayoutLaws.{texts-more, words-more}
 use Rattle.plain.specs.Table.{State, S, SB, SC, W, WB, WC, K, D, DB, DC, DM, Q, QB, QC, QM, Ends, stays, here, earlier, with-it, Joins, nothing, itself, control, Cell}
 use Rattle.plain.specs.Automaton.{tok, kindIn, kept, fed, ended, cleared, joined, told, left, opened, controlled}

@@ -4,10 +4,10 @@ use mathlib.Core.Bool.{Bool, true, false}
 use mathlib.Core.List.{List, [], _∷_}
 use Prim.Native.Nat.{ℕ, zero, suc, _+_, _*_, _/_, _%_, _≤_, _<_}
 use native.Mathlib.Omega.{arith}
-use lib.Dec.{eqb, leb, ltb}
+use lib.Dec.{eqb, leb}
 use lib.ListN.{getD}
 use borrow.Author.Tests.{eqb-true, eqb-false, leb-true}
-use Rattle.ascii.specs.Choice.{pick, and, bit}
+use Rattle.ascii.specs.Choice.{and, bit}
 use Rattle.ascii.proofs.SameLaws.{and-left, and-right}
 use Rattle.plain.specs.Table.{State, S, SB, SC, W, WB, WC, K, D, DB, DC, DM, Q, QB, QC, QM, Class, feed, return, blank, stop, slash, double, single, hash, letter, other, over, classOf, Ends, stays, here, earlier, with-it, Joins, nothing, itself, control, Next, goes, halts, Cell, cell}
 use Rattle.plain.specs.Coding.{code, classCode, endsCode, joinsCode, nextCode, encode, keepsIn, endsBy, endsIn, feedsIn, beginsIn, joinsBy, joinsIn, columnDigits, cellNumbers}

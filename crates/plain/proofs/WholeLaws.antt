@@ -2,16 +2,16 @@
 use mathlib.Core.Path.{_≡_, refl, sym, ap, ap₂, _∙_, subst}
 use mathlib.Core.Bool.{Bool, true, false}
 use mathlib.Core.List.{List, [], _∷_, _++_, append-nil}
-use Prim.Native.Nat.{ℕ, suc, _+_, _-_, _*_, _/_, _%_, _≤_, _<_}
+use Prim.Native.Nat.{ℕ, _+_, _-_, _/_, _%_, _≤_, _<_}
 use native.Mathlib.Numerals.{add-one}
 use native.Mathlib.Omega.{arith}
 use lib.Dec.{leb, eqb}
 use lib.ListN.{length, take, drop, getD, drop-of-length-le}
 use borrow.Author.Tests.{eqb-true, leb-true}
-use Rattle.ascii.specs.Choice.{and, bit, pick}
+use Rattle.ascii.specs.Choice.{and, bit}
 use Rattle.ascii.proofs.ListLaws.{next-byte}
 use Rattle.ascii.proofs.SameLaws.{and-left, and-right}
-use Rattle.lent.specs.Sizes.{limit, tokenWords}
+use Rattle.lent.specs.Sizes.{limit}
 use Rattle.lent.specs.Layout.{textsOf, wordsOf}
 use Rattle.lent.proofs.BufferLaws.{written-none, written-all}
 use Rattle.lexer.specs.declared.Cursor.{Cursor}

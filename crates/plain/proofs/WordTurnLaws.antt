@@ -1,23 +1,18 @@
 -- One step of the automaton keeps the relation: between tokens, in a word and in a comment.
-use mathlib.Core.Path.{_≡_, refl, sym, ap, _∙_, subst}
+use mathlib.Core.Path.{_≡_, refl, ap, _∙_}
 use Prim.Native.Nat.{ℕ, zero, suc, _-_}
 use native.Mathlib.Omega.{arith}
 use mathlib.Core.List.{List, [], _∷_, _++_, append-assoc, append-nil}
-use lib.Dec.{eqb}
-use Rattle.ascii.specs.Choice.{pick}
 use Rattle.lexer.specs.Bytes.{class}
 use Rattle.lexer.specs.declared.Cursor.{Cursor}
 use Rattle.lexer.specs.Cursors.{moved}
-use Rattle.lexer.specs.declared.Kind.the-variants.{QuotedString}
-use Rattle.lexer.specs.declared.quotes.Mode.the-variants.{Plain as plain}
 use Rattle.lexer.specs.Runs.{Spot, spot, onward, gives, run, text}
-use Rattle.lexer.specs.Rules.{before, beforeBy, word, wordBy, wordSlash, comment, quoted, quotedPlain, quotedMargin, unescaped, lineEnd, feedNext}
-use Rattle.lexer.specs.Tokens.{Token, Reading, wordKind, put, tokens, tokenAt, tokenBy}
-use Rattle.lexer.proofs.TestLaws.{either}
-use Rattle.plain.specs.Table.{State, S, SB, SC, W, WB, WC, K, D, DB, DC, DM, Q, QB, QC, QM, Class, other, Cell, cell}
-use Rattle.plain.specs.Automaton.{tok, told, tell, stops, step}
+use Rattle.lexer.specs.Rules.{before, beforeBy, word, wordBy, wordSlash, comment, lineEnd, feedNext}
+use Rattle.lexer.specs.Tokens.{wordKind, put, tokenAt, tokenBy}
+use Rattle.plain.specs.Table.{State, S, SB, SC, W, WB, WC, K, Class, other, cell}
+use Rattle.plain.specs.Automaton.{tok, step}
 use Rattle.plain.proofs.ClassLaws.{Unlike, class-other, Known, is10, is13, is32, is9, is11, is12, is92, is34, is39, is35, is110, is116, is114, none}
-use Rattle.plain.proofs.FutureLaws.{between, between-is, closed, inWord, inQuotes, behindSlash, behindReturn, less, future, Clear}
+use Rattle.plain.proofs.FutureLaws.{between, between-is, closed, behindSlash, behindReturn, less, future}
 
 -- one step from q at the byte b of the class k
 abbrev pub Turn : State → ℕ → Class → List ℕ → Cursor → Cursor → List ℕ → Type 0

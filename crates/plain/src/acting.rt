@@ -3,8 +3,9 @@ ghost use mathlib.Core.Path.{_≡_};
 ghost use Prim.Native.Nat.{_+_, _*_, _≤_, _<_};
 ghost use lib.ListN.{length};
 ghost use Rattle.ascii.specs.Choice.{bit};
-ghost use Rattle.lent.specs.Sizes.{limit, tokenWords};
+ghost use Rattle.lent.specs.Sizes.{limit};
 ghost use Rattle.lent.specs.Buffers.{stored};
+ghost use Rattle.lexer.specs.Tokens.{wordKind};
 ghost use Rattle.plain.specs.Coding.{kindBy, keepsIn, endsIn, feedsIn, beginsIn, joinsIn};
 ghost use Rattle.plain.specs.Automaton.{controlled, opened};
 ghost use Rattle.plain.specs.Steps.{Adds, Kept, Tells, Ended, Feeding, Joined, Acted, Stepped, CanEnd, Ready, Room, RoomFor, held, words};
@@ -40,12 +41,25 @@ fn copy(h: Held) -> Held
     }
 }
 
-// What the token is that is open in a state: of a word its text and the mark that it began with tell it.
+// What a word is: its text and the mark that it began with tell it.
+fn word_kind(mark: bool, w: &[u8]) -> Kind
+    ensures { λ r. ⌜ r ≡ wordKind mark (now (w .entry)) ⌝ }
+{
+    if !mark {
+        return Kind::Word;
+    }
+    if lexer::is_directive(w) {
+        return Kind::Directive;
+    }
+    Kind::Word
+}
+
+// What the token is that is open in a state.
 fn kind_of(state: usize, mark: bool, w: &[u8]) -> Kind
     ensures { λ r. ⌜ r ≡ kindBy state mark (now (w .entry)) ⌝ }
 {
     if state < K {
-        return lexer::word_kind(mark, w);
+        return word_kind(mark, w);
     }
     if state == K {
         return Kind::Comment;

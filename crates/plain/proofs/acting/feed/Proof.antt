@@ -1,6 +1,5 @@
 -- By the cell's digit.
 use mathlib.Core.Path.{refl}
-use native.Mathlib.Omega.{arith}
 use borrow.Author.Tests.{ne-eqb}
 use borrow.Author.Needs.{needs}
 use Rattle.plain.proofs.acting.feed.Statement.{statement}

@@ -1,5 +1,4 @@
 -- By the column: the first is the line feed's, and the first four are white.
-use mathlib.Core.Path.{_∙_, sym}
 use mathlib.Core.Bool.{true, false}
 use native.Mathlib.Numerals.{add-one}
 use borrow.Author.Tests.{lt-ltb, le-ltb}

@@ -1,6 +1,6 @@
 -- The loop keeps that the tokens told so far are in the buffers and the automaton says the rest; each need is one law of WholeLaws.
 use borrow.Author.Needs.{needs}
-use mathlib.Core.Path.{refl, _∙_, sym}
+use mathlib.Core.Path.{refl, _∙_}
 use Prim.Native.Nat.{_-_}
 use native.Mathlib.Omega.{arith}
 use denote.Ref.{now}
