@@ -103,7 +103,7 @@ const SELECTIONS: &[&str] = &["/", "*", "@", " ", "\t", "a", "\0"];
 const NAMES: &[&str] = &["a", "e", "g", "i", "l", "m", "n", "p", "q", "r", "s", "t", "x", "_", "ARGS", "TX", "REQUEST", "NAMES", "\0", "F"];
 
 pub const SETS: &[Set] = &[
-    Set { readers: &[Reader::Tokens, Reader::PlainTokens], alphabet: LEXING, quick: 4, full: 6 },
+    Set { readers: &[Reader::Tokens], alphabet: LEXING, quick: 4, full: 6 },
     Set { readers: &[Reader::NextToken], alphabet: LEXING, quick: 3, full: 5 },
     Set { readers: &[Reader::ListText], alphabet: LEXING, quick: 3, full: 5 },
     Set { readers: &[Reader::Actions], alphabet: ACTING, quick: 4, full: 6 },
@@ -120,9 +120,8 @@ pub const SETS: &[Set] = &[
 ];
 
 /// Readers that take a text.
-pub const TEXT_READERS: [Reader; 12] = [
+pub const TEXT_READERS: [Reader; 11] = [
     Reader::Tokens,
-    Reader::PlainTokens,
     Reader::NextToken,
     Reader::Actions,
     Reader::Setvar,
@@ -266,12 +265,6 @@ pub const RULES: &[(Reader, &str)] = &[
     (Reader::Operator, " ! @pmFromFile crawlers-user-agents.data "),
     (Reader::XmlTarget, "//@*"),
 ];
-
-/// A reader's own of these rules; both lexers have the same.
-pub fn rules_of(reader: Reader) -> Vec<&'static str> {
-    let of = if reader == Reader::PlainTokens { Reader::Tokens } else { reader };
-    RULES.iter().filter(|(own, _)| *own == of).map(|(_, rule)| *rule).collect()
-}
 
 #[cfg(test)]
 mod tests {

@@ -114,10 +114,23 @@ impl Checker {
     fn fills(&mut self, reader: Reader, input: &[u8], of: fn(&str) -> Outcome, width: usize, more: usize, call: ours::Filler) -> Checked {
         let shape = self.count(reader);
         let o = readable(input).map(of).unwrap_or_default();
+        self.fills_as(shape, input, &o, width, more, call)
+    }
+
+    /// Both lexers on one text, each lent the same.
+    fn lexers(&mut self, input: &[u8]) -> Checked {
+        let shape = self.count(Reader::Tokens);
+        self.counts[Reader::PlainTokens as usize] += 1;
+        let o = readable(input).map(original::tokens).unwrap_or_default();
+        self.fills_as(shape, input, &o, 5, 0, ours::tokens)?;
+        self.fills_as(shape, input, &o, 5, 0, ours::plain_tokens).map_err(|e| format!("the plain lexer: {e}"))
+    }
+
+    fn fills_as(&mut self, shape: Shape, input: &[u8], o: &Outcome, width: usize, more: usize, call: ours::Filler) -> Checked {
         let asked = input.len() + more;
         let (n, m, v) = (sized(asked, shape.text), sized(o.words.len(), shape.records), sized(o.values.len(), shape.values));
         let got = call(input, self.text.lend(n), self.records.lend(m), self.values.lend(v));
-        self.filled(gate(input, n, asked), &o, width, got, v, m).map_err(|e| format!("{e}; lent {n} bytes, {m} and {v} words"))
+        self.filled(gate(input, n, asked), o, width, got, v, m).map_err(|e| format!("{e}; lent {n} bytes, {m} and {v} words"))
     }
 
     fn actions(&mut self, input: &[u8]) -> Checked {
@@ -316,8 +329,7 @@ impl Checker {
     fn plain(&mut self, reader: Reader, input: &[u8]) -> Checked {
         match reader {
             Reader::NextToken => self.steps(input),
-            Reader::Tokens => self.fills(reader, input, original::tokens, 5, 0, ours::tokens),
-            Reader::PlainTokens => self.fills(reader, input, original::tokens, 5, 0, ours::plain_tokens),
+            Reader::Tokens | Reader::PlainTokens => self.lexers(input),
             Reader::Actions | Reader::Phase | Reader::Grade => self.actions(input),
             Reader::Setvar => self.fills(reader, input, original::setvar, 6, 3, ours::parse_setvar),
             Reader::Variables => self.fills(reader, input, original::parsed_variables, 5, 0, ours::parse_variables),

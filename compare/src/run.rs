@@ -1,6 +1,6 @@
 //! All cases in order, with a count for each reader, a progress line, and the first difference made small.
 
-use crate::cases::{pieces_of, rules_of, Random, RULES, SETS, TEXT_READERS};
+use crate::cases::{pieces_of, Random, RULES, SETS, TEXT_READERS};
 use crate::check::Checker;
 use crate::original::{self, LIMIT};
 use crate::packages::Pools;
@@ -162,7 +162,7 @@ impl Run {
 
     fn real(&mut self, real: &Real) {
         let before = self.done();
-        let lexed = [Reader::Tokens, Reader::PlainTokens, Reader::ListText, Reader::NextToken, Reader::Directives];
+        let lexed = [Reader::Tokens, Reader::ListText, Reader::NextToken, Reader::Directives];
         let whole = [Reader::Directives];
         for (texts, readers) in
             [(&real.texts, &lexed[..]), (&real.arguments, &TEXT_READERS[..]), (&real.packages, &whole[..]), (&real.rules, &whole[..])]
@@ -201,7 +201,7 @@ fn turns(reader: Reader, shapes: usize) -> usize {
 
 /// A damaged name or rule, or a text of the reader's own pieces.
 fn random_input(random: &mut Random, reader: Reader, real: &Real, names: &[&str], pieces: &[&str]) -> Vec<u8> {
-    let own = rules_of(reader);
+    let own: Vec<&str> = RULES.iter().filter(|(of, _)| *of == reader).map(|(_, rule)| *rule).collect();
     match random.below(4) {
         0..=2 if reader == Reader::Lookup => {
             let name = *random.one(names);
