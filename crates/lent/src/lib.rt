@@ -28,8 +28,8 @@ pub const LIMIT: usize = 16384;
 // Words in a record of each kind.
 pub const TOKEN_WORDS: usize = 5;
 
-pub const ACTION_WORDS: usize = 6;
+pub const ACTION_WORDS: usize = 7;
 
-pub const VARIABLE_WORDS: usize = 5;
+pub const VARIABLE_WORDS: usize = 6;
 
 pub const DIRECTIVE_WORDS: usize = 11;
