@@ -21,8 +21,8 @@ answerFrom g =
     (pick (eqb (g .number) 2) (Answer.NotAscii (v 0))
     (pick (eqb (g .number) 3) Answer.Short
     (pick (eqb (g .number) 4) (Answer.NoRoom (v 0))
-    (pick (eqb (g .number) 5) (Answer.UnknownAction (v 0) (v 1))
-    (Answer.BadArgument (flawOf (g .number)) (v 0) (v 1)))))))
+    (pick (eqb (g .number) 5) (Answer.UnknownAction (v 0) (v 1) (v 2))
+    (Answer.BadArgument (flawOf (g .number)) (v 0) (v 1) (v 2)))))))
 
 answer-back : (r : Answer) → answerFrom (answerGiven r) ≡ r
 unfolding answerFrom
@@ -30,10 +30,10 @@ answer-back (Answer.Read count used) = refl
 answer-back Answer.TooLong = refl
 answer-back (Answer.NotAscii place) = refl
 answer-back Answer.Short = refl
-answer-back (Answer.UnknownAction piece name) = refl
-answer-back (Answer.BadArgument Flaw.Absent piece name) = refl
-answer-back (Answer.BadArgument Flaw.Unreadable piece name) = refl
-answer-back (Answer.BadArgument Flaw.TooLarge piece name) = refl
+answer-back (Answer.UnknownAction piece name span) = refl
+answer-back (Answer.BadArgument Flaw.Absent piece name span) = refl
+answer-back (Answer.BadArgument Flaw.Unreadable piece name span) = refl
+answer-back (Answer.BadArgument Flaw.TooLarge piece name span) = refl
 answer-back (Answer.NoRoom needed) = refl
 
 -- Two answers that give the same back are the same.

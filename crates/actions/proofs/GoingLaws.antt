@@ -7,16 +7,16 @@ use Prim.Native.Nat.{ℕ, suc, _+_, _-_, _*_, _≤_, _<_}
 use native.Mathlib.Numerals.{add-one}
 use native.Mathlib.Omega.{arith}
 use lib.ListN.{length, take, drop, length-drop, length-map, length-take}
-use lib.Seq.{take-all, length-take-le}
 use lib.Dec.{ltb}
 use borrow.Author.Tests.{ltb-true, ltb-false, lt-ltb, le-ltb}
 use Rattle.ascii.specs.Choice.{pick}
 use Rattle.ascii.specs.Classes.{white}
 use Rattle.ascii.specs.Fold.{lower, lowered}
-use Rattle.ascii.specs.Trim.{trimEnds}
+use Rattle.ascii.specs.Trim.{trimEnds, trimmedPart}
 use Rattle.ascii.proofs.TrimLaws.{ends-fit}
 use Rattle.lent.specs.Sizes.{spanBase, actionWords}
 use Rattle.lent.specs.Endings.{starts}
+use Rattle.lent.specs.Sources.{Part, part, partWord, Sourced, sourced}
 use Rattle.lent.proofs.StartLaws.{Started, starts-is}
 use Rattle.lent.specs.Buffers.{zeros, padded, stored, storedEach}
 use Rattle.lent.specs.Table.{Refusal, badArgument, unknownAction, refuses, reads}
@@ -30,55 +30,54 @@ use Rattle.single_action.specs.Plans.{cut, planAction, Judged}
 use Rattle.single_action.specs.declared.plans.Plan.{Plan}
 use Rattle.single_action.specs.declared.plans.Verdict.the-variants.{Done, Bad, Unknown}
 use Rattle.single_action.proofs.SingleLaws.{Within, single-within}
-use Rattle.actions.specs.Pieces.{outside, keep, pieces, partLength}
-use Rattle.actions.specs.Lists.{singleThen, actionsFrom}
-use Rattle.actions.specs.Layout.{actionRecord, recordsFrom, texts}
+use Rattle.actions.specs.Pieces.{outside, Piece, placeOf, keep, piecesFrom, partLength}
+use Rattle.actions.specs.Lists.{singleThen, actionsFrom, listed}
+use Rattle.actions.specs.Layout.{fullRecord, recordsFrom, texts}
 use Rattle.actions.specs.Steps.{Put}
 use Rattle.actions.specs.Listing.{Laid, ReadAll, Stopped}
 use Rattle.actions.proofs.PieceLaws.{part-fits}
+use Rattle.actions.proofs.PlaceLaws.{trimmed-places}
+use Rattle.actions.proofs.WritingLaws.{cut-length}
 use Rattle.actions.proofs.LayoutLaws.{texts-more, texts-length, each-record, text-long, records-long}
 use Rattle.actions.proofs.LoopLaws.{pieces-more, pieces-last, soFar, no-piece, one-piece, so-far-more, so-far-refused, so-far-read}
 
 -- ---- the parts
 
 -- the pieces behind a part that ends at a place
-unfoldable pub behind : List ℕ → ℕ → List (List ℕ)
-behind s end = pick (ltb end (length s)) (pieces (drop (end + 1) s)) []
+unfoldable pub behind : List ℕ → ℕ → List Piece
+behind s end = pick (ltb end (length s)) (piecesFrom (end + 1) (drop (end + 1) s)) []
 
 module _ (s : List ℕ) (from end : ℕ) (inside : from ≤ length s) (end-is : end ≡ from + partLength outside (drop from s)) where
   pub end-inside : (from ≤ end) × (end ≤ length s)
   end-inside = (omega arith, omega (arith, end-is, part-fits outside (drop from s), length-drop from s))
 
   -- the part that starts at `from` is a piece or nothing, and the others stand behind it
-  pub pieces-at : pieces (drop from s) ≡ keep (trimEnds (cut s from end)) (behind s end)
+  pub pieces-at : piecesFrom from (drop from s) ≡ keep (trimEnds (cut s from end)) (placeOf from (cut s from end)) (behind s end)
   unfolding behind
   pieces-at = go (ltb end (length s)) refl
     where
       k : partLength outside (drop from s) ≡ end - from
       k = omega (arith, end-is)
 
-      go : (t : Bool) → ltb end (length s) ≡ t → pieces (drop from s) ≡ keep (trimEnds (cut s from end)) (pick t (pieces (drop (end + 1) s)) [])
+      go : (t : Bool) → ltb end (length s) ≡ t → piecesFrom from (drop from s) ≡ keep (trimEnds (cut s from end)) (placeOf from (cut s from end)) (pick t (piecesFrom (end + 1) (drop (end + 1) s)) [])
       go true e =
           pieces-more s from (omega (arith, end-is, ltb-true end (length s) e))
           ∙ rw (← end-is, k)
-      go false e =
-          let h : length s ≤ end = ltb-false end (length s) e in
-          pieces-last s from (omega (arith, end-is, h))
-          ∙ ap (λ (l : List ℕ). keep (trimEnds l) []) (sym (take-all (end - from) (drop from s) (rw length-drop (omega arith))))
+      go false e = pieces-last s from (omega (arith, end-is, ltb-false end (length s) e)) ∙ rw k
 
 -- ---- what the loop keeps
 
 -- the pieces up to the place `reach` are read, and `rest` are those still to come
-pub record Going (s : List ℕ) (offset place : ℕ) (text₀ records₀ text records : List ℕ) (rest : List (List ℕ)) (reach used count at : ℕ) : Type 0 where
-  pub actions : List Action
-  pub so-far : soFar actions (actionsFrom (length actions) rest) ≡ actionsFrom 0 (pieces s)
+pub record Going (s : List ℕ) (offset place : ℕ) (text₀ records₀ text records : List ℕ) (rest : List Piece) (reach used count at : ℕ) : Type 0 where
+  pub actions : List (Sourced Action)
+  pub so-far : soFar actions (actionsFrom (length actions) rest) ≡ listed s
   pub inside : reach ≤ length s
   pub used-low : used ≤ offset + reach
   pub count-low : count ≤ reach
   pub at-is : at ≡ (place + count) * actionWords
   pub laid : Laid actions offset place text₀ text records₀ records count used
 
-pub begun : (s text records : List ℕ) (offset place : ℕ) → Going s offset place text records text records (pieces (drop 0 s)) 0 offset 0 (place * actionWords)
+pub begun : (s text records : List ℕ) (offset place : ℕ) → Going s offset place text records text records (piecesFrom 0 (drop 0 s)) 0 offset 0 (place * actionWords)
 unfolding soFar textsOf recordsOf storedEach
 begun s text records offset place = record {
   actions = [];
@@ -90,34 +89,74 @@ begun s text records offset place = record {
   laid = record { counted = omega arith; used-is = omega arith; written = sym (stored-none text offset); recorded = refl };
 }
 
-module _ {s : List ℕ} {offset place : ℕ} {text₀ records₀ text records : List ℕ} {from used count at : ℕ} (x : Going s offset place text₀ records₀ text records (pieces (drop from s)) from used count at)
+module _ {s : List ℕ} {offset place : ℕ} {text₀ records₀ text records : List ℕ} {from used count at : ℕ} (x : Going s offset place text₀ records₀ text records (piecesFrom from (drop from s)) from used count at)
     (h : starts (length s) (length text₀) offset place ≡ true)
-    (end : ℕ) (end-is : end ≡ from + partLength outside (drop from s)) (piece : List ℕ) (piece-is : piece ≡ trimEnds (cut s from end)) where
+    (end : ℕ) (end-is : end ≡ from + partLength outside (drop from s)) (t : Part) (t-is : t ≡ trimmedPart (cut s from end)) where
+  -- where the trimmed part stands in the text
+  abbrev pub first : ℕ
+  first = from + t .first
+
+  abbrev pub past : ℕ
+  past = from + t .past
+
+  first-is : first ≡ from + trimmedPart (cut s from end) .first
+  first-is = rw t-is
+
+  past-is : past ≡ from + trimmedPart (cut s from end) .past
+  past-is = rw t-is
+
   low : Started (length s) (length text₀) offset place
   low = starts-is (length s) (length text₀) offset place .0 h
 
-  pub piece-short : from + length piece ≤ end
-  piece-short =
+  pub part-inside : (from ≤ first) × (first ≤ past) × (past ≤ end)
+  part-inside =
       let e = end-inside s from end (x .inside) end-is in
-      omega (arith, e, ap length piece-is, ends-fit white (cut s from end), length-take (end - from) (drop from s))
+      let f = ends-fit white (cut s from end) in
+      let l = length-take (end - from) (drop from s) in
+      (omega (arith, first-is), omega (arith, first-is, past-is), omega (arith, past-is, e, f, l))
+
+  pub part-narrow : (first ≤ past) × (past < spanBase)
+  part-narrow = let e = end-inside s from end (x .inside) end-is in (part-inside .1, omega (arith, part-inside, e, low .within))
+
+  -- the piece by its places
+  abbrev piece : List ℕ
+  piece = cut s first past
+
+  piece-is : trimEnds (cut s from end) ≡ piece
+  piece-is =
+      let e = end-inside s from end (x .inside) end-is in
+      sym (rw (first-is, past-is) (trimmed-places s from end (e .0) (e .1)))
+
+  place-is : placeOf from (cut s from end) ≡ part first past
+  place-is = rw (first-is, past-is)
+
+  piece-long : length piece ≡ past - first
+  piece-long = let e = end-inside s from end (x .inside) end-is in cut-length s first past (part-inside .1) (omega (arith, part-inside, e))
+
+  pub piece-short : from + length (cut s first past) ≤ end
+  piece-short = omega (arith, piece-long, part-inside)
 
   -- how many actions were read
   abbrev told : ℕ
   told = length (x .actions)
 
-  here : actionsFrom told (pieces (drop from s)) ≡ actionsFrom told (keep piece (behind s end))
-  here = ap (actionsFrom told) (pieces-at s from end (x .inside) end-is ∙ ap (λ (p : List ℕ). keep p (behind s end)) (sym piece-is))
+  here : actionsFrom told (piecesFrom from (drop from s)) ≡ actionsFrom told (keep piece (part first past) (behind s end))
+  here =
+      ap (actionsFrom told)
+      (pieces-at s from end (x .inside) end-is
+      ∙ ap (λ (t : List ℕ). keep t (placeOf from (cut s from end)) (behind s end)) piece-is
+      ∙ ap (λ (y : Part). keep piece y (behind s end)) place-is)
 
   same-text : length text ≡ length text₀
   same-text = text-long (x .laid)
 
   -- a part that is no piece is passed over
-  pub passed : length piece ≤ 0 → Going s offset place text₀ records₀ text records (behind s end) end used count at
+  pub passed : past ≤ first → Going s offset place text₀ records₀ text records (behind s end) end used count at
   passed h =
       let e = end-inside s from end (x .inside) end-is in
       record {
         actions = x .actions;
-        so-far = ap (soFar (x .actions)) (sym (here ∙ no-piece told piece (behind s end) h)) ∙ x .so-far;
+        so-far = ap (soFar (x .actions)) (sym (here ∙ no-piece told piece (part first past) (behind s end) (omega (arith, piece-long, h)))) ∙ x .so-far;
         inside = e .1;
         used-low = omega (arith, e, x .used-low);
         count-low = omega (arith, e, x .count-low);
@@ -125,34 +164,37 @@ module _ {s : List ℕ} {offset place : ℕ} {text₀ records₀ text records : 
         laid = x .laid;
       }
 
-  module _ (some : 0 < length piece) where
-    one : actionsFrom told (pieces (drop from s)) ≡ singleThen told (single piece) (actionsFrom (suc told) (behind s end))
-    one = here ∙ one-piece told piece (behind s end) some
+  module _ (some : first < past) where
+    one : actionsFrom told (piecesFrom from (drop from s)) ≡ singleThen told (part first past) (single piece) (actionsFrom (suc told) (behind s end))
+    one = here ∙ one-piece told piece (part first past) (behind s end) (omega (arith, piece-long, some))
 
     -- what the piece writes fits
     fits : (v : Single) → single piece ≡ v → Within (length piece) v
     fits v e = rw e at (single-within piece)
 
-    module _ (plan : Plan) (j : Judged piece (Done plan) (single piece)) where
+    module _ (plan : Plan) (j : Judged (cut s first past) (Done plan) (single (cut s first past))) where
       abbrev action : Action
       action = planAction piece plan
 
-      pub room-for : (used + length (actionText (planAction piece plan)) ≤ length text) × (used + length (actionText (planAction piece plan)) < spanBase)
+      pub room-for : (used + length (actionText (planAction (cut s first past) plan)) ≤ length text) × (used + length (actionText (planAction (cut s first past) plan)) < spanBase)
       room-for =
           let w = fits (done action) (sym (j .means)) in
           let e = end-inside s from end (x .inside) end-is in
           (omega (arith, w, e, piece-short, x .used-low, same-text, low .room), omega (arith, w, e, piece-short, x .used-low, low))
 
       -- an action that is written
-      module _ {text′ records′ : List ℕ} {used′ : ℕ} (p : Put (planAction piece plan) used at text text′ records records′ used′) where
-        abbrev all : List Action
-        all = x .actions ++ (action ∷ [])
+      module _ {text′ records′ : List ℕ} {used′ : ℕ} (p : Put (planAction (cut s first past) plan) (partWord (part first past)) used at text text′ records records′ used′) where
+        abbrev whole : Sourced Action
+        whole = sourced action (part first past)
 
-        so-more : soFar all (actionsFrom (length all) (behind s end)) ≡ actionsFrom 0 (pieces s)
+        abbrev all : List (Sourced Action)
+        all = x .actions ++ (whole ∷ [])
+
+        so-more : soFar all (actionsFrom (length all) (behind s end)) ≡ listed s
         so-more =
-            rw (count-more (x .actions) action, add-one told)
-            (sym (so-far-more (x .actions) action (actionsFrom (suc told) (behind s end)))
-            ∙ ap (soFar (x .actions)) (ap (λ (v : Single). singleThen told v (actionsFrom (suc told) (behind s end))) (j .means) ∙ sym one)
+            rw (count-more (x .actions) whole, add-one told)
+            (sym (so-far-more (x .actions) whole (actionsFrom (suc told) (behind s end)))
+            ∙ ap (soFar (x .actions)) (ap (λ (v : Single). singleThen told (part first past) v (actionsFrom (suc told) (behind s end))) (j .means) ∙ sym one)
             ∙ x .so-far)
 
         used-at : used ≡ offset + length (texts (x .actions))
@@ -165,14 +207,14 @@ module _ {s : List ℕ} {offset place : ℕ} {text₀ records₀ text records : 
             ∙ ap (λ (l : List ℕ). stored l used (actionText action)) (x .laid .written)
             ∙ ap (λ (n : ℕ). stored (stored text₀ offset (texts (x .actions))) n (actionText action)) used-at
             ∙ stored-more text₀ offset (texts (x .actions)) (actionText action) fit
-            ∙ ap (stored text₀ offset) (sym (texts-more (x .actions) action))
+            ∙ ap (stored text₀ offset) (sym (texts-more (x .actions) whole))
 
         records-more : records′ ≡ storedEach records₀ (place * actionWords) (recordsFrom offset all)
         records-more =
             let a : at ≡ place * actionWords + length (x .actions) * actionWords = omega (arith, x .at-is, x .laid .counted) in
             p .words
-            ∙ ap (λ (l : List ℕ). stored l at (actionRecord used action)) (x .laid .recorded)
-            ∙ rw (a, used-at) (each-record records₀ (place * actionWords) offset (x .actions) action)
+            ∙ ap (λ (l : List ℕ). stored l at (fullRecord used whole)) (x .laid .recorded)
+            ∙ rw (a, used-at) (each-record records₀ (place * actionWords) offset (x .actions) whole)
 
         pub acted : Going s offset place text₀ records₀ text′ records′ (behind s end) end used′ (count + 1) (at + actionWords)
         acted = record {
@@ -180,19 +222,22 @@ module _ {s : List ℕ} {offset place : ℕ} {text₀ records₀ text records : 
           so-far = so-more;
           inside = end-inside s from end (x .inside) end-is .1;
           used-low = omega (arith, fits (done action) (sym (j .means)), piece-short, x .used-low, p .end);
-          count-low = omega (arith, piece-short, x .count-low, some);
+          count-low = omega (arith, part-inside, x .count-low, some);
           at-is = omega (arith, x .at-is);
           laid = record {
-            counted = omega (arith, count-more (x .actions) action, x .laid .counted);
-            used-is = omega (arith, p .end, used-at, texts-length (x .actions) action);
+            counted = omega (arith, count-more (x .actions) whole, x .laid .counted);
+            used-is = omega (arith, p .end, used-at, texts-length (x .actions) whole);
             written = text-more;
             recorded = records-more;
           };
         }
 
     -- a refused piece: nothing was refused before it
-    stopped : (f : Refusal) → singleThen told (single piece) (actionsFrom (suc told) (behind s end)) ≡ refuses f → actionsFrom 0 (pieces s) ≡ refuses f
+    stopped : (f : Refusal) → singleThen told (part first past) (single piece) (actionsFrom (suc told) (behind s end)) ≡ refuses f → listed s ≡ refuses f
     stopped f e = sym (x .so-far) ∙ ap (soFar (x .actions)) (one ∙ e) ∙ so-far-refused (x .actions) f
+
+    part-low : past ≤ length s
+    part-low = let e = end-inside s from end (x .inside) end-is in omega (arith, part-inside, e)
 
     -- the piece as it is counted
     told-is : told ≡ count
@@ -201,34 +246,42 @@ module _ {s : List ℕ} {offset place : ℕ} {text₀ records₀ text records : 
     blank : {records′ : List ℕ} → records′ ≡ zeros (length records) → records′ ≡ zeros (length records₀)
     blank e = e ∙ ap zeros (records-long (x .laid))
 
-    module _ (flaw : Flaw) (row : ℕ) (j : Judged piece (Bad flaw row) (single piece)) where
+    module _ (flaw : Flaw) (row : ℕ) (j : Judged (cut s first past) (Bad flaw row) (single (cut s first past))) where
       pub row-fits : length (rowAt row .name) ≤ length text
       row-fits =
           let e = end-inside s from end (x .inside) end-is in
           omega (arith, fits (bad flaw (rowAt row .name)) (sym (j .means)), e, piece-short, same-text, low .room)
 
       pub stopped-bad : {text′ records′ : List ℕ} {n : ℕ} → text′ ≡ padded (length text) (rowAt row .name) → records′ ≡ zeros (length records) → n ≡ length (rowAt row .name)
-          → Stopped (badArgument flaw count) s text₀ text′ records₀ records′ n
+          → Stopped (badArgument flaw count) s text₀ text′ records₀ records′ n (partWord (part first past))
       stopped-bad e z f = record {
         named = rowAt row .name;
-        first = rw (← told-is) (stopped (badArgument flaw told (rowAt row .name)) (ap (λ (v : Single). singleThen told v (actionsFrom (suc told) (behind s end))) (sym (j .means))));
+        source = part first past;
+        first = rw (← told-is) (stopped (badArgument flaw told (rowAt row .name) (part first past)) (ap (λ (v : Single). singleThen told (part first past) v (actionsFrom (suc told) (behind s end))) (sym (j .means))));
+        ordered = part-inside .1;
+        inside = part-low;
+        underlined = refl;
         counted = f;
         written = rw (← same-text) e;
         cleared = blank z;
       }
 
-    module _ (n : ℕ) (j : Judged piece (Unknown n) (single piece)) where
-      pub name-fits : length (take n piece) ≤ length text
+    module _ (n : ℕ) (j : Judged (cut s first past) (Unknown n) (single (cut s first past))) where
+      pub name-fits : length (take n (cut s first past)) ≤ length text
       name-fits =
           let e = end-inside s from end (x .inside) end-is in
           omega (arith, length-take n piece, e, piece-short, same-text, low .room)
 
-      pub stopped-unknown : {text′ records′ : List ℕ} → text′ ≡ padded (length text) (lowered (take n piece)) → records′ ≡ zeros (length records)
-          → Stopped (unknownAction count) s text₀ text′ records₀ records′ n
+      pub stopped-unknown : {text′ records′ : List ℕ} → text′ ≡ padded (length text) (lowered (take n (cut s first past))) → records′ ≡ zeros (length records)
+          → Stopped (unknownAction count) s text₀ text′ records₀ records′ (length (take n (cut s first past))) (partWord (part first past))
       stopped-unknown e z = record {
-        named = lowered (take n piece);
-        first = rw (← told-is) (stopped (unknownAction told (lowered (take n piece))) (ap (λ (v : Single). singleThen told v (actionsFrom (suc told) (behind s end))) (sym (j .means))));
-        counted = sym (length-map (take n piece) lower ∙ length-take-le n piece (j .sound));
+        named = lowered (take n (cut s first past));
+        source = part first past;
+        first = rw (← told-is) (stopped (unknownAction told (lowered (take n (cut s first past))) (part first past)) (ap (λ (v : Single). singleThen told (part first past) v (actionsFrom (suc told) (behind s end))) (sym (j .means))));
+        ordered = part-inside .1;
+        inside = part-low;
+        underlined = refl;
+        counted = sym (length-map (take n (cut s first past)) lower);
         written = rw (← same-text) e;
         cleared = blank z;
       }
@@ -237,7 +290,7 @@ module _ {s : List ℕ} {offset place : ℕ} {text₀ records₀ text records : 
 
 module _ {s : List ℕ} {offset place : ℕ} {text₀ records₀ text records : List ℕ} {end used count at : ℕ} (x : Going s offset place text₀ records₀ text records (behind s end) end used count at) where
   -- the next part starts behind the comma
-  pub onward : end < length s → Going s offset place text₀ records₀ text records (pieces (drop (end + 1) s)) (end + 1) used count at
+  pub onward : end < length s → Going s offset place text₀ records₀ text records (piecesFrom (end + 1) (drop (end + 1) s)) (end + 1) used count at
   unfolding behind
   onward h = record {
     actions = x .actions;

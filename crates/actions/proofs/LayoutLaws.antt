@@ -4,6 +4,7 @@ use mathlib.Core.List.{List}
 use Prim.Native.Nat.{ℕ, _*_}
 use lib.ListN.{length}
 use Rattle.lent.specs.Sizes.{actionWords}
+use Rattle.lent.specs.Sources.{Sourced}
 use Rattle.lent.proofs.BufferLaws.{stored-length, each-length}
 use Rattle.single_action.specs.Actions.{Action}
 use Rattle.actions.specs.Layout.{recordsFrom, texts}
@@ -11,7 +12,7 @@ use Rattle.actions.specs.Listing.{Laid}
 pub use Rattle.records.proofs.LayoutLaws.{texts-more, texts-length, record-length, words-length, words-joined, each-record}
 
 -- both buffers are as long as they were
-module _ {xs : List Action} {offset place : ℕ} {text text′ records records′ : List ℕ} {count used : ℕ} (x : Laid xs offset place text text′ records records′ count used) where
+module _ {xs : List (Sourced Action)} {offset place : ℕ} {text text′ records records′ : List ℕ} {count used : ℕ} (x : Laid xs offset place text text′ records records′ count used) where
   pub text-long : length text′ ≡ length text
   text-long = ap length (x .written) ∙ stored-length text offset (texts xs)
 

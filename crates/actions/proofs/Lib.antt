@@ -4,6 +4,7 @@ pub mod LengthLaws
 pub mod LayoutLaws
 pub mod GivenLaws
 pub mod PlaceLaws
+pub mod SourceLaws
 pub mod LoopLaws
 pub mod OutcomeLaws
 pub mod NormalLoop

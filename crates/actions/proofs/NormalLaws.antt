@@ -9,7 +9,8 @@ use lib.ListN.{length, drop, getD, length-append, drop-of-length-le}
 use lib.Dec.{eqb}
 use Rattle.ascii.specs.Choice.{pick}
 use Rattle.ascii.proofs.ListLaws.{next-byte}
-use Rattle.actions.specs.Normal.{Mode, plain, held, afterCr, margin, skipped, modeAfter, textGiven, textHeld, normalisedFrom, normalised}
+use Rattle.places.specs.Tables.{skipped}
+use Rattle.actions.specs.Normal.{Mode, plain, held, afterCr, margin, modeAfter, textGiven, textHeld, normalisedFrom, normalised}
 
 -- ---- the length
 

@@ -7,11 +7,12 @@ use mathlib.Core.Logic.{_↔_, inl, inr}
 use Prim.Native.Nat.{ℕ, suc, _+_, _≤_, _<_, min}
 use native.Mathlib.Nat.{zero-add}
 use native.Mathlib.Omega.{arith}
-use lib.ListN.{length}
+use lib.ListN.{length, length-map}
 use lib.Dec.{ltb}
 use borrow.Author.Tests.{lt-ltb, le-ltb, ltb-true, ltb-false}
 use Rattle.lent.specs.Sizes.{limit, actionWords, roomFor}
-use Rattle.lent.specs.Table.{Given, flawNumber, Refusal, noRoom, unknownAction, badArgument, Outcome, refuses, reads, Filled}
+use Rattle.lent.specs.Table.{Given, flawNumber, Refusal, noRoom, unknownAction, badArgument, Outcome, refuses, reads, Filled, sitedOutcome}
+use Rattle.lent.specs.Sources.{Part, Sourced, sourced, sitedBy, sitedAll}
 use Rattle.lent.specs.Admission.{FirstAt, Opened, Shortened}
 use Rattle.lent.specs.declared.refusing.Flaw.{Flaw}
 use Rattle.lent.specs.declared.refusing.Flaw.the-variants as Flaw
@@ -20,8 +21,8 @@ use Rattle.lent.proofs.RowLaws as Rows
 use Rattle.lent.proofs.RowLaws.{row, OneOf, Numbered, Exactly, absent, differ, behind, gated, exactly-gated}
 use Rattle.single_action.specs.Actions.{Action, Single, done, bad, unknown, single}
 use Rattle.actions.specs.Normal.{normalised}
-use Rattle.actions.specs.Pieces.{pieces}
-use Rattle.actions.specs.Lists.{actionThen, singleThen, actionsFrom, actionsOf}
+use Rattle.actions.specs.Pieces.{Piece, pieces}
+use Rattle.actions.specs.Lists.{actionThen, singleThen, actionsFrom, normalSite, actionsOf}
 use Rattle.actions.specs.Calls.{AllDone, FirstRefused}
 use Rattle.actions.specs.Promises.{answerGiven, laidOut, roomed, actionsOutcome, ParseActions}
 use Rattle.actions.specs.declared.Answer.{Answer}
@@ -29,77 +30,77 @@ use Rattle.actions.specs.declared.Answer.{Answer}
 -- ---- the pieces
 
 -- the actions of pieces that all give one
-pub given : (ps : List (List ℕ)) → AllDone ps → List Action
+pub given : (ps : List Piece) → AllDone ps → List (Sourced Action)
 unfolding AllDone
 given [] a = []
-given (p ∷ ps) a = a .0 .0 ∷ given ps (a .1)
+given (p ∷ ps) a = sourced (a .0 .0) (p .place) ∷ given ps (a .1)
 
-pub given-count : (ps : List (List ℕ)) (a : AllDone ps) → length (given ps a) ≡ length ps
+pub given-count : (ps : List Piece) (a : AllDone ps) → length (given ps a) ≡ length ps
 unfolding AllDone given
 given-count [] a = refl
 given-count (p ∷ ps) a = ap suc (given-count ps (a .1))
 
-pub given-read : (k : ℕ) (ps : List (List ℕ)) (a : AllDone ps) → actionsFrom k ps ≡ reads (given ps a)
+pub given-read : (k : ℕ) (ps : List Piece) (a : AllDone ps) → actionsFrom k ps ≡ reads (given ps a)
 unfolding AllDone given actionsFrom
 given-read k [] a = refl
 given-read k (p ∷ ps) a = rw (a .0 .1, given-read (suc k) ps (a .1))
 
 -- a way to be refused, and the refusal that it comes to
-pub record Way (way : List ℕ → Single) (refusal : ℕ → List ℕ → Refusal) : Type 0 where
-  pub stops : (k : ℕ) (name : List ℕ) (o : Outcome (List Action)) → singleThen k (way name) o ≡ refuses (refusal k name)
+pub record Way (way : List ℕ → Single) (refusal : ℕ → List ℕ → Part → Refusal) : Type 0 where
+  pub stops : (k : ℕ) (x : Part) (name : List ℕ) (o : Outcome (List (Sourced Action))) → singleThen k x (way name) o ≡ refuses (refusal k name x)
 
 pub bad-way : (flaw : Flaw) → Way (bad flaw) (badArgument flaw)
-bad-way flaw = record { stops = λ k name o. refl }
+bad-way flaw = record { stops = λ k x name o. refl }
 
 pub unknown-way : Way unknown unknownAction
-unknown-way = record { stops = λ k name o. refl }
+unknown-way = record { stops = λ k x name o. refl }
 
-module _ {way : List ℕ → Single} {refusal : ℕ → List ℕ → Refusal} (w : Way way refusal) where
-  refused-from : (k : ℕ) (passed : List (List ℕ)) (piece : List ℕ) (others : List (List ℕ)) (name : List ℕ)
-      → AllDone passed → single piece ≡ way name → actionsFrom k (passed ++ piece ∷ others) ≡ refuses (refusal (k + length passed) name)
+module _ {way : List ℕ → Single} {refusal : ℕ → List ℕ → Part → Refusal} (w : Way way refusal) where
+  refused-from : (k : ℕ) (passed : List Piece) (piece : Piece) (others : List Piece) (name : List ℕ)
+      → AllDone passed → single (piece .text) ≡ way name → actionsFrom k (passed ++ piece ∷ others) ≡ refuses (refusal (k + length passed) name (piece .place))
   unfolding AllDone actionsFrom
   refused-from k [] piece others name a e =
       let z : k ≡ k + 0 = omega arith in
-      ap (λ (v : Single). singleThen k v (actionsFrom (suc k) others)) e ∙ w .stops k name _ ∙ ap (λ (n : ℕ). refuses (refusal n name)) z
+      ap (λ (v : Single). singleThen k (piece .place) v (actionsFrom (suc k) others)) e ∙ w .stops k (piece .place) name _ ∙ ap (λ (n : ℕ). refuses (refusal n name (piece .place))) z
   refused-from k (p ∷ ps) piece others name a e =
       let z : suc k + length ps ≡ k + suc (length ps) = omega arith in
-      ap (λ (v : Single). singleThen k v (actionsFrom (suc k) (ps ++ piece ∷ others))) (a .0 .1)
-      ∙ ap (actionThen (a .0 .0)) (refused-from (suc k) ps piece others name (a .1) e)
-      ∙ ap (λ (n : ℕ). refuses (refusal n name)) z
+      ap (λ (v : Single). singleThen k (p .place) v (actionsFrom (suc k) (ps ++ piece ∷ others))) (a .0 .1)
+      ∙ ap (actionThen (sourced (a .0 .0) (p .place))) (refused-from (suc k) ps piece others name (a .1) e)
+      ∙ ap (λ (n : ℕ). refuses (refusal n name (piece .place))) z
 
-  pub first-refused : (ps : List (List ℕ)) (x : FirstRefused way ps) → actionsFrom 0 ps ≡ refuses (refusal (length (x .passed)) (x .name))
+  pub first-refused : (ps : List Piece) (x : FirstRefused way ps) → actionsFrom 0 ps ≡ refuses (refusal (length (x .passed)) (x .name) (x .piece .place))
   first-refused ps x =
       ap (actionsFrom 0) (x .parted) ∙ refused-from 0 (x .passed) (x .piece) (x .others) (x .name) (x .before) (x .refused)
       ∙ rw zero-add
 
 -- one of three
-pub data Pieces (ps : List (List ℕ)) : Type 0 where
+pub data Pieces (ps : List Piece) : Type 0 where
   all : AllDone ps → Pieces ps
   stray : FirstRefused unknown ps → Pieces ps
   spoilt : (flaw : Flaw) → FirstRefused (bad flaw) ps → Pieces ps
 
-ahead : {way : List ℕ → Single} (p : List ℕ) (ps : List (List ℕ)) → (x : Action) × (single p ≡ done x) → FirstRefused way ps → FirstRefused way (p ∷ ps)
+ahead : {way : List ℕ → Single} (p : Piece) (ps : List Piece) → (x : Action) × (single (p .text) ≡ done x) → FirstRefused way ps → FirstRefused way (p ∷ ps)
 unfolding AllDone
 ahead p ps d x = record {
   passed = p ∷ x .passed;
   piece = x .piece;
   others = x .others;
-  parted = ap (λ (l : List (List ℕ)). p ∷ l) (x .parted);
+  parted = ap (λ (l : List Piece). p ∷ l) (x .parted);
   before = (d, x .before);
   name = x .name;
   refused = x .refused;
 }
 
-here : {way : List ℕ → Single} (p : List ℕ) (ps : List (List ℕ)) (name : List ℕ) → single p ≡ way name → FirstRefused way (p ∷ ps)
+here : {way : List ℕ → Single} (p : Piece) (ps : List Piece) (name : List ℕ) → single (p .text) ≡ way name → FirstRefused way (p ∷ ps)
 unfolding AllDone
 here p ps name e = record { passed = []; piece = p; others = ps; parted = refl; before = tt; name = name; refused = e }
 
-pub which : (ps : List (List ℕ)) → Pieces ps
+pub which : (ps : List Piece) → Pieces ps
 unfolding AllDone
 which [] = all tt
-which (p ∷ ps) = go (single p) refl (which ps)
+which (p ∷ ps) = go (single (p .text)) refl (which ps)
   where
-    go : (v : Single) → single p ≡ v → Pieces ps → Pieces (p ∷ ps)
+    go : (v : Single) → single (p .text) ≡ v → Pieces ps → Pieces (p ∷ ps)
     go (bad flaw name) e x = spoilt flaw (here p ps name e)
     go (unknown name) e x = stray (here p ps name e)
     go (done y) e (all a) = all ((y, e), a)
@@ -109,29 +110,36 @@ which (p ∷ ps) = go (single p) refl (which ps)
 -- ---- past the gate
 
 module _ (s : List ℕ) (m : ℕ) where
-  abbrev parts : List (List ℕ)
+  abbrev parts : List Piece
   parts = pieces (normalised s)
 
   abbrev past : Outcome Filled
   past = roomed m (actionsOf s)
 
-  pub stray-is : (x : FirstRefused unknown (pieces (normalised s))) → roomed m (actionsOf s) ≡ refuses (unknownAction (length (x .passed)) (x .name))
+  pub stray-is : (x : FirstRefused unknown (pieces (normalised s))) → roomed m (actionsOf s) ≡ refuses (unknownAction (length (x .passed)) (x .name) (normalSite s (x .piece .place)))
   unfolding actionsOf
   stray-is x = rw (first-refused unknown-way parts x)
 
-  pub spoilt-is : (flaw : Flaw) (x : FirstRefused (bad flaw) (pieces (normalised s))) → roomed m (actionsOf s) ≡ refuses (badArgument flaw (length (x .passed)) (x .name))
+  pub spoilt-is : (flaw : Flaw) (x : FirstRefused (bad flaw) (pieces (normalised s))) → roomed m (actionsOf s) ≡ refuses (badArgument flaw (length (x .passed)) (x .name) (normalSite s (x .piece .place)))
   unfolding actionsOf
   spoilt-is flaw x = rw (first-refused (bad-way flaw) parts x)
 
-  read-is : (a : AllDone (pieces (normalised s))) → roomed m (actionsOf s) ≡ roomed m (reads (given (pieces (normalised s)) a))
+  -- the actions that they give, where they stand in the input
+  abbrev pub given-in : AllDone (pieces (normalised s)) → List (Sourced Action)
+  given-in a = sitedAll (normalSite s) (given (pieces (normalised s)) a)
+
+  pub given-long : (a : AllDone (pieces (normalised s))) → length (given-in a) ≡ length (pieces (normalised s))
+  given-long a = length-map (given parts a) (sitedBy (normalSite s)) ∙ given-count parts a
+
+  read-is : (a : AllDone (pieces (normalised s))) → roomed m (actionsOf s) ≡ roomed m (reads (given-in a))
   unfolding actionsOf
-  read-is a = ap (roomed m) (given-read 0 parts a)
+  read-is a = ap (λ (o : Outcome (List (Sourced Action))). roomed m (sitedOutcome (normalSite s) o)) (given-read 0 parts a)
 
   pub crowded-is : AllDone (pieces (normalised s)) → roomFor actionWords m < length (pieces (normalised s)) → roomed m (actionsOf s) ≡ refuses (noRoom (length (pieces (normalised s))))
-  crowded-is a h = read-is a ∙ rw (given-count parts a, lt-ltb (roomFor actionWords m) (length parts) h)
+  crowded-is a h = read-is a ∙ rw (given-long a, lt-ltb (roomFor actionWords m) (length parts) h)
 
-  pub roomy-is : (a : AllDone (pieces (normalised s))) → length (pieces (normalised s)) ≤ roomFor actionWords m → roomed m (actionsOf s) ≡ reads (laidOut (given (pieces (normalised s)) a))
-  roomy-is a h = read-is a ∙ rw (le-ltb (roomFor actionWords m) (length (given parts a)) (omega (arith, given-count parts a)))
+  pub roomy-is : (a : AllDone (pieces (normalised s))) → length (pieces (normalised s)) ≤ roomFor actionWords m → roomed m (actionsOf s) ≡ reads (laidOut (given-in a))
+  roomy-is a h = read-is a ∙ rw (le-ltb (roomFor actionWords m) (length (given-in a)) (omega (arith, given-long a)))
 
   -- one of six, and the number of each
   abbrev rows : List Rows.Row

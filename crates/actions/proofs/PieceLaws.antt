@@ -14,8 +14,9 @@ use Rattle.ascii.specs.Trim.{trimEnds}
 use Rattle.ascii.proofs.ListLaws.{next-byte}
 use Rattle.ascii.proofs.SameLaws.{and-left, and-right}
 use Rattle.ascii.proofs.TrimLaws.{ends-fit}
+use Rattle.lent.specs.Sources.{Part}
 use Rattle.single_action.specs.Marks.{quotation}
-use Rattle.actions.specs.Pieces.{Nest, nest, outside, nestBare, nestQuoted, nestAfter, cuts, cutBy, partsFrom, keep, piecesOf, pieces, partLength, partsBehind}
+use Rattle.actions.specs.Pieces.{Nest, nest, outside, nestBare, nestQuoted, nestAfter, cuts, cutBy, partsFrom, Piece, placeOf, keep, piecesOf, piecesFrom, pieces, partLength, partsBehind}
 
 -- a comma that cuts leaves nothing open
 pub cut-outside : (n : Nest) (b : ℕ) → cuts n b ≡ true → nestAfter n b ≡ outside
@@ -97,17 +98,22 @@ unfolding partsFrom total
 parts-total n [] = omega arith
 parts-total n (b ∷ r) = omega (arith, cut-total (cuts n b) b (partsFrom (nestAfter n b) r), parts-total (nestAfter n b) r)
 
-keep-total : (p : List ℕ) (ps : List (List ℕ)) → total (keep p ps) ≡ length p + total ps
-unfolding total
-keep-total [] ps = omega arith
-keep-total (b ∷ r) ps = refl
+-- of pieces
+unfoldable pub taken : List Piece → ℕ
+taken [] = 0
+taken (p ∷ ps) = length (p .text) + taken ps
 
-pub kept-total : (ps : List (List ℕ)) → total (piecesOf ps) ≤ total ps
-unfolding piecesOf total
-kept-total [] = omega arith
-kept-total (p ∷ ps) = omega (arith, keep-total (trimEnds p) (piecesOf ps), kept-total ps, ends-fit white p)
+keep-taken : (t : List ℕ) (x : Part) (ps : List Piece) → taken (keep t x ps) ≡ length t + taken ps
+unfolding taken
+keep-taken [] x ps = omega arith
+keep-taken (b ∷ r) x ps = refl
+
+pub kept-taken : (k : ℕ) (ps : List (List ℕ)) → taken (piecesOf k ps) ≤ total ps
+unfolding piecesOf total taken
+kept-taken k [] = omega arith
+kept-taken k (p ∷ ps) = omega (arith, keep-taken (trimEnds p) (placeOf k p) (piecesOf (k + length p + 1) ps), kept-taken (k + length p + 1) ps, ends-fit white p)
 
 -- the pieces together are no longer than the text
-pub pieces-total : (s : List ℕ) → total (pieces s) ≤ length s
-unfolding pieces
-pieces-total s = omega (arith, kept-total (partsFrom outside s), parts-total outside s)
+pub pieces-taken : (s : List ℕ) → taken (pieces s) ≤ length s
+unfolding piecesFrom
+pieces-taken s = omega (arith, kept-taken 0 (partsFrom outside s), parts-total outside s)

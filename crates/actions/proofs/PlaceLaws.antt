@@ -2,8 +2,8 @@
 -- The idea: the parts of a text are the text again with a comma between each two, so that each stands where those before it end.
 use mathlib.Core.Path.{_≡_, _∙_, refl, sym, ap, subst}
 use mathlib.Core.Bool.{Bool, true, false}
-use mathlib.Core.List.{List, [], _∷_, _++_, map, append-assoc, append-nil}
-use Prim.Native.Nat.{ℕ, _+_, _-_, _≤_}
+use mathlib.Core.List.{List, [], _∷_, _++_, append-assoc, append-nil}
+use Prim.Native.Nat.{ℕ, _+_, _-_, _≤_, _<_}
 use native.Mathlib.Omega.{arith}
 use lib.ListN.{length, take, drop, length-append, length-take}
 use lib.Seq.{take-append-seam, drop-append-seam}
@@ -14,11 +14,14 @@ use Rattle.ascii.specs.Classes.{white}
 use Rattle.ascii.specs.Trim.{leadingWhite, trimEnds}
 use Rattle.ascii.proofs.SameLaws.{and-left}
 use Rattle.ascii.proofs.TrimLaws.{ends-are, ends-fit}
-use Rattle.ascii.specs.declared.trimming.Part.{Part}
+use Rattle.lent.specs.Sources.{Part}
 use Rattle.single_action.specs.Plans.{cut}
 use Rattle.single_action.proofs.CutLaws.{cut-take, cut-drop}
-use Rattle.actions.specs.Pieces.{Nest, outside, nestAfter, cuts, cutBy, partsFrom, keep, piecesOf, pieces}
-use Rattle.actions.specs.Places.{placeOf, keepPlace, placesFrom, piecePlaces, bytesAt}
+use Rattle.actions.specs.Pieces.{Nest, outside, nestAfter, cuts, cutBy, partsFrom, Piece, placeOf, keep, piecesOf, piecesFrom, pieces}
+
+-- the bytes between two places
+abbrev pub bytesAt : List ℕ → Part → List ℕ
+bytesAt s x = cut s (x .first) (x .past)
 
 -- ---- one part
 
@@ -80,10 +83,20 @@ parts-joined n (b ∷ r) =
     joined-by (cuts n b) b (partsFrom (nestAfter n b) r) (λ e. eqb-true b 44 (and-left (eqb b 44) (and (eqb (n .mark) 0) (eqb (n .depth) 0)) e)) (some-parts (nestAfter n b) r)
     ∙ ap (λ (l : List ℕ). b ∷ l) (parts-joined (nestAfter n b) r)
 
+-- the bytes between a piece's places are the piece, and there are some
+pub record Stands (s : List ℕ) (p : Piece) : Type 0 where
+  pub bytes : bytesAt s (p .place) ≡ p .text
+  pub some : p .place .first < p .place .past
+  pub inside : p .place .past ≤ length s
+
+pub data AllStand (s : List ℕ) : List Piece → Type 0 where
+  none : AllStand s []
+  also : {p : Piece} {ps : List Piece} → Stands s p → AllStand s ps → AllStand s (p ∷ ps)
+
 -- one part more, in front
-kept : (s : List ℕ) (x : Part) (t : List ℕ) (xs : List Part) (ps : List (List ℕ)) → bytesAt s x ≡ t → map (bytesAt s) xs ≡ ps → map (bytesAt s) (keepPlace t x xs) ≡ keep t ps
-kept s x [] xs ps e f = f
-kept s x (b ∷ r) xs ps e f = rw (e, f)
+kept : (s t : List ℕ) (x : Part) (ps : List Piece) → bytesAt s x ≡ t → (0 < length t → (x .first < x .past) × (x .past ≤ length s)) → AllStand s ps → AllStand s (keep t x ps)
+kept s [] x ps e h a = a
+kept s (b ∷ r) x ps e h a = let (o, i) = h (omega arith) in also (record { bytes = e; some = o; inside = i }) a
 
 part-bytes : (pre p rest : List ℕ) → bytesAt (pre ++ (p ++ rest)) (placeOf (length pre) p) ≡ trimEnds p
 part-bytes pre p rest =
@@ -91,22 +104,26 @@ part-bytes pre p rest =
     let h : length pre + length p ≤ length s = omega (arith, length-append pre (p ++ rest), length-append p rest) in
     subst (λ (q : List ℕ). bytesAt s (placeOf (length pre) q) ≡ trimEnds q) (stands pre p rest) (trimmed-places s (length pre) (length pre + length p) (omega arith) h)
 
-placed-all : (pre : List ℕ) (ps : List (List ℕ)) → map (bytesAt (pre ++ joinedBy ps)) (placesFrom (length pre) ps) ≡ piecesOf ps
-unfolding joinedBy placesFrom piecesOf
-placed-all pre [] = refl
+part-inside : (pre p rest : List ℕ) → 0 < length (trimEnds p)
+    → (placeOf (length pre) p .first < placeOf (length pre) p .past) × (placeOf (length pre) p .past ≤ length (pre ++ (p ++ rest)))
+part-inside pre p rest h = (omega arith, omega (arith, ends-fit white p, length-append pre (p ++ rest), length-append p rest))
+
+placed-all : (pre : List ℕ) (ps : List (List ℕ)) → AllStand (pre ++ joinedBy ps) (piecesOf (length pre) ps)
+unfolding joinedBy piecesOf
+placed-all pre [] = none
 placed-all pre (p ∷ []) =
-    kept (pre ++ p) (placeOf (length pre) p) (trimEnds p) [] []
-    (subst (λ (l : List ℕ). bytesAt (pre ++ l) (placeOf (length pre) p) ≡ trimEnds p) (append-nil p) (part-bytes pre p [])) refl
+    subst (λ (l : List ℕ). AllStand (pre ++ l) (keep (trimEnds p) (placeOf (length pre) p) [])) (append-nil p)
+    (kept (pre ++ (p ++ [])) (trimEnds p) (placeOf (length pre) p) [] (part-bytes pre p []) (part-inside pre p []) none)
 placed-all pre (p ∷ q ∷ qs) =
     let rest = joinedBy (q ∷ qs) in
     let past = pre ++ (p ++ (44 ∷ [])) in
     let e : past ++ rest ≡ pre ++ (p ++ (44 ∷ rest)) = append-assoc pre (p ++ (44 ∷ [])) rest ∙ ap (λ (l : List ℕ). pre ++ l) (append-assoc p (44 ∷ []) rest) in
     let n : length past ≡ length pre + length p + 1 = omega (arith, length-append pre (p ++ (44 ∷ [])), length-append p (44 ∷ [])) in
-    kept (pre ++ (p ++ (44 ∷ rest))) (placeOf (length pre) p) (trimEnds p) (placesFrom (length pre + length p + 1) (q ∷ qs)) (piecesOf (q ∷ qs)) (part-bytes pre p (44 ∷ rest))
-    (subst (λ (l : List ℕ). map (bytesAt l) (placesFrom (length pre + length p + 1) (q ∷ qs)) ≡ piecesOf (q ∷ qs)) e
-    (subst (λ (k : ℕ). map (bytesAt (past ++ rest)) (placesFrom k (q ∷ qs)) ≡ piecesOf (q ∷ qs)) n (placed-all past (q ∷ qs))))
+    kept (pre ++ (p ++ (44 ∷ rest))) (trimEnds p) (placeOf (length pre) p) (piecesOf (length pre + length p + 1) (q ∷ qs)) (part-bytes pre p (44 ∷ rest)) (part-inside pre p (44 ∷ rest))
+    (subst (λ (l : List ℕ). AllStand l (piecesOf (length pre + length p + 1) (q ∷ qs))) e
+    (subst (λ (k : ℕ). AllStand (past ++ rest) (piecesOf k (q ∷ qs))) n (placed-all past (q ∷ qs))))
 
 -- the pieces of a text by their places
-pub pieces-placed : (s : List ℕ) → map (bytesAt s) (piecePlaces s) ≡ pieces s
-unfolding piecePlaces pieces
-pieces-placed s = subst (λ (t : List ℕ). map (bytesAt t) (placesFrom 0 (partsFrom outside s)) ≡ piecesOf (partsFrom outside s)) (parts-joined outside s) (placed-all [] (partsFrom outside s))
+pub pieces-stand : (s : List ℕ) → AllStand s (pieces s)
+unfolding piecesFrom
+pieces-stand s = subst (λ (t : List ℕ). AllStand t (piecesOf 0 (partsFrom outside s))) (parts-joined outside s) (placed-all [] (partsFrom outside s))

@@ -19,7 +19,8 @@ use Rattle.ascii.specs.Trim.{leading}
 use Rattle.ascii.specs.Splits.{firstOf}
 use Rattle.ascii.proofs.SplitLaws.{first-fits}
 use Rattle.actions.specs.Steps.{Passed}
-use Rattle.actions.specs.Normal.{plain, skipped, modeAfter, textGiven, normalisedFrom}
+use Rattle.places.specs.Tables.{skipped}
+use Rattle.actions.specs.Normal.{plain, modeAfter, textGiven, normalisedFrom}
 use Rattle.actions.proofs.NormalLoop.{Normalising}
 
 -- the span gives itself, and the mode stays plain

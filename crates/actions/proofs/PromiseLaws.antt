@@ -1,17 +1,22 @@
 -- From what is written to what parse_actions and parse_setvar promise: one law for each way out.
-use mathlib.Core.Path.{_≡_, sym, ap, _∙_}
+use mathlib.Core.Path.{_≡_, refl, sym, ap, _∙_}
 use mathlib.Core.Bool.{Bool, true, false}
 use mathlib.Core.List.{List, [], _∷_, append-nil}
 use Prim.Native.Nat.{ℕ, _+_, _*_, _≤_, _<_, min}
 use native.Mathlib.Omega.{arith}
-use lib.ListN.{length, take}
+use lib.ListN.{length, take, length-map}
 use lib.Dec.{ltb}
 use Rattle.ascii.specs.Choice.{pick}
+use Rattle.ascii.specs.Classes.{white}
+use Rattle.ascii.specs.Trim.{trimmedPart}
+use Rattle.ascii.proofs.TrimLaws.{ends-fit}
 use Rattle.lent.specs.Sizes.{limit, spanBase, actionWords, roomFor}
 use Rattle.lent.specs.Buffers.{padded, stored, storedEach}
 use Rattle.lent.specs.Gates.{gateOf}
+use Rattle.lent.specs.Sources.{Part, partWord, Sourced, sourced, sitedBy, sitedAll}
+use Rattle.lent.proofs.LayoutLaws.{sited-texts}
 use Rattle.lent.specs.Endings.{starts}
-use Rattle.lent.specs.Table.{Refusal, unknownAction, badArgument, Outcome, refuses, reads, Filled, givenBy, textBy, recordsBy}
+use Rattle.lent.specs.Table.{Naming, noAction, noArgument, named, Refusal, unknownAction, badArgument, Outcome, refuses, reads, sitedOutcome, resited, Filled, givenBy, textBy, recordsBy}
 use Rattle.lent.specs.declared.refusing.Flaw.{Flaw}
 use Rattle.lent.specs.declared.gating.Gate.{Gate}
 use Rattle.lent.specs.declared.gating.Gate.the-variants as Gate
@@ -27,7 +32,7 @@ use Rattle.single_action.specs.Plans.{planAction, Planned}
 use Rattle.single_action.specs.declared.plans.Plan.{Plan}
 use Rattle.single_action.proofs.SingleLaws.{setvar-text}
 use Rattle.actions.specs.Normal.{normalised}
-use Rattle.actions.specs.Lists.{actionsOf}
+use Rattle.actions.specs.Lists.{normalSite, actionsOf}
 use Rattle.actions.specs.Layout.{recordsFrom, wordsFrom, texts}
 use Rattle.actions.specs.Steps.{Put}
 use Rattle.actions.specs.Listing.{Laid, ReadAll, Stopped, Ended}
@@ -47,7 +52,7 @@ pub record Met (o : Outcome Filled) (text text′ records records′ : List ℕ)
 -- ---- the last step
 
 -- from actions that are written at the front of both buffers
-module _ {xs : List Action} {text₀ text text′ records₀ records records′ : List ℕ} {count used : ℕ} {r : Answer}
+module _ {xs : List (Sourced Action)} {text₀ text text′ records₀ records records′ : List ℕ} {count used : ℕ} {r : Answer}
     (x : Laid xs 0 0 text₀ text records₀ records count used) (room : used ≤ length text₀) (f : Ended used count text text′ records records′ r) where
   few : count ≡ length xs
   few = omega (arith, x .counted)
@@ -83,6 +88,19 @@ module _ {xs : List Action} {text₀ text text′ records₀ records records′ 
 
 -- ---- a list
 
+-- actions that are written, and then put where they stand in the input
+laid-sited : (f : Part → Part) {xs : List (Sourced Action)} {text text′ records records₁ records′ : List ℕ} {count used : ℕ}
+    → Laid xs 0 0 text text′ records records₁ count used → records′ ≡ storedEach records 0 (recordsFrom 0 (sitedAll f xs))
+    → Laid (sitedAll f xs) 0 0 text text′ records records′ count used
+laid-sited f {xs} x m =
+    let t = sited-texts f actionText xs in
+    record {
+      counted = x .counted ∙ sym (length-map xs (sitedBy f));
+      used-is = x .used-is ∙ rw t;
+      written = x .written ∙ rw t;
+      recorded = m;
+    }
+
 module _ (s text work records : List ℕ) {shorter : ℕ} {g : Gate} (m : shorter ≡ min (length text) (length work)) (e : g ≡ gateOf s shorter (length s)) where
   gate-by : (h : Gate) → g ≡ h → actionsGate s (length text) (length work) ≡ h
   gate-by h f = rw (← m) (sym e ∙ f)
@@ -115,38 +133,48 @@ module _ (s text work records : List ℕ) {shorter : ℕ} {g : Gate} (m : shorte
 
   -- past them the scratch buffer holds the normalised text
   module _ (f : g ≡ Gate.Open) {work′ : List ℕ} (w : work′ ≡ padded (length work) (normalised s)) where
-    parse-met : (o : Outcome (List Action)) {text′ records′ : List ℕ} {r : Answer} → actionsOf s ≡ o
+    parse-met : (o : Outcome (List (Sourced Action))) {text′ records′ : List ℕ} {r : Answer} → actionsOf s ≡ o
         → Met (roomed (length records) o) text text′ records records′ r → ParseActions s text text′ work work′ records records′ r
     parse-met o a x =
         let z = gate-by Gate.Open f in
         let b = outcome-by s (length text) (length work) (length records) Gate.Open o z a in
         record { answer = rw b (x .answer); texts = rw b (x .texts); words = rw b (x .words); scratch = rw z w }
 
-    pub actions-read : {text₁ text′ records₁ records′ : List ℕ} {count used : ℕ} {r : Answer}
-        → ReadAll (normalised s) 0 0 text text₁ records records₁ count used → Ended used count text₁ text′ records₁ records′ r
-        → ParseActions s text text′ work work′ records records′ r
+    pub actions-read : {text₁ text′ records₁ records₂ records′ : List ℕ} {count used : ℕ} {r : Answer}
+        → (x : ReadAll (normalised s) 0 0 text text₁ records records₁ count used) → records₂ ≡ storedEach records 0 (recordsFrom 0 (sitedAll (normalSite s) (x .actions)))
+        → Ended used count text₁ text′ records₂ records′ r → ParseActions s text text′ work work′ records records′ r
     unfolding actionsOf
-    actions-read x y = parse-met (reads (x .actions)) (x .all) (finished-met (x .laid) (omega (arith, x .fits, open-rooms f, normalised-length s)) y)
+    actions-read x m y =
+        parse-met (reads (sitedAll (normalSite s) (x .actions))) (ap (sitedOutcome (normalSite s)) (x .all))
+        (finished-met (laid-sited (normalSite s) (x .laid) m) (omega (arith, x .fits, open-rooms f, normalised-length s)) y)
 
-    stopped-met : (refusal : List ℕ → Refusal) {text′ records′ : List ℕ} {name : ℕ} {r : Answer} (x : Stopped refusal (normalised s) text text′ records records′ name)
-        → Met (refuses (refusal (x .named))) text text′ records records′ r → ParseActions s text text′ work work′ records records′ r
+    -- a refusal by a name
+    resited-as : (why : Naming) (piece : ℕ) (name : List ℕ) (y : Part) → resited (normalSite s) (named why piece name y) ≡ named why piece name (normalSite s y)
+    resited-as why piece name y = refl
+
+    -- a refused piece, its source put where it stands in the input
+    stopped-met : (refusal : List ℕ → Part → Refusal) → ((name : List ℕ) (y : Part) → resited (normalSite s) (refusal name y) ≡ refusal name (normalSite s y))
+        → {text′ records′ : List ℕ} {name span : ℕ} {r : Answer} (x : Stopped refusal (normalised s) text text′ records records′ name span)
+        → Met (refuses (refusal (x .named) (normalSite s (x .source)))) text text′ records records′ r → ParseActions s text text′ work work′ records records′ r
     unfolding actionsOf
-    stopped-met refusal x y = parse-met (refuses (refusal (x .named))) (x .first) y
+    stopped-met refusal m x y =
+        parse-met (refuses (refusal (x .named) (normalSite s (x .source)))) (ap (sitedOutcome (normalSite s)) (x .first) ∙ ap refuses (m (x .named) (x .source))) y
 
-    pub actions-bad : {text′ records′ : List ℕ} (flaw : Flaw) (piece : ℕ) {name : ℕ} → Stopped (badArgument flaw piece) (normalised s) text text′ records records′ name
-        → ParseActions s text text′ work work′ records records′ (Answer.BadArgument flaw piece name)
-    actions-bad flaw piece x = stopped-met (badArgument flaw piece) x (record { answer = rw (x .counted); texts = x .written; words = x .cleared })
+    pub actions-bad : {text′ records′ : List ℕ} (flaw : Flaw) (piece : ℕ) {name span span′ : ℕ} (x : Stopped (badArgument flaw piece) (normalised s) text text′ records records′ name span)
+        → span′ ≡ partWord (normalSite s (x .source)) → ParseActions s text text′ work work′ records records′ (Answer.BadArgument flaw piece name span′)
+    actions-bad flaw piece x m = stopped-met (badArgument flaw piece) (resited-as (noArgument flaw) piece) x (record { answer = rw (x .counted, m); texts = x .written; words = x .cleared })
 
-    pub actions-unknown : {text′ records′ : List ℕ} (piece : ℕ) {name : ℕ} → Stopped (unknownAction piece) (normalised s) text text′ records records′ name
-        → ParseActions s text text′ work work′ records records′ (Answer.UnknownAction piece name)
-    actions-unknown piece x = stopped-met (unknownAction piece) x (record { answer = rw (x .counted); texts = x .written; words = x .cleared })
+    pub actions-unknown : {text′ records′ : List ℕ} (piece : ℕ) {name span span′ : ℕ} (x : Stopped (unknownAction piece) (normalised s) text text′ records records′ name span)
+        → span′ ≡ partWord (normalSite s (x .source)) → ParseActions s text text′ work work′ records records′ (Answer.UnknownAction piece name span′)
+    actions-unknown piece x m = stopped-met (unknownAction piece) (resited-as noAction piece) x (record { answer = rw (x .counted, m); texts = x .written; words = x .cleared })
 
 -- ---- a setvar alone
 
 -- one action, stored at the front of both buffers
-pub laid-alone : (x : Action) {text text′ records records′ : List ℕ} {used : ℕ} → Put x 0 0 text text′ records records′ used → Laid (x ∷ []) 0 0 text text′ records records′ 1 used
+pub laid-alone : (x : Action) (y : Part) {text text′ records records′ : List ℕ} {used : ℕ} → Put x (partWord y) 0 0 text text′ records records′ used
+    → Laid (sourced x y ∷ []) 0 0 text text′ records records′ 1 used
 unfolding textsOf recordsOf storedEach
-laid-alone x p = record {
+laid-alone x y p = record {
   counted = omega arith;
   used-is = omega (arith, p .end, ap length (append-nil (actionText x)));
   written = p .texts ∙ rw append-nil;
@@ -166,6 +194,12 @@ module _ (s text records : List ℕ) {g : Gate} (e : g ≡ gateOf s (length text
   unfolding setvarOutcome
   alone-short f = let z = sym e ∙ f in record { answer = rw z; texts = rw z; words = rw z }
 
+  -- the trimmed input's span is a word
+  pub alone-narrow : g ≡ Gate.Open → (trimmedPart s .first ≤ trimmedPart s .past) × (trimmedPart s .past < spanBase)
+  alone-narrow f =
+      let o = open-is s (length text) (length s + 3) .0 (sym e ∙ f) in
+      (omega arith, omega (arith, o .within, ends-fit white s))
+
   -- the one action fits, and stands laid out
   module _ (f : g ≡ Gate.Open) (plan : Plan) (p : Planned s plan (setvarAction setVarCode (setvar s))) where
     pub alone-room : (length (actionText (planAction s plan)) ≤ length text) × (length (actionText (planAction s plan)) < spanBase)
@@ -174,9 +208,9 @@ module _ (s text records : List ℕ) {g : Gate} (e : g ≡ gateOf s (length text
         let h : length (actionText (planAction s plan)) ≤ length s + 3 = rw (p .means) (setvar-text setVarCode s) in
         (omega (arith, h, o .room), omega (arith, h, o .within))
 
-    pub alone-read : {text₁ text′ records₁ records′ : List ℕ} {used : ℕ} {r : Answer} → Put (planAction s plan) 0 0 text text₁ records records₁ used
+    pub alone-read : {text₁ text′ records₁ records′ : List ℕ} {used : ℕ} {r : Answer} → Put (planAction s plan) (partWord (trimmedPart s)) 0 0 text text₁ records records₁ used
         → Ended used 1 text₁ text′ records₁ records′ r → SetvarAlone s text text′ records records′ r
     alone-read x y =
         let b = setvar-by s (length text) (length records) Gate.Open (sym e ∙ f) in
-        let m = finished-met (laid-alone (setvarAction setVarCode (setvar s)) (rw (p .means) at x)) (omega (arith, x .end, alone-room)) y in
+        let m = finished-met (laid-alone (setvarAction setVarCode (setvar s)) (trimmedPart s) (rw (p .means) at x)) (omega (arith, x .end, alone-room)) y in
         record { answer = rw b (m .answer); texts = rw b (m .texts); words = rw b (m .words) }

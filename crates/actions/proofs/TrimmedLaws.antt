@@ -1,12 +1,13 @@
 -- Trimming a trimmed text changes nothing, so the second trim of the Rust, at the start of parse_single_action, needs no place in the definitions.
 use mathlib.Core.Path.{_≡_, refl, ap, _∙_}
 use mathlib.Core.Bool.{Bool, true, false}
-use mathlib.Core.List.{List, [], _∷_, map}
-use Prim.Native.Nat.{ℕ}
+use mathlib.Core.List.{List, [], _∷_}
+use Prim.Native.Nat.{ℕ, _+_}
+use lib.ListN.{length}
 use Rattle.ascii.specs.Choice.{pick}
 use Rattle.ascii.specs.Classes.{white}
 use Rattle.ascii.specs.Trim.{stripStart, stripEnd, before, trimStart, trimEnd, trimEnds}
-use Rattle.actions.specs.Pieces.{outside, partsFrom, keep, piecesOf, pieces}
+use Rattle.actions.specs.Pieces.{outside, partsFrom, Piece, placeOf, keep, piecesOf, piecesFrom, pieces}
 
 end-again : (s : List ℕ) → trimEnd (trimEnd s) ≡ trimEnd s
 unfolding stripEnd
@@ -38,16 +39,20 @@ start-again (b ∷ r) = go (white b) refl (start-again r)
 pub ends-again : (s : List ℕ) → trimEnds (trimEnds s) ≡ trimEnds s
 ends-again s = ap trimEnd (start-again s) ∙ end-again (trimStart s)
 
-kept-again : (ps : List (List ℕ)) → map trimEnds (piecesOf ps) ≡ piecesOf ps
-unfolding piecesOf
-kept-again [] = refl
-kept-again (p ∷ ps) = go (trimEnds p) (ends-again p) (kept-again ps)
-  where
-    go : (q : List ℕ) → trimEnds q ≡ q → map trimEnds (piecesOf ps) ≡ piecesOf ps → map trimEnds (keep q (piecesOf ps)) ≡ keep q (piecesOf ps)
-    go [] e ih = ih
-    go (b ∷ r) e ih = rw (e, ih)
-
 -- every piece is trimmed
-pub pieces-trimmed : (s : List ℕ) → map trimEnds (pieces s) ≡ pieces s
-unfolding pieces
-pieces-trimmed s = kept-again (partsFrom outside s)
+pub data Trimmed : List Piece → Type 0 where
+  none : Trimmed []
+  also : {p : Piece} {ps : List Piece} → trimEnds (p .text) ≡ p .text → Trimmed ps → Trimmed (p ∷ ps)
+
+kept-again : (k : ℕ) (ps : List (List ℕ)) → Trimmed (piecesOf k ps)
+unfolding piecesOf
+kept-again k [] = none
+kept-again k (p ∷ ps) = go (trimEnds p) (ends-again p) (kept-again (k + length p + 1) ps)
+  where
+    go : (q : List ℕ) → trimEnds q ≡ q → Trimmed (piecesOf (k + length p + 1) ps) → Trimmed (keep q (placeOf k p) (piecesOf (k + length p + 1) ps))
+    go [] e ih = ih
+    go (b ∷ r) e ih = also e ih
+
+pub pieces-trimmed : (s : List ℕ) → Trimmed (pieces s)
+unfolding piecesFrom
+pieces-trimmed s = kept-again 0 (partsFrom outside s)

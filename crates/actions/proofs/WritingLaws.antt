@@ -80,12 +80,12 @@ module _ (s : List ℕ) (p : Plan) where
           ∙ ap (λ (n : ℕ). stored (stored text used (originText s (p .a))) n (originText s (p .b) ++ originText s (p .c))) b-is
           ∙ stored-more text used (originText s (p .a)) (originText s (p .b) ++ originText s (p .c)) (rw length-append (omega (arith, h, plan-length)))
 
-      pub put-all : (records : List ℕ) (at : ℕ) {records′ : List ℕ} {wa wb wc : ℕ}
+      pub put-all : (records : List ℕ) (at span : ℕ) {records′ : List ℕ} {wa wb wc : ℕ}
           → wa ≡ originWord (p .a) used b → wb ≡ originWord (p .b) b c → wc ≡ originWord (p .c) c end
-          → records′ ≡ stored records at (p .code ∷ p .number ∷ wa ∷ wb ∷ p .kind ∷ wc ∷ [])
-          → Put (planAction s p) used at text t3 records records′ end
+          → records′ ≡ stored records at (p .code ∷ p .number ∷ wa ∷ wb ∷ p .kind ∷ wc ∷ span ∷ [])
+          → Put (planAction s p) span used at text t3 records records′ end
       unfolding actionRecord
-      put-all records at fa fb fc r = record {
+      put-all records at span fa fb fc r = record {
         texts = put-texts;
         words =
             r ∙ rw (fa, fb, fc, word-is s (p .a) used b b-is, word-is s (p .b) b c c-is, word-is s (p .c) c end end-is, c-is, b-is);

@@ -9,11 +9,11 @@ use Rattle.ascii.specs.Choice.{pick}
 use Rattle.lent.specs.Sizes.{actionWords}
 use Rattle.lent.specs.Buffers.{stored, storedEach}
 use Rattle.lent.specs.Endings.{starts}
+use Rattle.lent.specs.Sources.{Sourced}
 use Rattle.lent.specs.Table.{Given, given, flawOf, shortBuffer, refused, refusedText, refusedRecords, Outcome, refuses, reads}
 use Rattle.single_action.specs.Actions.{Action}
 use Rattle.actions.specs.Normal.{normalised}
-use Rattle.actions.specs.Pieces.{pieces}
-use Rattle.actions.specs.Lists.{actionsFrom}
+use Rattle.actions.specs.Lists.{listed}
 use Rattle.actions.specs.Layout.{recordsFrom, texts}
 use Rattle.actions.specs.declared.Reached.{Reached}
 use Rattle.actions.specs.declared.Reached.the-variants.{Read, Bad, Unknown, Unfit}
@@ -34,11 +34,11 @@ pub record Normalise (s out out′ : List ℕ) (r : Normal) : Type 0 where
 -- ---- reading a normalised text
 
 -- What a normalised text comes to with n bytes of text lent: where it does not place, a buffer is too short for it.
-unfoldable pub coreOutcome : List ℕ → ℕ → ℕ → ℕ → Outcome (List Action)
-coreOutcome s n offset place = pick (starts (length s) n offset place) (actionsFrom 0 (pieces s)) (refuses shortBuffer)
+unfoldable pub coreOutcome : List ℕ → ℕ → ℕ → ℕ → Outcome (List (Sourced Action))
+coreOutcome s n offset place = pick (starts (length s) n offset place) (listed s) (refuses shortBuffer)
 
 -- Its number and values; those of 0 are how many records, and the offset past the last text.
-abbrev pub coreGiven : ℕ → Outcome (List Action) → Given
+abbrev pub coreGiven : ℕ → Outcome (List (Sourced Action)) → Given
 coreGiven offset (refuses f) = refused f
 coreGiven offset (reads xs) = given 0 (length xs ∷ (offset + length (texts xs)) ∷ [])
 
@@ -47,16 +47,16 @@ abbrev pub reachedFrom : Given → Reached
 reachedFrom g =
     pick (eqb (g .number) 0) (Read (getD (g .values) 0 0) (getD (g .values) 1 0))
     (pick (eqb (g .number) 3) Unfit
-    (pick (eqb (g .number) 5) (Unknown (getD (g .values) 0 0) (getD (g .values) 1 0))
-    (Bad (flawOf (g .number)) (getD (g .values) 0 0) (getD (g .values) 1 0))))
+    (pick (eqb (g .number) 5) (Unknown (getD (g .values) 0 0) (getD (g .values) 1 0) (getD (g .values) 2 0))
+    (Bad (flawOf (g .number)) (getD (g .values) 0 0) (getD (g .values) 1 0) (getD (g .values) 2 0))))
 
 -- The text buffer afterwards: the texts at the offset, or what the refusal's row states.
-abbrev pub coreText : ℕ → List ℕ → Outcome (List Action) → List ℕ
+abbrev pub coreText : ℕ → List ℕ → Outcome (List (Sourced Action)) → List ℕ
 coreText offset old (refuses f) = refusedText f old
 coreText offset old (reads xs) = stored old offset (texts xs)
 
 -- And the record buffer: each record behind those before it, where it fits whole.
-abbrev pub coreRecords : ℕ → ℕ → List ℕ → Outcome (List Action) → List ℕ
+abbrev pub coreRecords : ℕ → ℕ → List ℕ → Outcome (List (Sourced Action)) → List ℕ
 coreRecords offset place old (refuses f) = refusedRecords f old
 coreRecords offset place old (reads xs) = storedEach old (place * actionWords) (recordsFrom offset xs)
 

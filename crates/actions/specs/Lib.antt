@@ -1,6 +1,5 @@
 pub mod Normal
 pub mod Pieces
-pub mod Places
 pub mod Lists
 pub mod Layout
 pub mod Promises

@@ -7,19 +7,27 @@ use lib.ListN.{length}
 use Rattle.ascii.specs.Choice.{pick}
 use Rattle.lent.specs.Sizes.{actionWords}
 use Rattle.lent.specs.Buffers.{zeros, padded, stored, storedEach}
+use Rattle.lent.specs.declared.refusing.Flaw.{Flaw}
 use Rattle.lent.specs.Endings.{Finished}
+use Rattle.lent.specs.Sources.{Part, partWord, Sourced}
 use Rattle.lent.specs.Table.{Refusal, unknownAction, badArgument, refuses, reads}
 use Rattle.single_action.specs.Actions.{Action}
-use Rattle.actions.specs.Pieces.{pieces}
-use Rattle.actions.specs.Lists.{actionsFrom}
+use Rattle.actions.specs.Lists.{listed}
 use Rattle.actions.specs.Layout.{recordsFrom, texts}
 use Rattle.actions.specs.declared.Answer.{Answer}
 use Rattle.actions.specs.declared.Answer.the-variants as Answer
 use Rattle.actions.specs.declared.Reached.{Reached}
 use Rattle.actions.specs.declared.Reached.the-variants.{Read, Bad, Unknown, Unfit}
 
+-- The two answers that refuse a piece.
+abbrev pub badly : Flaw → ℕ → ℕ → ℕ → Reached
+badly flaw piece name span = Bad flaw piece name span
+
+abbrev pub strangely : ℕ → ℕ → ℕ → Reached
+strangely piece name span = Unknown piece name span
+
 -- Actions written: their texts from an offset on, and their records behind so many others, each where it fits.
-pub record Laid (actions : List Action) (offset place : ℕ) (text text′ records records′ : List ℕ) (count used : ℕ) : Type 0 where
+pub record Laid (actions : List (Sourced Action)) (offset place : ℕ) (text text′ records records′ : List ℕ) (count used : ℕ) : Type 0 where
   pub counted : count ≡ length actions
   pub used-is : used ≡ offset + length (texts actions)
   pub written : text′ ≡ stored text offset (texts actions)
@@ -27,15 +35,19 @@ pub record Laid (actions : List Action) (offset place : ℕ) (text text′ recor
 
 -- All pieces are read and written.
 pub record ReadAll (s : List ℕ) (offset place : ℕ) (text text′ records records′ : List ℕ) (count used : ℕ) : Type 0 where
-  pub actions : List Action
-  pub all : actionsFrom 0 (pieces s) ≡ reads actions
+  pub actions : List (Sourced Action)
+  pub all : listed s ≡ reads actions
   pub laid : Laid actions offset place text text′ records records′ count used
   pub fits : used ≤ offset + length s
 
--- A piece is refused: the text buffer is its name and zeros, and the records are all zero.
-pub record Stopped (refusal : List ℕ → Refusal) (s text text′ records records′ : List ℕ) (name : ℕ) : Type 0 where
+-- A piece is refused, with its place in the text: the text buffer is its name and zeros, and the records are all zero.
+pub record Stopped (refusal : List ℕ → Part → Refusal) (s text text′ records records′ : List ℕ) (name span : ℕ) : Type 0 where
   pub named : List ℕ
-  pub first : actionsFrom 0 (pieces s) ≡ refuses (refusal named)
+  pub source : Part
+  pub first : listed s ≡ refuses (refusal named source)
+  pub ordered : source .first ≤ source .past
+  pub inside : source .past ≤ length s
+  pub underlined : span ≡ partWord source
   pub counted : name ≡ length named
   pub written : text′ ≡ padded (length text) named
   pub cleared : records′ ≡ zeros (length records)
@@ -43,8 +55,8 @@ pub record Stopped (refusal : List ℕ → Refusal) (s text text′ records reco
 -- The loop starts where it may, so that it is never unfit.
 abbrev pub Listed : List ℕ → ℕ → ℕ → List ℕ → List ℕ → List ℕ → List ℕ → Reached → Type 0
 Listed s offset place text text′ records records′ (Read count used) = ReadAll s offset place text text′ records records′ count used
-Listed s offset place text text′ records records′ (Bad flaw piece name) = Stopped (badArgument flaw piece) s text text′ records records′ name
-Listed s offset place text text′ records records′ (Unknown piece name) = Stopped (unknownAction piece) s text text′ records records′ name
+Listed s offset place text text′ records records′ (Bad flaw piece name span) = Stopped (badArgument flaw piece) s text text′ records records′ name span
+Listed s offset place text text′ records records′ (Unknown piece name span) = Stopped (unknownAction piece) s text text′ records records′ name span
 Listed s offset place text text′ records records′ Unfit = ⊥
 
 -- The last step, when so much is written: number 4 where lent's ending says that the records do not fit.

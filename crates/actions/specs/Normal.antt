@@ -1,10 +1,9 @@
 -- Line continuations taken out, in one pass with no looking ahead: normalize_line_continuations.
 use Prim.Native.Nat.{ℕ}
-use mathlib.Core.Bool.{Bool, false}
 use mathlib.Core.List.{List, [], _∷_, _++_}
 use lib.Dec.{eqb}
 use Rattle.ascii.specs.Choice.{pick}
-use Rattle.ascii.specs.Classes.{white}
+use Rattle.places.specs.Tables.{skipped}
 pub use Rattle.actions.specs.declared.normalising.Mode.{Mode}
 pub use Rattle.actions.specs.declared.normalising.Mode.the-variants.{Plain as plain, Held as held, AfterCr as afterCr, Margin as margin}
 
@@ -17,10 +16,6 @@ plainMode b = pick (eqb b 92) held plain
 -- And the text that it gives: itself, if it is not held back.
 abbrev pub plainText : ℕ → List ℕ
 plainText b = pick (eqb b 92) [] (b ∷ [])
-
--- Whitespace up to the next LF: what the inner loops of normalize_line_continuations skip.
-abbrev pub skipped : ℕ → Bool
-skipped b = pick (eqb b 10) false (white b)
 
 -- The mode behind a byte at which such a loop may stand.
 abbrev pub marginMode : ℕ → Mode

@@ -2,9 +2,11 @@
 use Prim.Native.Nat.{ℕ, _+_, _-_}
 use mathlib.Core.Bool.{Bool, true, false}
 use mathlib.Core.List.{List, [], _∷_}
+use lib.ListN.{length}
 use lib.Dec.{eqb}
 use Rattle.ascii.specs.Choice.{pick, and}
-use Rattle.ascii.specs.Trim.{trimEnds}
+use Rattle.ascii.specs.Trim.{trimEnds, trimmedPart}
+use Rattle.lent.specs.Sources.{Part, part}
 use Rattle.single_action.specs.Marks.{quotation}
 
 -- The open quotation mark, 0 for none, and the bracket depth: in_quotes with quote_char, and paren_depth.
@@ -46,19 +48,34 @@ unfoldable pub partsFrom : Nest → List ℕ → List (List ℕ)
 partsFrom n [] = [] ∷ []
 partsFrom n (b ∷ r) = cutBy (cuts n b) b (partsFrom (nestAfter n b) r)
 
+-- A piece, and where it stands in the text that was cut.
+pub record Piece : Type 0 where
+  pub text : List ℕ
+  pub place : Part
+
+abbrev pub piece : List ℕ → Part → Piece
+piece t x = record { text = t; place = x }
+
+-- The trimmed text of a part that stands at k.
+abbrev pub placeOf : ℕ → List ℕ → Part
+placeOf k p = part (k + trimmedPart p .first) (k + trimmedPart p .past)
+
 -- A part that is empty is no piece: the `is_empty` tests of parse_actions.
-abbrev pub keep : List ℕ → List (List ℕ) → List (List ℕ)
-keep [] ps = ps
-keep (b ∷ r) ps = (b ∷ r) ∷ ps
+abbrev pub keep : List ℕ → Part → List Piece → List Piece
+keep [] x ps = ps
+keep (b ∷ r) x ps = piece (b ∷ r) x ∷ ps
 
--- The parts trimmed, empty ones gone.
-unfoldable pub piecesOf : List (List ℕ) → List (List ℕ)
-piecesOf [] = []
-piecesOf (p ∷ ps) = keep (trimEnds p) (piecesOf ps)
+-- The parts trimmed, empty ones gone; the first stands at k, and each other behind the comma that ends the one before it.
+unfoldable pub piecesOf : ℕ → List (List ℕ) → List Piece
+piecesOf k [] = []
+piecesOf k (p ∷ ps) = keep (trimEnds p) (placeOf k p) (piecesOf (k + length p + 1) ps)
 
--- The pieces of a normalised text, that parse_actions hands to parse_single_action.
-unfoldable pub pieces : List ℕ → List (List ℕ)
-pieces s = piecesOf (partsFrom outside s)
+-- The pieces of a normalised text that stands from k on, that parse_actions hands to parse_single_action.
+unfoldable pub piecesFrom : ℕ → List ℕ → List Piece
+piecesFrom k s = piecesOf k (partsFrom outside s)
+
+abbrev pub pieces : List ℕ → List Piece
+pieces s = piecesFrom 0 s
 
 -- How many bytes the first part has: up to the first comma that cuts, or to the end.
 unfoldable pub partLength : Nest → List ℕ → ℕ

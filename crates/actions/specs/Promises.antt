@@ -6,7 +6,9 @@ use lib.ListN.{length}
 use lib.Dec.{ltb}
 use Rattle.ascii.specs.Choice.{pick}
 use Rattle.lent.specs.Sizes.{actionWords, roomFor}
+use Rattle.ascii.specs.Trim.{trimmedPart}
 use Rattle.lent.specs.Buffers.{padded}
+use Rattle.lent.specs.Sources.{Sourced, sourced}
 use Rattle.lent.specs.Gates.{gateOf}
 use Rattle.lent.specs.Table.{Given, given, flawNumber, tooLong, notAscii, shortBuffer, noRoom, refused, Outcome, refuses, reads, pastGate, Filled, givenBy, textBy, recordsBy}
 use Rattle.lent.specs.declared.gating.Gate.{Gate}
@@ -26,16 +28,16 @@ answerGiven (Answer.Read count used) = given 0 (count ∷ used ∷ [])
 answerGiven Answer.TooLong = refused tooLong
 answerGiven (Answer.NotAscii place) = refused (notAscii place)
 answerGiven Answer.Short = refused shortBuffer
-answerGiven (Answer.UnknownAction piece name) = given 5 (piece ∷ name ∷ [])
-answerGiven (Answer.BadArgument flaw piece name) = given (flawNumber flaw) (piece ∷ name ∷ [])
+answerGiven (Answer.UnknownAction piece name span) = given 5 (piece ∷ name ∷ span ∷ [])
+answerGiven (Answer.BadArgument flaw piece name span) = given (flawNumber flaw) (piece ∷ name ∷ span ∷ [])
 answerGiven (Answer.NoRoom needed) = refused (noRoom needed)
 
 -- Actions laid out: the count of records and the length of the texts, the texts, and the records' words.
-abbrev pub laidOut : List Action → Filled
+abbrev pub laidOut : List (Sourced Action) → Filled
 laidOut xs = record { values = length xs ∷ length (texts xs) ∷ []; texts = texts xs; words = wordsFrom 0 xs }
 
 -- Number 4 comes last: actions that are read, but more than m words of records take.
-abbrev pub roomed : ℕ → Outcome (List Action) → Outcome Filled
+abbrev pub roomed : ℕ → Outcome (List (Sourced Action)) → Outcome Filled
 roomed m (refuses f) = refuses f
 roomed m (reads xs) = pick (ltb (roomFor actionWords m) (length xs)) (refuses (noRoom (length xs))) (reads (laidOut xs))
 
@@ -65,9 +67,9 @@ pub record ParseActions (s text text′ work work′ records records′ : List �
 
 -- ---- a setvar alone
 
--- The one action of parse_setvar alone, with the code of SetVar.
-abbrev pub setvarAlone : List ℕ → List Action
-setvarAlone s = setvarAction setVarCode (setvar s) ∷ []
+-- The one action of parse_setvar alone, with the code of SetVar, read from the trimmed input; where nothing is left, from its end.
+abbrev pub setvarAlone : List ℕ → List (Sourced Action)
+setvarAlone s = sourced (setvarAction setVarCode (setvar s)) (trimmedPart s) ∷ []
 
 -- What a call of parse_setvar comes to, with n bytes of text and m words of records lent: 3 where text is shorter than the input plus 3.
 unfoldable pub setvarOutcome : List ℕ → ℕ → ℕ → Outcome Filled

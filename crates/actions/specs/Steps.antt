@@ -48,8 +48,8 @@ originWord (Lowered first past) at end = spanWord at (end - at)
 originWord Tx at end = spanWord at (end - at)
 originWord One at end = spanWord at (end - at)
 
--- An action's texts stored at `used` and its record at `at`; r is the place behind the texts.
-pub record Put (x : Action) (used at : ℕ) (text text′ records records′ : List ℕ) (r : ℕ) : Type 0 where
+-- An action's texts stored at `used`, and its record with its span at `at`; r is the place behind the texts.
+pub record Put (x : Action) (span used at : ℕ) (text text′ records records′ : List ℕ) (r : ℕ) : Type 0 where
   pub texts : text′ ≡ stored text used (actionText x)
-  pub words : records′ ≡ stored records at (actionRecord used x)
+  pub words : records′ ≡ stored records at (actionRecord used x ++ (span ∷ []))
   pub end : r ≡ used + length (actionText x)

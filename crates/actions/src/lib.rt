@@ -11,7 +11,7 @@ pub use lists::read_actions;
 pub use normalising::Normal;
 pub use normalising::normalise;
 
-// The paper's numbers, by name; `name` is the length of the name that the text buffer starts with.
+// The paper's numbers, by name; `name` is the length of the name that the text buffer starts with, `span` the piece's in the input.
 pub enum Answer {
     // 0: the count of records, and the length of the texts
     Read {
@@ -28,12 +28,14 @@ pub enum Answer {
     UnknownAction {
         piece: usize,
         name: usize,
+        span: u64,
     },
     // 10 to 12
     BadArgument {
         flaw: Flaw,
         piece: usize,
         name: usize,
+        span: u64,
     },
     // 4: the records needed
     NoRoom(usize),
@@ -46,15 +48,17 @@ pub enum Reached {
         count: usize,
         offset: usize,
     },
-    // 5 and 10 to 12: the piece, and the length of its name
+    // 5 and 10 to 12: the piece, the length of its name, and its span in that text
     Unknown {
         piece: usize,
         name: usize,
+        span: u64,
     },
     Bad {
         flaw: Flaw,
         piece: usize,
         name: usize,
+        span: u64,
     },
     // it may not be read from there: `lent::starts` is false
     Unfit,

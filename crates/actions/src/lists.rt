@@ -8,7 +8,7 @@ ghost use Rattle.lent.specs.Buffers.{zeros, padded};
 ghost use Rattle.lent.specs.Endings.{starts};
 ghost use Rattle.single_action.specs.Table.{rowAt};
 ghost use Rattle.actions.specs.Normal.{normalised};
-ghost use Rattle.actions.specs.Listing.{Listed, Ended};
+ghost use Rattle.actions.specs.Listing.{badly, strangely, Listed, Ended};
 ghost use Rattle.actions.specs.Cores.{ReadActions};
 ghost use Rattle.actions.specs.Promises.{ParseActions, SetvarAlone};
 use crate::Answer;
@@ -16,34 +16,61 @@ use crate::Reached;
 use crate::cutting::part_end;
 use crate::normalising::put_normal;
 use crate::writing::put_plan;
+use crate::writing::span_of;
 use crate::writing::store_lowered;
+use lent::Flaw;
 use lent::Gate;
 use single_action::Verdict;
 use single_action::put_name;
 use single_action::read_setvar;
 use single_action::read_single;
 
-// Both buffers of a refusal with an action's name as the Rust spells it: the name, and zeros.
-fn refuse_row(row: usize, text: &mut [u8], records: &mut [u64]) -> usize
+// A piece whose argument its action does not take: both buffers hold the action's name as the Rust spells it, and zeros.
+fn refuse_row(
+    flaw: Flaw,
+    row: usize,
+    piece: usize,
+    span: u64,
+    text: &mut [u8],
+    records: &mut [u64],
+) -> Reached
     requires { ⌜ length (rowAt row .name) ≤ length (now text) ⌝ }
     ensures { λ r. ⌜ now (text .exit) ≡ padded (length (now (text .entry))) (rowAt row .name) ⌝ }
     ensures { λ r. ⌜ now (records .exit) ≡ zeros (length (now (records .entry))) ⌝ }
-    ensures { λ r. ⌜ r ≡ length (rowAt row .name) ⌝ }
+    ensures { λ r. ⌜ r ≡ badly flaw piece (length (rowAt row .name)) span ⌝ }
 {
     lent::clear_words(records);
     lent::clear_bytes(text);
-    put_name(row, text)
+    let name = put_name(row, text);
+    Reached::Bad {
+        flaw,
+        piece,
+        name,
+        span,
+    }
 }
 
-// And those of one with a name in small letters.
-fn refuse_name(name: &[u8], text: &mut [u8], records: &mut [u64])
+// And one whose name is no action's: the name in small letters, and zeros.
+fn refuse_name(
+    name: &[u8],
+    piece: usize,
+    span: u64,
+    text: &mut [u8],
+    records: &mut [u64],
+) -> Reached
     requires { ⌜ length (now name) ≤ length (now text) ⌝ }
     ensures { λ r. ⌜ now (text .exit) ≡ padded (length (now (text .entry))) (lowered (now (name .entry))) ⌝ }
     ensures { λ r. ⌜ now (records .exit) ≡ zeros (length (now (records .entry))) ⌝ }
+    ensures { λ r. ⌜ r ≡ strangely piece (length (now (name .entry))) span ⌝ }
 {
     lent::clear_words(records);
     lent::clear_bytes(text);
     store_lowered(text, 0, name);
+    Reached::Unknown {
+        piece,
+        name: name.len(),
+        span,
+    }
 }
 
 // Writes every action's texts from `offset` on, and its record, the first behind `place` others, where that fits; stops at the first bad piece.
@@ -63,25 +90,23 @@ fn write_actions(
     let mut at = place * lent::ACTION_WORDS;
     loop {
         let end = part_end(s, from);
-        let piece = ascii::trim(&s[from..end]);
-        if 0 < piece.len() {
+        let part = ascii::trimmed(&s[from..end]);
+        let first = from + part.first;
+        let past = from + part.past;
+        if first < past {
+            let piece = &s[first..past];
+            let span = span_of(first, past);
             match read_single(piece) {
                 Verdict::Done(plan) => {
-                    used = put_plan(piece, plan, text, used, records, at);
+                    used = put_plan(piece, plan, span, text, used, records, at);
                     at += lent::ACTION_WORDS;
                     count += 1;
                 }
                 Verdict::Bad { flaw, row } => {
-                    let name = refuse_row(row, text, records);
-                    return Reached::Bad {
-                        flaw,
-                        piece: count,
-                        name,
-                    };
+                    return refuse_row(flaw, row, count, span, text, records);
                 }
                 Verdict::Unknown(name) => {
-                    refuse_name(&piece[..name], text, records);
-                    return Reached::Unknown { piece: count, name };
+                    return refuse_name(&piece[..name], count, span, text, records);
                 }
             }
         }
@@ -156,9 +181,19 @@ pub fn parse_actions(
     }
     let n = fill_scratch(input, scratch);
     match write_actions(&scratch[..n], text, 0, records, 0) {
-        Reached::Bad { flaw, piece, name } => Answer::BadArgument { flaw, piece, name },
-        Reached::Unknown { piece, name } => Answer::UnknownAction { piece, name },
-        Reached::Read { count, offset } => finish(text, offset, records, count),
+        Reached::Bad {
+            flaw,
+            piece,
+            name,
+            span,
+        } => Answer::BadArgument {
+            flaw,
+            piece,
+            name,
+            span,
+        },
+        Reached::Unknown { piece, name, span } => Answer::UnknownAction { piece, name, span },
+        Reached::Read { count, offset } => { finish(text, offset, records, count) }
         // not past the gate
         Reached::Unfit => Answer::Short,
     }
@@ -175,6 +210,8 @@ pub fn parse_setvar(input: &[u8], text: &mut [u8], records: &mut [u64]) -> Answe
         Gate::Open => {}
     }
     let plan = read_setvar(input);
-    let used = put_plan(input, plan, text, 0, records, 0);
+    let part = ascii::trimmed(input);
+    let span = span_of(part.first, part.past);
+    let used = put_plan(input, plan, span, text, 0, records, 0);
     finish(text, used, records, 1)
 }

@@ -5,6 +5,7 @@ ghost use lib.ListN.{length};
 ghost use Rattle.ascii.specs.Fold.{lowered};
 ghost use Rattle.lent.specs.Sizes.{spanBase};
 ghost use Rattle.lent.specs.Buffers.{stored};
+ghost use Rattle.lent.specs.Sources.{part, partWord};
 ghost use Rattle.single_action.specs.Plans.{originText, Lies, planAction, Inside};
 ghost use Rattle.single_action.specs.Actions.{actionText};
 ghost use Rattle.actions.specs.Steps.{originWord, Put};
@@ -72,10 +73,19 @@ fn word_of(origin: Origin, at: usize, end: usize) -> u64
     }
 }
 
-// An action's texts at `used` and its record at `at`, where that fits; gives the place behind the texts.
+// The span word of a part that runs from `first` up to `past`.
+pub fn span_of(first: usize, past: usize) -> u64
+    requires { ⌜ (first ≤ past) × (past < spanBase) ⌝ }
+    ensures { λ r. ⌜ r ≡ partWord (part first past) ⌝ }
+{
+    lent::span(first as u32, (past - first) as u32)
+}
+
+// An action's texts at `used` and its record at `at`, where that fits; gives the place behind the texts. The piece `s` has the span `source`.
 pub fn put_plan(
     s: &[u8],
     plan: Plan,
+    source: u64,
     text: &mut [u8],
     used: usize,
     records: &mut [u64],
@@ -84,7 +94,7 @@ pub fn put_plan(
     requires { ⌜ Inside (now s) plan ⌝ }
     requires { ⌜ used + length (actionText (planAction (now s) plan)) ≤ length (now text) ⌝ }
     requires { ⌜ used + length (actionText (planAction (now s) plan)) < spanBase ⌝ }
-    ensures { λ r. ⌜ Put (planAction (now (s .entry)) plan) used at (now (text .entry)) (now (text .exit)) (now (records .entry)) (now (records .exit)) r ⌝ }
+    ensures { λ r. ⌜ Put (planAction (now (s .entry)) plan) source used at (now (text .entry)) (now (text .exit)) (now (records .entry)) (now (records .exit)) r ⌝ }
 {
     let first = plan.a;
     let second = plan.b;
@@ -99,6 +109,7 @@ pub fn put_plan(
         word_of(second, b, c),
         plan.kind,
         word_of(third, c, end),
+        source,
     ];
     lent::store_words(records, at, &record);
     end

@@ -3,5 +3,3 @@ pub mod Scans
 pub mod Tables
 pub mod Sites
 pub mod Moves
-pub mod Steps
-pub mod Cases

@@ -1,12 +1,8 @@
-// Where the bytes of a text that was read came from (document 02, M-104): a walk along the bytes that it was read from.
+// temporary
 mod acting;
-mod moving;
-mod walking;
 
-pub use moving::resite;
-pub use walking::site;
+pub use acting::Mode;
 
-// How a text was read: line continuations taken out of a list of actions; a word; the bytes behind an opening quotation mark.
 pub enum Rule {
     Joined,
     Word,

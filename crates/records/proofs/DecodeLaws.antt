@@ -9,10 +9,11 @@ use lib.Seq.{drop-at, take-at}
 use borrow.Author.Tests.{ltb-true, le-leb}
 use Rattle.ascii.specs.Choice.{and}
 use Rattle.lent.specs.Sizes.{actionWords, spanBase, spanWord}
+use Rattle.lent.specs.Sources.{Sourced, partWord}
 use Rattle.lent.specs.Layout.{textsOf, wordsOf}
 use Rattle.lent.proofs.SpanLaws.{span-offset, span-length}
 use Rattle.records.specs.Actions.{Slot, absent, present, Action, slotText, actionText}
-use Rattle.records.specs.Layout.{slotWord, slotEnd, actionRecord, wordsFrom, texts}
+use Rattle.records.specs.Layout.{slotWord, slotEnd, actionRecord, fullRecord, fullText, wordsFrom, texts}
 use Rattle.records.specs.Codes.{shapeOf, knownBy, hasA, hasB, hasC}
 use Rattle.records.specs.Marks.{marksFor, marksOf, known, onto, spansBy, spansOf, spanEnd, endMost, inside, insideAll, cut}
 use Rattle.records.specs.Decoding.{Decoded, shows, slotBy, actionIn, decoded, decodedAll, allShown, stands, short, formed, shortTexts, encodable}
@@ -74,9 +75,9 @@ module _ (text front back : List ℕ) (o : ℕ) (l : length front ≡ o) (small 
   end-c : slotEnd (slotEnd (slotEnd o (x .a)) (x .b)) (x .c) ≤ length text
   end-c = omega (arith, ap length e-c, length-append ((front ++ A) ++ B) (C ++ back), length-append C back, l-c)
 
-  one-back : (rest : List ℕ) → decoded text (actionRecord o x ++ rest) ≡ shows x
+  one-back : (last : ℕ) (rest : List ℕ) → decoded text (actionRecord o x ++ (last ∷ rest)) ≡ shows x
   unfolding decoded actionRecord known spansOf spansBy marksOf marksFor actionIn formed shortTexts insideAll
-  one-back rest =
+  one-back last rest =
       let ma : Bool = hasA (shapeOf (x .code)) in
       let mb : Bool = hasB (shapeOf (x .code)) in
       let mc : Bool = hasC (shapeOf (x .code)) (x .kind) in
@@ -102,20 +103,20 @@ module _ (text front back : List ℕ) (o : ℕ) (l : length front ≡ o) (small 
       )
 
 -- the round trip, the records standing anywhere and their texts from the offset o on
-pub all-back : (text : List ℕ) (small : length text ≤ endMost) (front back rest : List ℕ) (o : ℕ) (xs : List Action)
+pub all-back : (text : List ℕ) (small : length text ≤ endMost) (front back rest : List ℕ) (o : ℕ) (xs : List (Sourced Action))
     → length front ≡ o → encodable xs ≡ true → text ≡ front ++ (texts xs ++ back)
     → decodedAll text (length xs) (wordsFrom o xs ++ rest) ≡ allShown xs
 unfolding decodedAll allShown textsOf wordsOf encodable
 all-back text small front back rest o [] l ok e = refl
 all-back text small front back rest o (x ∷ xs) l ok e =
-    let (first, others) = both (and (formed x) (shortTexts x)) (encodable xs) ok in
-    let (fo, sh) = both (formed x) (shortTexts x) first in
-    let o′ : ℕ = o + length (actionText x) in
-    let e₁ : text ≡ front ++ (actionText x ++ (texts xs ++ back)) = e ∙ ap (λ (z : List ℕ). front ++ z) (append-assoc (actionText x) (texts xs) back) in
-    let e₂ : text ≡ (front ++ actionText x) ++ (texts xs ++ back) = e₁ ∙ sym (append-assoc front (actionText x) (texts xs ++ back)) in
-    let l₂ : length (front ++ actionText x) ≡ o′ = length-append front (actionText x) ∙ ap (λ (n : ℕ). n + length (actionText x)) l in
-    let d : drop actionWords (actionRecord o x ++ (wordsFrom o′ xs ++ rest)) ≡ wordsFrom o′ xs ++ rest = unfold actionRecord in refl in
-    rw (append-assoc (actionRecord o x) (wordsFrom o′ xs) rest, d)
+    let (first, others) = both (and (formed (x .thing)) (shortTexts (x .thing))) (encodable xs) ok in
+    let (fo, sh) = both (formed (x .thing)) (shortTexts (x .thing)) first in
+    let o′ : ℕ = o + length (fullText x) in
+    let e₁ : text ≡ front ++ (fullText x ++ (texts xs ++ back)) = e ∙ ap (λ (z : List ℕ). front ++ z) (append-assoc (fullText x) (texts xs) back) in
+    let e₂ : text ≡ (front ++ fullText x) ++ (texts xs ++ back) = e₁ ∙ sym (append-assoc front (fullText x) (texts xs ++ back)) in
+    let l₂ : length (front ++ fullText x) ≡ o′ = length-append front (fullText x) ∙ ap (λ (n : ℕ). n + length (fullText x)) l in
+    let d : drop actionWords (fullRecord o x ++ (wordsFrom o′ xs ++ rest)) ≡ wordsFrom o′ xs ++ rest = unfold actionRecord in refl in
+    rw (append-assoc (fullRecord o x) (wordsFrom o′ xs) rest, d)
     (ap₂ (λ (a : Decoded) (b : List Decoded). a ∷ b)
-    (one-back text front (texts xs ++ back) o l small x fo sh e₁ (wordsFrom o′ xs ++ rest))
-    (all-back text small (front ++ actionText x) back rest o′ xs l₂ others e₂))
+    (ap (decoded text) (append-assoc (actionRecord o (x .thing)) (partWord (x .source) ∷ []) (wordsFrom o′ xs ++ rest)) ∙ one-back text front (texts xs ++ back) o l small (x .thing) fo sh e₁ (partWord (x .source)) (wordsFrom o′ xs ++ rest))
+    (all-back text small (front ++ fullText x) back rest o′ xs l₂ others e₂))

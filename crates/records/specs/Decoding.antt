@@ -6,6 +6,7 @@ use lib.ListN.{length, drop, getD}
 use lib.Dec.{ltb}
 use Rattle.ascii.specs.Choice.{pick, and}
 use Rattle.lent.specs.Sizes.{actionWords, spanBase}
+use Rattle.lent.specs.Sources.{Sourced}
 use Rattle.records.specs.Actions.{Slot, absent, present, Action, slotText}
 use Rattle.records.specs.Codes.{shapeOf, knownBy, hasA, hasB, hasC}
 use Rattle.records.specs.Marks.{known, spansOf, insideAll, cut}
@@ -43,10 +44,10 @@ unfoldable pub decodedAll : List ℕ → ℕ → List ℕ → List Decoded
 decodedAll text zero words = []
 decodedAll text (suc n) words = decoded text words ∷ decodedAll text n (drop actionWords words)
 
--- All of them shown.
-unfoldable pub allShown : List Action → List Decoded
+-- All of them shown, whatever they were read from.
+unfoldable pub allShown : List (Sourced Action) → List Decoded
 allShown [] = []
-allShown (x ∷ xs) = shows x ∷ allShown xs
+allShown (x ∷ xs) = shows (x .thing) ∷ allShown xs
 
 -- ---- the actions that a record can hold
 
@@ -72,6 +73,6 @@ unfoldable pub shortTexts : Action → Bool
 shortTexts x = and (short (x .a)) (and (short (x .b)) (short (x .c)))
 
 -- Of a list: what `encoded` writes is read back.
-unfoldable pub encodable : List Action → Bool
+unfoldable pub encodable : List (Sourced Action) → Bool
 encodable [] = true
-encodable (x ∷ xs) = and (and (formed x) (shortTexts x)) (encodable xs)
+encodable (x ∷ xs) = and (and (formed (x .thing)) (shortTexts (x .thing))) (encodable xs)

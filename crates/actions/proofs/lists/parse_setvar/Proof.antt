@@ -1,8 +1,10 @@
--- By the gate's answer; the one action is planned, written and finished.
+-- By the gate's answer; the one action is planned, written with the trimmed input's span, and finished.
 use borrow.Author.Needs.{needs}
+use mathlib.Core.Path.{_∙_, ap}
 use native.Mathlib.Omega.{arith}
 use denote.Ref.{now}
-use Rattle.actions.proofs.PromiseLaws.{alone-too-long, alone-not-ascii, alone-short, alone-room, alone-read}
+use Rattle.lent.specs.Sources.{Part, partWord}
+use Rattle.actions.proofs.PromiseLaws.{alone-too-long, alone-not-ascii, alone-short, alone-narrow, alone-room, alone-read}
 use Rattle.actions.proofs.lists.parse_setvar.Statement.{statement}
 use Rattle.actions.proofs.lists.parse_setvar.Tie as tie
 
@@ -15,15 +17,19 @@ returns-2 c = alone-not-ascii (now (c .before .before .before .before .before .b
 returns-3 : tie.Need-returns-3
 returns-3 c = alone-short (now (c .before .before .before .before .before .before .args .input)) (now (c .before .before .before .before .before .before .args .text)) (now (c .before .before .before .before .before .before .args .records)) (c .before .before .admit .ensures) (c .enum-told2 .given .1)
 
+span-of-requires : tie.Need-span-of-requires
+span-of-requires c κs = rw (c .trimmed .ensures) (alone-narrow (now (c .before .before .before .before .before .before .before .before .args .input)) (now (c .before .before .before .before .before .before .before .before .args .text)) (now (c .before .before .before .before .before .before .before .before .args .records)) (c .before .before .before .before .admit .ensures) (c .before .before .enum-told3 .given .1))
+
 put-plan-requires : tie.Need-put-plan-requires
 put-plan-requires c κs =
-    let p = c .before .before .read-setvar .ensures in
-    let r = alone-room (now (c .before .before .before .before .before .before .before .before .before .args .input)) (now (c .before .before .before .before .before .before .before .before .before .args .text)) (now (c .before .before .before .before .before .before .before .before .before .args .records)) (c .before .before .before .before .before .admit .ensures) (c .before .before .before .enum-told3 .given .1) _ p in
+    let p = c .before .before .before .before .read-setvar .ensures in
+    let r = alone-room (now (c .before .before .before .before .before .before .before .before .before .before .before .args .input)) (now (c .before .before .before .before .before .before .before .before .before .before .before .args .text)) (now (c .before .before .before .before .before .before .before .before .before .before .before .args .records)) (c .before .before .before .before .before .before .before .admit .ensures) (c .before .before .before .before .before .enum-told3 .given .1) _ p in
     (p .inside, (omega (arith, r), omega (arith, r)))
 
 returns-4 : tie.Need-returns-4
 returns-4 c =
-    alone-read (now (c .before .before .before .before .before .before .before .before .before .before .before .before .before .before .before .before .before .before .before .before .before .args .input)) (now (c .before .before .before .before .before .before .before .before .before .before .before .before .before .before .before .before .before .before .before .before .before .args .text)) (now (c .before .before .before .before .before .before .before .before .before .before .before .before .before .before .before .before .before .before .before .before .before .args .records)) (c .before .before .before .before .before .before .before .before .before .before .before .before .before .before .before .before .before .admit .ensures) (c .before .before .before .before .before .before .before .before .before .before .before .before .before .before .before .enum-told3 .given .1) _ (c .before .before .before .before .before .before .before .before .before .before .before .before .before .before .read-setvar .ensures) (c .before .before .before .before .before .before .before .before .before .before .before .put-plan .ensures) (c .before .before .before .before .finish .ensures)
+    let span = c .before .before .before .before .before .before .before .before .before .before .before .before .before .before .span-of .ensures ∙ ap (λ (x : Part). partWord x) (c .before .before .before .before .before .before .before .before .before .before .before .before .before .before .before .trimmed .ensures) in
+    alone-read (now (c .before .before .before .before .before .before .before .before .before .before .before .before .before .before .before .before .before .before .before .before .before .before .before .args .input)) (now (c .before .before .before .before .before .before .before .before .before .before .before .before .before .before .before .before .before .before .before .before .before .before .before .args .text)) (now (c .before .before .before .before .before .before .before .before .before .before .before .before .before .before .before .before .before .before .before .before .before .before .before .args .records)) (c .before .before .before .before .before .before .before .before .before .before .before .before .before .before .before .before .before .before .before .admit .ensures) (c .before .before .before .before .before .before .before .before .before .before .before .before .before .before .before .before .before .enum-told3 .given .1) _ (c .before .before .before .before .before .before .before .before .before .before .before .before .before .before .before .before .read-setvar .ensures) (rw span at (c .before .before .before .before .before .before .before .before .before .before .before .put-plan .ensures)) (c .before .before .before .before .finish .ensures)
 
 pub parse-setvar-spec : {M : Type 1} → statement M
 parse-setvar-spec =
@@ -39,6 +45,8 @@ parse-setvar-spec =
     returns-3
     (λ c. search needs)
     (λ c κs. search needs)
+    (λ c κs. search needs)
+    span-of-requires
     put-plan-requires
     (λ c κs. search needs)
     (λ c. search needs)

@@ -1,5 +1,5 @@
 -- Both buffers are cleared, and the name stored at the front of the text.
-use mathlib.Core.Path.{_∙_, ap}
+use mathlib.Core.Path.{_∙_, refl, ap}
 use borrow.Author.Needs.{needs}
 use denote.Ref.{now}
 use mathlib.Core.List.{List}
@@ -16,7 +16,7 @@ returns : tie.Need-returns
 returns c =
     let name = lowered (now (c .before .before .before .before .before .before .before .before .before .before .before .before .before .before .before .args .name)) in
     let e = c .before .before .store-lowered .ensures ∙ ap (λ (l : List ℕ). stored l 0 name) (c .before .before .before .before .before .before .clear-bytes .ensures) in
-    (refused-text (now (c .before .before .before .before .before .before .before .before .before .before .before .before .before .before .before .args .text)) name e (omega (arith, c .before .before .before .before .before .before .before .before .before .before .before .before .before .before .before .pre, length-map (now (c .before .before .before .before .before .before .before .before .before .before .before .before .before .before .before .args .name)) lower)), c .before .before .before .before .before .before .before .before .before .before .clear-words .ensures)
+    (refused-text (now (c .before .before .before .before .before .before .before .before .before .before .before .before .before .before .before .args .text)) name e (omega (arith, c .before .before .before .before .before .before .before .before .before .before .before .before .before .before .before .pre, length-map (now (c .before .before .before .before .before .before .before .before .before .before .before .before .before .before .before .args .name)) lower)), (c .before .before .before .before .before .before .before .before .before .before .clear-words .ensures, refl))
 
 pub refuse-name-spec : {M : Type 1} → statement M
 refuse-name-spec =

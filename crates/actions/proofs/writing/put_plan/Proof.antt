@@ -28,7 +28,7 @@ returns : tie.Need-returns
 returns c =
     put-all (now (c .before .before .before .before .before .before .before .before .before .before .before .before .before .before .before .before .before .before .before .before .before .before .before .args .s)) (c .before .before .before .before .before .before .before .before .before .before .before .before .before .before .before .before .before .before .before .before .before .before .before .args .plan) (now (c .before .before .before .before .before .before .before .before .before .before .before .before .before .before .before .before .before .before .before .before .before .before .before .args .text)) (c .before .before .before .before .before .before .before .before .before .before .before .before .before .before .before .before .before .before .before .before .before .before .before .args .used) (c .before .before .before .before .before .before .before .before .before .before .before .before .before .before .before .before .before .before .before .before .before .before .before .pre .1 .0)
     (c .before .before .before .before .before .before .before .before .before .before .before .before .before .before .before .before .before .before .put-text .ensures .0) (c .before .before .before .before .before .before .before .before .before .before .before .before .before .before .before .before .before .before .put-text .ensures .1) (c .before .before .before .before .before .before .before .before .before .before .before .before .before .before .put-text2 .ensures .0) (c .before .before .before .before .before .before .before .before .before .before .before .before .before .before .put-text2 .ensures .1) (c .before .before .before .before .before .before .before .before .before .before .put-text3 .ensures .0) (c .before .before .before .before .before .before .before .before .before .before .put-text3 .ensures .1)
-    _ _ (c .before .before .before .before .before .before .before .word-of .ensures) (c .before .before .before .before .before .before .word-of2 .ensures) (c .before .before .before .before .before .word-of3 .ensures) (c .before .before .store-words .ensures)
+    _ _ _ (c .before .before .before .before .before .before .before .word-of .ensures) (c .before .before .before .before .before .before .word-of2 .ensures) (c .before .before .before .before .before .word-of3 .ensures) (c .before .before .store-words .ensures)
 
 pub put-plan-spec : {M : Type 1} → statement M
 put-plan-spec =

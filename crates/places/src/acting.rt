@@ -1,0 +1,8 @@
+// temporary
+pub enum Mode {
+    Plain,
+    Escaped,
+    Stayed,
+    AfterCr,
+    Margin,
+}
