@@ -2,7 +2,7 @@
 use mathlib.Core.Path.{_≡_, _∙_, sym, ap}
 use mathlib.Core.Bool.{Bool, true, false}
 use mathlib.Core.List.{List, [], _∷_}
-use Prim.Native.Nat.{ℕ, _-_, _≤_}
+use Prim.Native.Nat.{ℕ, _+_, _-_, _≤_}
 use native.Mathlib.Omega.{arith}
 use lib.ListN.{length, drop, take}
 use lib.Seq.{length-take-le}
@@ -10,6 +10,7 @@ use Rattle.ascii.specs.Choice.{pick, bit}
 use Rattle.ascii.specs.Classes.{white}
 use Rattle.ascii.specs.Trim.{trimStart, trimEnds}
 use Rattle.ascii.proofs.TrimLaws.{ends-fit, leading-fits}
+use Rattle.lent.specs.Sources.{part}
 use Rattle.lent.specs.Table.{given, refused, unknownOperator}
 use Rattle.names.specs.Operators.{operatorCode}
 use Rattle.names.specs.declared.Lookup.the-variants as Lookup
@@ -107,8 +108,8 @@ module _ (s : List ℕ) (f : Found) (e : f ≡ foundOf s) where
     answer-unknown l =
         let n : f .past - f .first ≡ length (nameOf (afterAt s)) =
         omega (arith, found-first, found-past, length-take-le (nameLength (afterAt s)) (afterAt s) (leading-fits inName (afterAt s))) in
-        ap (λ (p : ℕ). refused (unknownOperator p (f .past - f .first))) found-first
-        ∙ ap (λ (k : ℕ). refused (unknownOperator (namePlace s) k)) n
+        ap (λ (p : ℕ). refused (unknownOperator p (f .past - f .first) (part p (p + (f .past - f .first))))) found-first
+        ∙ ap (λ (k : ℕ). refused (unknownOperator (namePlace s) k (part (namePlace s) (namePlace s + k)))) n
         ∙ sym (ap (λ (x : Reading). givenBy s (outcomeOf s x)) (missed s is-named (sym (ap operatorCode name-text) ∙ l)))
 
   pub answer-plain : f .named ≡ false

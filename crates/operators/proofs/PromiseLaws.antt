@@ -4,12 +4,14 @@ use mathlib.Core.Path.{_≡_, _∙_, refl, sym, ap, subst}
 use mathlib.Core.Bool.{Bool, true, false}
 use mathlib.Core.List.{List, [], _∷_}
 use mathlib.Core.Logic.{_↔_, _⊎_, inl, inr}
-use Prim.Native.Nat.{ℕ, _≤_, _<_}
+use Prim.Native.Nat.{ℕ, _+_, _-_, _≤_, _<_}
+use native.Mathlib.Omega.{arith}
 use lib.ListN.{length, take, drop}
 use lib.Seq.{length-take-le}
+use Rattle.ascii.specs.Classes.{white}
 use Rattle.ascii.specs.Handed.{Standing, bytesOf, partAt}
 use Rattle.ascii.specs.Trim.{trimStart, trimEnds}
-use Rattle.lent.specs.Sizes.{limit}
+use Rattle.lent.specs.Sizes.{limit, spanWord}
 use Rattle.lent.specs.Gates.{gateOf}
 use Rattle.lent.specs.Table.{Given, Outcome, refuses, reads, pastGate}
 use Rattle.lent.specs.declared.gating.Gate.{Gate}
@@ -22,14 +24,14 @@ use Rattle.lent.proofs.RowLaws.{row, OneOf, Numbered, Exactly, absent, differ, 
 use Rattle.names.specs.Operators.{operatorCode}
 use Rattle.names.specs.declared.Lookup.{Lookup}
 use Rattle.names.specs.declared.Lookup.the-variants as Lookup
-use Rattle.ascii.proofs.TrimLaws.{leading-fits}
+use Rattle.ascii.proofs.TrimLaws.{ends-fit, leading-fits}
 use Rattle.operators.specs.Operators.{Spec, Reading, accepted, unknown, starts, nameLength, nameOf, afterName, unsigned, operator, inName}
 use Rattle.operators.specs.Places.{afterAt, namePlace, isNamed, argumentPlace}
 use Rattle.operators.specs.Promises.{answerGiven, outcomeOf, operatorOutcome, givenBy, argumentBy, partPlace, argumentOf, OperatorIn, ParseOperator, OperatorArgument}
 use Rattle.operators.specs.Calls.{Missing, Meant, unwritten, written}
 use Rattle.operators.specs.declared.Answer.{Answer}
 use Rattle.operators.specs.declared.Answer.the-variants as Answer
-use Rattle.operators.proofs.PlaceLaws.{name-stands, argument-at}
+use Rattle.operators.proofs.PlaceLaws.{past-fits, name-stands, argument-at}
 use Rattle.operators.proofs.FoundLaws.{plain, known, missed}
 use Rattle.operators.proofs.AnswerLaws.{Argued, gate-argued}
 use Rattle.operators.proofs.GivenLaws.{answer-told}
@@ -94,6 +96,29 @@ module _ (s : List ℕ) where
   pub unknown-stands : Missing s → take (length (nameOf (afterAt s))) (drop (namePlace s) s) ≡ nameOf (afterAt s)
   unknown-stands m =
       ap (λ (k : ℕ). take k (drop (namePlace s) s)) (length-take-le (nameLength (afterAt s)) (afterAt s) (leading-fits inName (afterAt s))) ∙ name-stands s
+
+module _ (s : List ℕ) where
+  -- a name that is refused is the one that is written
+  refused-name : (name : List ℕ) → operator s ≡ unknown name → Missing s × (name ≡ nameOf (afterAt s))
+  refused-name name e = go (missing-or-meant s)
+    where
+      go : Missing s ⊎ Meant s → Missing s × (name ≡ nameOf (afterAt s))
+      go (inl m) = let f = sym e ∙ operator-missing s m in (m, cc)
+      go (inr m) = let f = sym e ∙ operator-meant s m in let z : _≡_ {A = ℕ} 0 1 = cc in absurd (omega arith)
+
+  -- What 8 underlines stands in the input, and is the name.
+  pub refused-inside : (name : List ℕ) → operator s ≡ unknown name → namePlace s + length name ≤ length s
+  refused-inside name e =
+      let r = refused-name name e in
+      let n = length-take-le (nameLength (afterAt s)) (afterAt s) (leading-fits inName (afterAt s)) in
+      omega (arith, ap length (r .1), n, past-fits s (r .0 .written), ends-fit white s)
+
+  pub refused-stands : (name : List ℕ) → operator s ≡ unknown name → take (length name) (drop (namePlace s) s) ≡ name
+  refused-stands name e = let r = refused-name name e in rw (r .1) (unknown-stands s (r .0))
+
+-- What 8 gives back: the name's place and length, and its span.
+pub unknown-values : (place len : ℕ) → answerGiven (Answer.Unknown place len) .values ≡ place ∷ len ∷ spanWord place len ∷ []
+unknown-values place len = let e : place + len - place ≡ len = omega arith in rw e
 
 -- ---- operator_in and parse_operator
 
