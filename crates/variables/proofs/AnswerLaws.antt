@@ -2,13 +2,14 @@
 use mathlib.Core.Path.{_≡_, _∙_, refl, sym, ap, ap₂, subst}
 use mathlib.Core.Bool.{Bool, true, false}
 use mathlib.Core.List.{List, [], _∷_}
-use Prim.Native.Nat.{ℕ, _+_, _*_, _≤_}
+use Prim.Native.Nat.{ℕ, _+_, _-_, _*_, _≤_}
 use native.Mathlib.Omega.{arith}
 use native.Mathlib.Nat.{zero-add, zero-mul}
 use lib.ListN.{length, take, getD, length-append}
 use lib.Dec.{ltb}
 use Rattle.ascii.specs.Choice.{pick}
-use Rattle.lent.specs.Sizes.{variableWords, roomFor}
+use Rattle.lent.specs.Sizes.{limit, spanWord, variableWords, roomFor}
+use Rattle.lent.specs.Sources.{Part, part as placed, partWord, Sourced}
 use Rattle.lent.specs.Buffers.{stored, joined}
 use Rattle.lent.specs.Gates.{gateOf}
 use Rattle.lent.specs.Endings.{starts, Finished}
@@ -24,7 +25,7 @@ use Rattle.lent.proofs.EndLaws.{ended-told, ended-text, ended-records}
 use Rattle.lent.proofs.LayoutLaws.{records-joined, words-length}
 use Rattle.variables.specs.Parts.{pieces}
 use Rattle.variables.specs.Variables.{Variable, Targets, targets, refused, readAll}
-use Rattle.variables.specs.Layout.{variableRecord, exclusionRecord, chosenText, itself, selectionTexts, texts, wordsFrom}
+use Rattle.variables.specs.Layout.{variableWhole, exclusionWhole, variableText, exclusionText, selectionTexts, texts, wordsFrom}
 use Rattle.variables.specs.Promises.{answerGiven, laidOut, roomed, updated, hung, variablesOutcome, updateOutcome, Meets}
 use Rattle.variables.specs.Steps.{excludingOf, hanging, targetsOf, readOutcome, outcomeOf}
 use Rattle.variables.specs.Cores.{recordsFrom, reachedBy, reachedText, reachedRecords, ReadTargets}
@@ -36,28 +37,29 @@ use Rattle.variables.specs.declared.singles.Exclusions.{Exclusions}
 use Rattle.variables.specs.declared.singles.Exclusions.the-variants.{AsWritten, LookedUp}
 use Rattle.variables.proofs.FitLaws.{Within, targets-within}
 use Rattle.variables.proofs.ScanLaws.{wide-variable, wide-exclusion}
+use Rattle.variables.proofs.SourceLaws.{Inside, EachIn, targets-inside}
 
 -- ---- past the gate
 
-pub refused-is : (n : Exclusions) (s : List ℕ) (m i : ℕ) (name : List ℕ) → targetsOf n s ≡ refused i name
-    → readOutcome n s m ≡ refuses (unknownVariable i name)
+pub refused-is : (n : Exclusions) (s : List ℕ) (m i : ℕ) (name : List ℕ) (x : Part) → targetsOf n s ≡ refused i name x
+    → readOutcome n s m ≡ refuses (unknownVariable i name x)
 unfolding readOutcome
-refused-is n s m i name e = ap (updated m) e
+refused-is n s m i name x e = ap (updated m) e
 
 -- the words of records one by one
-all-words : (o : ℕ) (vs : List Variable) (es : List (List ℕ)) → joined (recordsFrom o vs es) ≡ wordsFrom o vs es
+all-words : (o : ℕ) (vs : List (Sourced Variable)) (es : List (Sourced (List ℕ))) → joined (recordsFrom o vs es) ≡ wordsFrom o vs es
 all-words o vs es =
-    joined-append (recordsOf variableRecord chosenText o vs) (recordsOf exclusionRecord itself (o + length (selectionTexts vs)) es)
-    ∙ rw (records-joined chosenText variableRecord o vs, records-joined itself exclusionRecord (o + length (selectionTexts vs)) es)
+    joined-append (recordsOf variableWhole variableText o vs) (recordsOf exclusionWhole exclusionText (o + length (selectionTexts vs)) es)
+    ∙ rw (records-joined variableText variableWhole o vs, records-joined exclusionText exclusionWhole (o + length (selectionTexts vs)) es)
 
-words-long : (o : ℕ) (vs : List Variable) (es : List (List ℕ)) → length (wordsFrom o vs es) ≡ (length vs + length es) * variableWords
+words-long : (o : ℕ) (vs : List (Sourced Variable)) (es : List (Sourced (List ℕ))) → length (wordsFrom o vs es) ≡ (length vs + length es) * variableWords
 words-long o vs es =
-    let a = words-length chosenText variableRecord variableWords wide-variable o vs in
-    let b = words-length itself exclusionRecord variableWords wide-exclusion (o + length (selectionTexts vs)) es in
-    omega (arith, a, b, length-append (wordsOf variableRecord chosenText o vs) (wordsOf exclusionRecord itself (o + length (selectionTexts vs)) es))
+    let a = words-length variableText variableWhole variableWords wide-variable o vs in
+    let b = words-length exclusionText exclusionWhole variableWords wide-exclusion (o + length (selectionTexts vs)) es in
+    omega (arith, a, b, length-append (wordsOf variableWhole variableText o vs) (wordsOf exclusionWhole exclusionText (o + length (selectionTexts vs)) es))
 
 -- what is given back, by whether the records fit
-given-is : (m : ℕ) (vs : List Variable) (es : List (List ℕ)) (full : Bool) → full ≡ ltb (roomFor variableWords m) (length vs + length es)
+given-is : (m : ℕ) (vs : List (Sourced Variable)) (es : List (Sourced (List ℕ))) (full : Bool) → full ≡ ltb (roomFor variableWords m) (length vs + length es)
     → pick full (refusedBy (noRoom (length vs + length es))) (given 0 ((length vs + length es) ∷ length (texts vs es) ∷ [])) ≡ givenBy (roomed m vs es)
 given-is m vs es full e = rw (← e) (go full)
   where
@@ -69,8 +71,13 @@ given-is m vs es full e = rw (← e) (go full)
 -- what an answer of the core tells
 seen : Reached → Given
 seen (Reached.Read count used) = given 0 (count ∷ used ∷ [])
-seen (Reached.Unknown piece name) = given 7 (piece ∷ name ∷ [])
+seen (Reached.Unknown piece name first past) = given 7 (piece ∷ name ∷ partWord (placed first past) ∷ [])
 seen Reached.Unfit = given 3 (0 ∷ [])
+
+placesSeen : Reached → List ℕ
+placesSeen (Reached.Read count used) = []
+placesSeen (Reached.Unknown piece name first past) = first ∷ past ∷ []
+placesSeen Reached.Unfit = []
 
 module _ (n : Exclusions) (s text records : List ℕ) {text₁ records₁ : List ℕ} {r : Reached} (x : ReadTargets n s 0 0 text text₁ records records₁ r)
     (o : Opened s (length text) (length s)) where
@@ -92,20 +99,33 @@ module _ (n : Exclusions) (s text records : List ℕ) {text₁ records₁ : List
     where
       go : (ts : Targets) → r ≡ reachedBy 0 ts → ⊥
       go (targets vs es) f = let z = ap (λ (q : Reached). seen q .number) (sym e ∙ f) in omega (arith, z)
-      go (refused i name) f = let z = ap (λ (q : Reached). seen q .number) (sym e ∙ f) in omega (arith, z)
+      go (refused i name y) f = let z = ap (λ (q : Reached). seen q .number) (sym e ∙ f) in omega (arith, z)
 
-  pub parsed-unknown : (piece name : ℕ) → r ≡ Reached.Unknown piece name
-      → Meets (readOutcome n s (length records)) text text₁ records records₁ (Answer.Unknown piece name)
+  -- the places of a refused piece are in order, and within the list
+  pub refused-narrow : (piece name first past : ℕ) → r ≡ Reached.Unknown piece name first past → (first ≤ past) × (past ≤ limit)
+  unfolding placesSeen
+  refused-narrow piece name first past e = go (targetsOf n s) told (targets-inside n s)
+    where
+      go : (ts : Targets) → r ≡ reachedBy 0 ts → EachIn (Inside (length s)) ts → (first ≤ past) × (past ≤ limit)
+      go (targets vs es) f h = let z = ap (λ (q : Reached). length (placesSeen q)) (sym e ∙ f) in absurd (omega (arith, z))
+      go (refused i w y) f h =
+          let z : first ∷ past ∷ [] ≡ y .first ∷ y .past ∷ [] = ap placesSeen (sym e ∙ f) in
+          let a : first ≡ y .first = ap (λ (l : List ℕ). getD l 0 0) z in
+          let b : past ≡ y .past = ap (λ (l : List ℕ). getD l 1 0) z in
+          (omega (arith, a, b, h .some), omega (arith, b, h .within, o .within))
+
+  pub parsed-unknown : (piece name first past span : ℕ) → r ≡ Reached.Unknown piece name first past → span ≡ spanWord first (past - first)
+      → Meets (readOutcome n s (length records)) text text₁ records records₁ (Answer.Unknown piece name span)
   unfolding seen readOutcome
-  parsed-unknown piece name e = go (targetsOf n s) refl told text-told words-told
+  parsed-unknown piece name first past span e k = go (targetsOf n s) refl told text-told words-told
     where
       go : (ts : Targets) → targetsOf n s ≡ ts → r ≡ reachedBy 0 ts → text₁ ≡ reachedText 0 text ts → records₁ ≡ reachedRecords 0 0 records ts
-          → Meets (updated (length records) (targetsOf n s)) text text₁ records records₁ (Answer.Unknown piece name)
+          → Meets (updated (length records) (targetsOf n s)) text text₁ records records₁ (Answer.Unknown piece name span)
       go (targets vs es) q f a b = let z = ap (λ (q : Reached). seen q .number) (sym e ∙ f) in absurd (omega (arith, z))
-      go (refused i w) q f a b = rw q (record { answer = ap seen (sym e ∙ f); texts = a; words = b })
+      go (refused i w y) q f a b = rw q (record { answer = ap (λ (j : ℕ). given 7 (piece ∷ name ∷ j ∷ [])) k ∙ ap seen (sym e ∙ f); texts = a; words = b })
 
   -- the records are at the front, where they fit
-  words-front : (vs : List Variable) (es : List (List ℕ)) → records₁ ≡ reachedRecords 0 0 records (targets vs es)
+  words-front : (vs : List (Sourced Variable)) (es : List (Sourced (List ℕ))) → records₁ ≡ reachedRecords 0 0 records (targets vs es)
       → (length vs + length es) * variableWords ≤ length records → take ((length vs + length es) * variableWords) records₁ ≡ wordsFrom 0 vs es
   words-front vs es b k =
       let l = words-long 0 vs es in
@@ -123,13 +143,13 @@ module _ (n : Exclusions) (s text records : List ℕ) {text₁ records₁ : List
     where
       go : (ts : Targets) → targetsOf n s ≡ ts → r ≡ reachedBy 0 ts → text₁ ≡ reachedText 0 text ts → records₁ ≡ reachedRecords 0 0 records ts → Within (length s) (length s) ts
           → Meets (updated (length records) (targetsOf n s)) text text′ records records′ v
-      go (refused i w) q f a b h = let z = ap (λ (q : Reached). seen q .number) (sym e ∙ f) in absurd (omega (arith, z))
+      go (refused i w y) q f a b h = let z = ap (λ (q : Reached). seen q .number) (sym e ∙ f) in absurd (omega (arith, z))
       go (targets vs es) q f a b h =
           let z : count ∷ used ∷ [] ≡ (length vs + length es) ∷ (0 + length (texts vs es)) ∷ [] = ap (λ (q : Reached). seen q .values) (sym e ∙ f) in
           let c : count ≡ length vs + length es = ap (λ (l : List ℕ). getD l 0 0) z in
           let u : used ≡ length (texts vs es) = ap (λ (l : List ℕ). getD l 1 0) z ∙ zero-add _ in
           let w = subst (λ (k : ℕ). Finished used k variableWords text₁ text′ records₁ records′ full) c y in
-          let fit : length (texts vs es) ≤ length text = omega (arith, h .0, o .room, length-append (selectionTexts vs) (textsOf itself es)) in
+          let fit : length (texts vs es) ≤ length text = omega (arith, h .0, o .room, length-append (selectionTexts vs) (textsOf exclusionText es)) in
           let long : length text₁ ≡ length text = ap length a ∙ stored-length text 0 (texts vs es) in
           let wide : length records₁ ≡ length records = ap length b ∙ each-length records (0 * variableWords) (recordsFrom 0 vs es) in
           let front : take used text₁ ≡ texts vs es = rw (u, a) (taken-first text (texts vs es) fit) in
@@ -167,7 +187,7 @@ module _ (n : Exclusions) (s text records : List ℕ) (g : Gate) (e : g ≡ gate
 hung-is : (m : ℕ) (ts : Targets) → hung m ts ≡ updated m (hanging AsWritten ts)
 hung-is m (targets [] es) = refl
 hung-is m (targets (v ∷ vs) es) = refl
-hung-is m (refused i name) = refl
+hung-is m (refused i name x) = refl
 
 pub as-variables : (s : List ℕ) (k m : ℕ) → variablesOutcome s k m ≡ outcomeOf AsWritten s k m
 unfolding variablesOutcome outcomeOf readOutcome targetsOf

@@ -16,6 +16,7 @@ use Rattle.ascii.specs.Trim.{trimEnds}
 use Rattle.ascii.specs.Splits.{whole, halves, split}
 use Rattle.ascii.proofs.TrimLaws.{ends-fit}
 use Rattle.lent.specs.Sizes.{variableWords, roomFor}
+use Rattle.lent.specs.Sources.{Part, Sourced}
 use Rattle.lent.specs.Buffers.{joined}
 use Rattle.lent.proofs.SpanLaws.{room-is}
 use Rattle.names.specs.Tables.{nameAt}
@@ -24,7 +25,7 @@ use Rattle.names.specs.declared.Lookup.{Lookup}
 use Rattle.names.specs.declared.Lookup.the-variants.{Code, Unknown}
 use Rattle.names.proofs.Tests.{every, at}
 use Rattle.names.proofs.TableLaws.{find-none}
-use Rattle.variables.specs.Parts.{onto, cut, kept, filled, pieces}
+use Rattle.variables.specs.Parts.{cut, Piece, pieceTexts, placeOf, kept, filledFrom, piecesFrom, pieces}
 use Rattle.variables.specs.Variables.{atColon, frontOf, Selection, none, selection, Single, variable, unknown, named, splitSingle, single, Variable, Targets, targets, refused, withVariable, withExclusion, ifKnown, piece, readAll}
 use Rattle.variables.specs.Steps.{excludingOf, excludedOf, keptCount, keptOf, hanging, targetsOf}
 use Rattle.variables.specs.Promises.{answerGiven, ParseVariables, ParseUpdateTargets}
@@ -32,40 +33,29 @@ use Rattle.variables.specs.Calls.{AllMeant, needed}
 use Rattle.variables.specs.declared.Answer.{Answer}
 use Rattle.variables.specs.declared.singles.Exclusions.{Exclusions}
 use Rattle.variables.specs.declared.singles.Exclusions.the-variants.{AsWritten, LookedUp}
+use Rattle.variables.proofs.PartLaws.{spread, cut-spread}
+use Rattle.variables.proofs.FitLaws.{total}
 use Rattle.variables.proofs.CoreLaws.{targets-read}
 use Rattle.variables.proofs.MeantLaws.{understood}
 use Rattle.variables.proofs.PromiseLaws.{variablesOf, exclusionsOf, needed-is, parse-variables-numbers, parse-update-targets-numbers}
 
 -- ---- the pieces, with the bars between them
 
-onto-spread : (b : ℕ) (l : List (List ℕ)) → length (joined (onto b l)) + (length (onto b l) - 1) ≤ suc (length (joined l) + (length l - 1))
+kept-spread : (t : List ℕ) (x : Part) (qs : List Piece) → total (kept t x qs) + length (kept t x qs) ≤ suc (length t + (total qs + length qs))
 unfolding joined
-onto-spread b [] = omega arith
-onto-spread b (p ∷ ps) = omega arith
+kept-spread [] x qs = omega arith
+kept-spread (b ∷ t) x qs = omega (arith, length-append (b ∷ t) (joined (pieceTexts qs)))
 
-cut-spread : (s : List ℕ) → length (joined (cut s)) + (length (cut s) - 1) ≤ length s
-unfolding cut joined
-cut-spread [] = omega arith
-cut-spread (b ∷ r) = go (eqb b 124) (cut-spread r)
-  where
-    go : (t : Bool) → length (joined (cut r)) + (length (cut r) - 1) ≤ length r
-        → length (joined (pick t ([] ∷ cut r) (onto b (cut r)))) + (length (pick t ([] ∷ cut r) (onto b (cut r))) - 1) ≤ suc (length r)
-    go true h = omega arith
-    go false h = omega (arith, onto-spread b (cut r))
+filled-spread : (k : ℕ) (l : List (List ℕ)) → total (filledFrom k l) + length (filledFrom k l) ≤ spread l
+unfolding filledFrom joined
+filled-spread k [] = omega arith
+filled-spread k (p ∷ ps) =
+    let j = k + length p + 1 in
+    omega (arith, kept-spread (trimEnds p) (placeOf k p) (filledFrom j ps), filled-spread j ps, ends-fit white p, length-append p (joined ps))
 
-kept-spread : (t : List ℕ) (qs : List (List ℕ)) → length (joined (kept t qs)) + length (kept t qs) ≤ suc (length t + (length (joined qs) + length qs))
-unfolding joined
-kept-spread [] qs = omega arith
-kept-spread (b ∷ t) qs = omega (arith, length-append (b ∷ t) (joined qs))
-
-filled-spread : (l : List (List ℕ)) → length (joined (filled l)) + length (filled l) ≤ length (joined l) + length l
-unfolding filled joined
-filled-spread [] = omega arith
-filled-spread (p ∷ ps) = omega (arith, kept-spread (trimEnds p) (filled ps), filled-spread ps, ends-fit white p, length-append p (joined ps))
-
-pieces-spread : (s : List ℕ) → length (joined (pieces s)) + length (pieces s) ≤ suc (length s)
-unfolding pieces
-pieces-spread s = omega (arith, filled-spread (cut s), cut-spread s)
+pieces-spread : (s : List ℕ) → total (pieces s) + length (pieces s) ≤ suc (length s)
+unfolding piecesFrom
+pieces-spread s = omega (arith, filled-spread 0 (cut s), cut-spread s)
 
 -- ---- one piece
 
@@ -115,7 +105,7 @@ weighed LookedUp n = 3 * n
 -- what pieces of so many bytes, counted with one more for each, may come to
 abbrev Few : Exclusions → ℕ → Targets → Type 0
 Few n k (targets vs es) = 3 * length vs + weighed n (length es) ≤ k
-Few n k (refused i name) = Unit {0}
+Few n k (refused i name x) = Unit {0}
 
 none-few : (n : Exclusions) → Few n 0 (targets [] [])
 none-few AsWritten = omega arith
@@ -123,65 +113,65 @@ none-few LookedUp = omega arith
 
 more-few : (n : Exclusions) (j k : ℕ) (ts : Targets) → j ≤ k → Few n j ts → Few n k ts
 more-few n j k (targets vs es) l h = omega arith
-more-few n j k (refused i name) l h = tt
+more-few n j k (refused i name x) l h = tt
 
-variable-few : (n : Exclusions) (j k : ℕ) (x : Single) (ts : Targets) → Wide j x → Few n k ts → Few n (j + suc k) (withVariable x ts)
-variable-few n j k (variable v) (targets vs es) w h = omega arith
-variable-few n j k (variable v) (refused i name) w h = tt
-variable-few n j k (unknown name) (targets vs es) w h = tt
-variable-few n j k (unknown name) (refused i m) w h = tt
+variable-few : (n : Exclusions) (j k : ℕ) (x : Part) (y : Single) (ts : Targets) → Wide j y → Few n k ts → Few n (j + suc k) (withVariable x y ts)
+variable-few n j k x (variable v) (targets vs es) w h = omega arith
+variable-few n j k x (variable v) (refused i name z) w h = tt
+variable-few n j k x (unknown name) (targets vs es) w h = tt
+variable-few n j k x (unknown name) (refused i m z) w h = tt
 
-written-few : (k : ℕ) (e : List ℕ) (ts : Targets) → Few AsWritten k ts → Few AsWritten (suc (length e) + suc k) (withExclusion e ts)
-written-few k e (targets vs es) h = omega arith
-written-few k e (refused i name) h = tt
+written-few : (k : ℕ) (x : Part) (e : List ℕ) (ts : Targets) → Few AsWritten k ts → Few AsWritten (suc (length e) + suc k) (withExclusion x e ts)
+written-few k x e (targets vs es) h = omega arith
+written-few k x e (refused i name z) h = tt
 
-known-few : (k : ℕ) (l : Lookup) (name e : List ℕ) (ts : Targets) → 1 ≤ length e → Few LookedUp k ts → Few LookedUp (suc (length e) + suc k) (ifKnown l name (withExclusion e ts))
-known-few k (Code c) name e (targets vs es) l h = omega arith
-known-few k (Code c) name e (refused i m) l h = tt
-known-few k Unknown name e ts l h = tt
+known-few : (k : ℕ) (x : Part) (l : Lookup) (name e : List ℕ) (ts : Targets) → 1 ≤ length e → Few LookedUp k ts → Few LookedUp (suc (length e) + suc k) (ifKnown x l name (withExclusion x e ts))
+known-few k x (Code c) name e (targets vs es) l h = omega arith
+known-few k x (Code c) name e (refused i m z) l h = tt
+known-few k x Unknown name e ts l h = tt
 
-excluding-few : (n : Exclusions) (k : ℕ) (e : List ℕ) (ts : Targets) → Few n k ts → Few n (suc (length e) + suc k) (excludingOf n e ts)
+excluding-few : (n : Exclusions) (k : ℕ) (x : Part) (e : List ℕ) (ts : Targets) → Few n k ts → Few n (suc (length e) + suc k) (excludingOf n x e ts)
 unfolding split
-excluding-few AsWritten k e ts h = written-few k e ts h
-excluding-few LookedUp k [] ts h = rw (no-variable [] (omega arith)) tt
-excluding-few LookedUp k (b ∷ r) ts h = known-few k (variableCode (frontOf (atColon (b ∷ r)))) (frontOf (atColon (b ∷ r))) (b ∷ r) ts (omega arith) h
+excluding-few AsWritten k x e ts h = written-few k x e ts h
+excluding-few LookedUp k x [] ts h = rw (no-variable [] (omega arith)) tt
+excluding-few LookedUp k x (b ∷ r) ts h = known-few k x (variableCode (frontOf (atColon (b ∷ r)))) (frontOf (atColon (b ∷ r))) (b ∷ r) ts (omega arith) h
 
-piece-few : (n : Exclusions) (k : ℕ) (p : List ℕ) (ts : Targets) → Few n k ts → Few n (length p + suc k) (piece (excludingOf n) p ts)
-piece-few n k [] ts h = variable-few n 0 k (single []) ts (wide []) h
-piece-few n k (b ∷ r) ts h = go (eqb b 33)
+piece-few : (n : Exclusions) (k : ℕ) (x : Part) (p : List ℕ) (ts : Targets) → Few n k ts → Few n (length p + suc k) (piece (excludingOf n) x p ts)
+piece-few n k x [] ts h = variable-few n 0 k x (single []) ts (wide []) h
+piece-few n k x (b ∷ r) ts h = go (eqb b 33)
   where
-    go : (t : Bool) → Few n (suc (length r) + suc k) (pick t (excludingOf n r ts) (withVariable (single (b ∷ r)) ts))
-    go true = excluding-few n k r ts h
-    go false = variable-few n (suc (length r)) k (single (b ∷ r)) ts (wide (b ∷ r)) h
+    go : (t : Bool) → Few n (suc (length r) + suc k) (pick t (excludingOf n x r ts) (withVariable x (single (b ∷ r)) ts))
+    go true = excluding-few n k x r ts h
+    go false = variable-few n (suc (length r)) k x (single (b ∷ r)) ts (wide (b ∷ r)) h
 
-read-few : (n : Exclusions) (ps : List (List ℕ)) → Few n (length (joined ps) + length ps) (readAll (excludingOf n) ps)
+read-few : (n : Exclusions) (ps : List Piece) → Few n (total ps + length ps) (readAll (excludingOf n) ps)
 unfolding readAll joined
 read-few n [] = none-few n
 read-few n (p ∷ ps) =
-    more-few n (length p + suc (length (joined ps) + length ps)) (length (joined (p ∷ ps)) + suc (length ps)) (piece (excludingOf n) p (readAll (excludingOf n) ps))
-    (omega (arith, length-append p (joined ps)))
-    (piece-few n (length (joined ps) + length ps) p (readAll (excludingOf n) ps) (read-few n ps))
+    more-few n (length (p .text) + suc (total ps + length ps)) (total (p ∷ ps) + suc (length ps)) (piece (excludingOf n) (p .place) (p .text) (readAll (excludingOf n) ps))
+    (omega (arith, length-append (p .text) (joined (pieceTexts ps))))
+    (piece-few n (total ps + length ps) (p .place) (p .text) (readAll (excludingOf n) ps) (read-few n ps))
 
 list-few : (n : Exclusions) (s : List ℕ) → Few n (suc (length s)) (readAll (excludingOf n) (pieces s))
 list-few n s =
-    more-few n (length (joined (pieces s)) + length (pieces s)) (suc (length s)) (readAll (excludingOf n) (pieces s)) (pieces-spread s) (read-few n (pieces s))
+    more-few n (total (pieces s) + length (pieces s)) (suc (length s)) (readAll (excludingOf n) (pieces s)) (pieces-spread s) (read-few n (pieces s))
 
 -- The bound for variables: with none of these no exclusion is kept, and with one there is a byte to spare.
 abbrev Halved : ℕ → Targets → Type 0
 Halved k (targets vs es) = 2 * (length vs + length es) ≤ k
-Halved k (refused i name) = Unit {0}
+Halved k (refused i name x) = Unit {0}
 
 hung-few : (k : ℕ) (ts : Targets) → Few AsWritten (suc k) ts → Halved k (hanging AsWritten ts)
 hung-few k (targets [] es) h = omega arith
 hung-few k (targets (v ∷ vs) es) h = omega arith
-hung-few k (refused i name) h = tt
+hung-few k (refused i name x) h = tt
 
-pub variables-most : (s : List ℕ) (vs : List Variable) (es : List (List ℕ)) → targetsOf AsWritten s ≡ targets vs es → 2 * (length vs + length es) ≤ length s
+pub variables-most : (s : List ℕ) (vs : List (Sourced Variable)) (es : List (Sourced (List ℕ))) → targetsOf AsWritten s ≡ targets vs es → 2 * (length vs + length es) ≤ length s
 unfolding targetsOf
 variables-most s vs es e = subst (Halved (length s)) e (hung-few (length s) (readAll (excludingOf AsWritten) (pieces s)) (list-few AsWritten s))
 
 -- The bound for update targets.
-pub update-targets-most : (s : List ℕ) (vs : List Variable) (es : List (List ℕ)) → targetsOf LookedUp s ≡ targets vs es → 3 * (length vs + length es) ≤ length s + 1
+pub update-targets-most : (s : List ℕ) (vs : List (Sourced Variable)) (es : List (Sourced (List ℕ))) → targetsOf LookedUp s ≡ targets vs es → 3 * (length vs + length es) ≤ length s + 1
 unfolding targetsOf
 update-targets-most s vs es e =
     let h : 3 * length vs + 3 * length es ≤ suc (length s) = subst (Few LookedUp (suc (length s))) e (list-few LookedUp s) in
@@ -197,7 +187,7 @@ meant-are n s a =
     targets-read n s (u .vs) (u .read) ∙ ap (λ (i : ℕ). targets (u .vs) (keptOf (keptCount n i (length es)) es)) (u .count)
 
 crowded-never : (n : Exclusions) (s : List ℕ) (m most : ℕ)
-    → ((vs : List Variable) (es : List (List ℕ)) → targetsOf n s ≡ targets vs es → length vs + length es ≤ most) → most * variableWords ≤ m
+    → ((vs : List (Sourced Variable)) (es : List (Sourced (List ℕ))) → targetsOf n s ≡ targets vs es → length vs + length es ≤ most) → most * variableWords ≤ m
     → AllMeant n (pieces s) → roomFor variableWords m < needed n s → ⊥
 crowded-never n s m most b h a f =
     let l = b (variablesOf n s 0 a) (exclusionsOf n s 0) (meant-are n s a) in

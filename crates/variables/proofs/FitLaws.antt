@@ -13,14 +13,15 @@ use Rattle.ascii.specs.Trim.{trimEnds}
 use Rattle.ascii.specs.Splits.{Split, whole, halves}
 use Rattle.ascii.proofs.SplitLaws.{spread, split-spread}
 use Rattle.ascii.proofs.TrimLaws.{ends-fit}
+use Rattle.lent.specs.Sources.{Part}
 use Rattle.lent.specs.Buffers.{joined}
 use Rattle.lent.specs.Layout.{textsOf}
 use Rattle.names.specs.Variables.{variableCode}
 use Rattle.names.specs.declared.Lookup.{Lookup}
 use Rattle.names.specs.declared.Lookup.the-variants.{Code, Unknown}
-use Rattle.variables.specs.Parts.{onto, cut, kept, filled, pieces}
+use Rattle.variables.specs.Parts.{onto, cut, Piece, pieceTexts, placeOf, kept, filledFrom, piecesFrom, pieces}
 use Rattle.variables.specs.Variables.{atColon, frontOf, Selection, none, key, regex, isRegex, selection, Single, variable, unknown, named, splitSingle, single, Targets, targets, refused, withVariable, withExclusion, ifKnown, piece, readAll}
-use Rattle.variables.specs.Layout.{selectionText, itself, selectionTexts, texts}
+use Rattle.variables.specs.Layout.{selectionText, exclusionText, selectionTexts, texts}
 use Rattle.variables.specs.Steps.{excludingOf, hanging, targetsOf}
 use Rattle.variables.specs.declared.singles.Exclusions.{Exclusions}
 use Rattle.variables.specs.declared.singles.Exclusions.the-variants.{AsWritten, LookedUp}
@@ -41,33 +42,39 @@ cut-total (b ∷ r) = go (eqb b 124) (cut-total r)
     go true h = omega arith
     go false h = omega (arith, onto-total b (cut r))
 
-kept-total : (t : List ℕ) (qs : List (List ℕ)) → length (joined (kept t qs)) ≡ length t + length (joined qs)
+-- the bytes of pieces
+abbrev pub total : List Piece → ℕ
+total ps = length (joined (pieceTexts ps))
+
+kept-total : (t : List ℕ) (x : Part) (qs : List Piece) → total (kept t x qs) ≡ length t + total qs
 unfolding joined
-kept-total [] qs = omega arith
-kept-total (b ∷ t) qs = length-append (b ∷ t) (joined qs)
+kept-total [] x qs = omega arith
+kept-total (b ∷ t) x qs = length-append (b ∷ t) (joined (pieceTexts qs))
 
-kept-count : (t : List ℕ) (qs : List (List ℕ)) → length qs ≤ length (joined qs) → length (kept t qs) ≤ length (joined (kept t qs))
+kept-count : (t : List ℕ) (x : Part) (qs : List Piece) → length qs ≤ total qs → length (kept t x qs) ≤ total (kept t x qs)
 unfolding joined
-kept-count [] qs h = h
-kept-count (b ∷ t) qs h = omega (arith, length-append (b ∷ t) (joined qs))
+kept-count [] x qs h = h
+kept-count (b ∷ t) x qs h = omega (arith, length-append (b ∷ t) (joined (pieceTexts qs)))
 
-filled-total : (l : List (List ℕ)) → length (joined (filled l)) ≤ length (joined l)
-unfolding filled joined
-filled-total [] = omega arith
-filled-total (p ∷ ps) = omega (arith, kept-total (trimEnds p) (filled ps), filled-total ps, ends-fit white p, length-append p (joined ps))
+filled-total : (k : ℕ) (l : List (List ℕ)) → total (filledFrom k l) ≤ length (joined l)
+unfolding filledFrom joined
+filled-total k [] = omega arith
+filled-total k (p ∷ ps) =
+    let j = k + length p + 1 in
+    omega (arith, kept-total (trimEnds p) (placeOf k p) (filledFrom j ps), filled-total j ps, ends-fit white p, length-append p (joined ps))
 
-filled-count : (l : List (List ℕ)) → length (filled l) ≤ length (joined (filled l))
-unfolding filled joined
-filled-count [] = omega arith
-filled-count (p ∷ ps) = kept-count (trimEnds p) (filled ps) (filled-count ps)
+filled-count : (k : ℕ) (l : List (List ℕ)) → length (filledFrom k l) ≤ total (filledFrom k l)
+unfolding filledFrom joined
+filled-count k [] = omega arith
+filled-count k (p ∷ ps) = kept-count (trimEnds p) (placeOf k p) (filledFrom (k + length p + 1) ps) (filled-count (k + length p + 1) ps)
 
-pub pieces-total : (s : List ℕ) → length (joined (pieces s)) ≤ length s
-unfolding pieces
-pieces-total s = omega (arith, filled-total (cut s), cut-total s)
+pub pieces-total : (s : List ℕ) → length (joined (pieceTexts (pieces s))) ≤ length s
+unfolding piecesFrom
+pieces-total s = omega (arith, filled-total 0 (cut s), cut-total s)
 
 pub pieces-count : (s : List ℕ) → length (pieces s) ≤ length s
-unfolding pieces
-pieces-count s = omega (arith, filled-count (cut s), filled-total (cut s), cut-total s)
+unfolding piecesFrom
+pieces-count s = omega (arith, filled-count 0 (cut s), filled-total 0 (cut s), cut-total s)
 
 -- ---- one piece
 
@@ -105,58 +112,58 @@ single-small (b ∷ r) = go (eqb b 38)
 
 -- no more than k bytes of text, and no more than m records
 abbrev pub Within : ℕ → ℕ → Targets → Type 0
-Within k m (targets vs es) = (length (selectionTexts vs) + length (textsOf itself es) ≤ k) × (length vs + length es ≤ m)
-Within k m (refused i name) = Unit {0}
+Within k m (targets vs es) = (length (selectionTexts vs) + length (textsOf exclusionText es) ≤ k) × (length vs + length es ≤ m)
+Within k m (refused i name x) = Unit {0}
 
-variable-within : (j k m : ℕ) (x : Single) (ts : Targets) → Small j x → Within k m ts → Within (j + k) (suc m) (withVariable x ts)
+variable-within : (j k m : ℕ) (x : Part) (y : Single) (ts : Targets) → Small j y → Within k m ts → Within (j + k) (suc m) (withVariable x y ts)
 unfolding textsOf
-variable-within j k m (variable v) (targets vs es) h w = (omega (arith, length-append (selectionText (v .chosen)) (selectionTexts vs)), omega arith)
-variable-within j k m (variable v) (refused i n) h w = tt
-variable-within j k m (unknown n) (targets vs es) h w = tt
-variable-within j k m (unknown n) (refused i q) h w = tt
+variable-within j k m x (variable v) (targets vs es) h w = (omega (arith, length-append (selectionText (v .chosen)) (selectionTexts vs)), omega arith)
+variable-within j k m x (variable v) (refused i n z) h w = tt
+variable-within j k m x (unknown n) (targets vs es) h w = tt
+variable-within j k m x (unknown n) (refused i q z) h w = tt
 
-exclusion-within : (k m : ℕ) (e : List ℕ) (ts : Targets) → Within k m ts → Within (suc (length e) + k) (suc m) (withExclusion e ts)
+exclusion-within : (k m : ℕ) (x : Part) (e : List ℕ) (ts : Targets) → Within k m ts → Within (suc (length e) + k) (suc m) (withExclusion x e ts)
 unfolding textsOf
-exclusion-within k m e (targets vs es) w = (omega (arith, length-append e (textsOf itself es)), omega arith)
-exclusion-within k m e (refused i n) w = tt
+exclusion-within k m x e (targets vs es) w = (omega (arith, length-append e (textsOf exclusionText es)), omega arith)
+exclusion-within k m x e (refused i n z) w = tt
 
-known-within : (k m : ℕ) (l : Lookup) (n : List ℕ) (ts : Targets) → Within k m ts → Within k m (ifKnown l n ts)
-known-within k m (Code c) n ts w = w
-known-within k m Unknown n ts w = tt
+known-within : (k m : ℕ) (x : Part) (l : Lookup) (n : List ℕ) (ts : Targets) → Within k m ts → Within k m (ifKnown x l n ts)
+known-within k m x (Code c) n ts w = w
+known-within k m x Unknown n ts w = tt
 
-excluding-within : (n : Exclusions) (k m : ℕ) (e : List ℕ) (ts : Targets) → Within k m ts → Within (suc (length e) + k) (suc m) (excludingOf n e ts)
-excluding-within AsWritten k m e ts w = exclusion-within k m e ts w
-excluding-within LookedUp k m e ts w = known-within (suc (length e) + k) (suc m) (variableCode (frontOf (atColon e))) (frontOf (atColon e)) (withExclusion e ts) (exclusion-within k m e ts w)
+excluding-within : (n : Exclusions) (k m : ℕ) (x : Part) (e : List ℕ) (ts : Targets) → Within k m ts → Within (suc (length e) + k) (suc m) (excludingOf n x e ts)
+excluding-within AsWritten k m x e ts w = exclusion-within k m x e ts w
+excluding-within LookedUp k m x e ts w = known-within (suc (length e) + k) (suc m) x (variableCode (frontOf (atColon e))) (frontOf (atColon e)) (withExclusion x e ts) (exclusion-within k m x e ts w)
 
-piece-within : (n : Exclusions) (k m : ℕ) (p : List ℕ) (ts : Targets) → Within k m ts → Within (length p + k) (suc m) (piece (excludingOf n) p ts)
-piece-within n k m [] ts w = variable-within 0 k m (single []) ts (single-small []) w
-piece-within n k m (b ∷ r) ts w = go (eqb b 33)
+piece-within : (n : Exclusions) (k m : ℕ) (x : Part) (p : List ℕ) (ts : Targets) → Within k m ts → Within (length p + k) (suc m) (piece (excludingOf n) x p ts)
+piece-within n k m x [] ts w = variable-within 0 k m x (single []) ts (single-small []) w
+piece-within n k m x (b ∷ r) ts w = go (eqb b 33)
   where
-    go : (t : Bool) → Within (suc (length r) + k) (suc m) (pick t (excludingOf n r ts) (withVariable (single (b ∷ r)) ts))
-    go true = excluding-within n k m r ts w
-    go false = variable-within (suc (length r)) k m (single (b ∷ r)) ts (single-small (b ∷ r)) w
+    go : (t : Bool) → Within (suc (length r) + k) (suc m) (pick t (excludingOf n x r ts) (withVariable x (single (b ∷ r)) ts))
+    go true = excluding-within n k m x r ts w
+    go false = variable-within (suc (length r)) k m x (single (b ∷ r)) ts (single-small (b ∷ r)) w
 
-read-within : (n : Exclusions) (ps : List (List ℕ)) → Within (length (joined ps)) (length ps) (readAll (excludingOf n) ps)
+read-within : (n : Exclusions) (ps : List Piece) → Within (total ps) (length ps) (readAll (excludingOf n) ps)
 unfolding readAll joined textsOf
 read-within n [] = (omega arith, omega arith)
 read-within n (p ∷ ps) =
-    subst (λ (k : ℕ). Within k (suc (length ps)) (piece (excludingOf n) p (readAll (excludingOf n) ps))) (sym (length-append p (joined ps)))
-    (piece-within n (length (joined ps)) (length ps) p (readAll (excludingOf n) ps) (read-within n ps))
+    subst (λ (k : ℕ). Within k (suc (length ps)) (piece (excludingOf n) (p .place) (p .text) (readAll (excludingOf n) ps))) (sym (length-append (p .text) (joined (pieceTexts ps))))
+    (piece-within n (total ps) (length ps) (p .place) (p .text) (readAll (excludingOf n) ps) (read-within n ps))
 
 hanging-within : (n : Exclusions) (k m : ℕ) (ts : Targets) → Within k m ts → Within k m (hanging n ts)
 unfolding textsOf
 hanging-within AsWritten k m (targets [] es) w = (omega arith, omega arith)
 hanging-within AsWritten k m (targets (v ∷ vs) es) w = w
-hanging-within AsWritten k m (refused i name) w = w
+hanging-within AsWritten k m (refused i name x) w = w
 hanging-within LookedUp k m ts w = w
 
 more-within : (j k m q : ℕ) (ts : Targets) → j ≤ k → m ≤ q → Within j m ts → Within k q ts
 more-within j k m q (targets vs es) h g w = (omega arith, omega arith)
-more-within j k m q (refused i name) h g w = tt
+more-within j k m q (refused i name x) h g w = tt
 
 -- what a list of that length is read to
 pub targets-within : (n : Exclusions) (s : List ℕ) → Within (length s) (length s) (targetsOf n s)
 unfolding targetsOf
 targets-within n s =
     hanging-within n (length s) (length s) (readAll (excludingOf n) (pieces s))
-    (more-within (length (joined (pieces s))) (length s) (length (pieces s)) (length s) (readAll (excludingOf n) (pieces s)) (pieces-total s) (pieces-count s) (read-within n (pieces s)))
+    (more-within (total (pieces s)) (length s) (length (pieces s)) (length s) (readAll (excludingOf n) (pieces s)) (pieces-total s) (pieces-count s) (read-within n (pieces s)))

@@ -19,7 +19,7 @@ answerFrom g =
     (pick (eqb (g .number) 1) Answer.TooLong
     (pick (eqb (g .number) 2) (Answer.NotAscii (v 0))
     (pick (eqb (g .number) 3) Answer.Short
-    (pick (eqb (g .number) 7) (Answer.Unknown (v 0) (v 1))
+    (pick (eqb (g .number) 7) (Answer.Unknown (v 0) (v 1) (v 2))
     (Answer.NoRoom (v 0))))))
 
 answer-back : (r : Answer) → answerFrom (answerGiven r) ≡ r
@@ -28,7 +28,7 @@ answer-back (Answer.Read count used) = refl
 answer-back Answer.TooLong = refl
 answer-back (Answer.NotAscii place) = refl
 answer-back Answer.Short = refl
-answer-back (Answer.Unknown piece name) = refl
+answer-back (Answer.Unknown piece name span) = refl
 answer-back (Answer.NoRoom needed) = refl
 
 -- Two answers that give the same back are the same.

@@ -19,7 +19,7 @@ module _ {A : Type 0} {words : ℕ → A → List ℕ} {text-of : A → List ℕ
   pub records-long : length records₁ ≡ length records
   records-long = ap length (x .words-laid) ∙ each-length records (place * variableWords) (recordsOf words text-of offset xs)
 
-  -- where the next text goes, and with records of five words the next record
+  -- where the next text goes, and with records of so many words the next record
   pub text-next : used ≡ offset + length (joined (eachText text-of xs))
   text-next = x .used-is ∙ ap (λ (l : List ℕ). offset + length l) (sym (texts-joined text-of xs))
 

@@ -4,6 +4,7 @@ pub mod LayoutLaws
 pub mod SingleLaws
 pub mod ScanLaws
 pub mod FitLaws
+pub mod SourceLaws
 pub mod CoreLaws
 pub mod AnswerLaws
 pub mod GivenLaws

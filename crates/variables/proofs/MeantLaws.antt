@@ -8,9 +8,11 @@ use native.Mathlib.Omega.{arith}
 use lib.ListN.{length}
 use lib.Dec.{eqb}
 use Rattle.ascii.specs.Splits.{Split, whole, halves}
+use Rattle.lent.specs.Sources.{Part, Sourced, sourced}
 use Rattle.names.specs.Variables.{variableCode}
 use Rattle.names.specs.declared.Lookup.{Lookup}
 use Rattle.names.specs.declared.Lookup.the-variants as Lookup
+use Rattle.variables.specs.Parts.{Piece}
 use Rattle.variables.specs.Variables.{atColon, frontOf, Selection, none, selection, Variable, Single, variable, unknown, named, splitSingle, single, Targets, targets, refused, withVariable, withExclusion, ifKnown, piece, readAll}
 use Rattle.variables.specs.Steps.{excludingOf, behindMark, excludedOf}
 use Rattle.variables.specs.Calls.{name, asked, Meant, unasked, found, AllMeant, none as noneMeant, also, Missing, unmarked, unmarkedOf}
@@ -31,14 +33,16 @@ split-by (halves s t) counts = refl
 
 -- a piece that is read, as an exclusion or as a variable
 data Reads (n : Exclusions) (p : List ℕ) : Type 0 where
-  excludes : (e : List ℕ) → ((ts : Targets) → piece (excludingOf n) p ts ≡ withExclusion e ts) → ((es : List (List ℕ)) → behindMark p es ≡ e ∷ es)
-      → ((ps : List (List ℕ)) → length (unmarked p ps) ≡ length ps) → Reads n p
-  adds : (v : Variable) → ((ts : Targets) → piece (excludingOf n) p ts ≡ withVariable (variable v) ts) → ((es : List (List ℕ)) → behindMark p es ≡ es)
-      → ((ps : List (List ℕ)) → length (unmarked p ps) ≡ suc (length ps)) → Reads n p
+  excludes : (e : List ℕ) → ((z : Part) (ts : Targets) → piece (excludingOf n) z p ts ≡ withExclusion z e ts)
+      → ((z : Part) (es : List (Sourced (List ℕ))) → behindMark z p es ≡ sourced e z ∷ es)
+      → ((q : Piece) (ps : List Piece) → length (unmarked p q ps) ≡ length ps) → Reads n p
+  adds : (v : Variable) → ((z : Part) (ts : Targets) → piece (excludingOf n) z p ts ≡ withVariable z (variable v) ts)
+      → ((z : Part) (es : List (Sourced (List ℕ))) → behindMark z p es ≡ es)
+      → ((q : Piece) (ps : List Piece) → length (unmarked p q ps) ≡ suc (length ps)) → Reads n p
 
 -- or refused with its name
 abbrev Refuses : Exclusions → List ℕ → List ℕ → Type 0
-Refuses n p x = (ts : Targets) → piece (excludingOf n) p ts ≡ refused 0 x
+Refuses n p x = (z : Part) (ts : Targets) → piece (excludingOf n) z p ts ≡ refused 0 x z
 
 -- by what is asked and found
 data Judged (n : Exclusions) (p : List ℕ) : Type 0 where
@@ -47,45 +51,46 @@ data Judged (n : Exclusions) (p : List ℕ) : Type 0 where
 
 module _ (n : Exclusions) where
   -- a variable, by its name up to the colon
-  by-name : (p : List ℕ) (x : Split) (counts : Bool) → asked n p ≡ name (frontOf x) → ((ts : Targets) → piece (excludingOf n) p ts ≡ withVariable (splitSingle x counts) ts)
-      → ((es : List (List ℕ)) → behindMark p es ≡ es) → ((ps : List (List ℕ)) → length (unmarked p ps) ≡ suc (length ps)) → Judged n p
+  by-name : (p : List ℕ) (x : Split) (counts : Bool) → asked n p ≡ name (frontOf x)
+      → ((z : Part) (ts : Targets) → piece (excludingOf n) z p ts ≡ withVariable z (splitSingle x counts) ts)
+      → ((z : Part) (es : List (Sourced (List ℕ))) → behindMark z p es ≡ es) → ((q : Piece) (ps : List Piece) → length (unmarked p q ps) ≡ suc (length ps)) → Judged n p
   by-name p x counts a h m u = go (variableCode (frontOf x)) refl
     where
       go : (l : Lookup) → variableCode (frontOf x) ≡ l → Judged n p
       go (Lookup.Code c) e =
           let y = split-by x counts ∙ ap (λ (l : Lookup). named l (frontOf x) counts (chosenBy x)) e in
-          fine (found (frontOf x) c a e) (adds (record { code = c; counts = counts; chosen = chosenBy x }) (λ ts. h ts ∙ ap (λ (y : Single). withVariable y ts) y) m u)
+          fine (found (frontOf x) c a e) (adds (record { code = c; counts = counts; chosen = chosenBy x }) (λ z ts. h z ts ∙ ap (λ (y : Single). withVariable z y ts) y) m u)
       go Lookup.Unknown e =
           let y = split-by x counts ∙ ap (λ (l : Lookup). named l (frontOf x) counts (chosenBy x)) e in
-          bad (frontOf x) a e (λ ts. h ts ∙ unknown-first (splitSingle x counts) (frontOf x) y ts)
+          bad (frontOf x) a e (λ z ts. h z ts ∙ unknown-first z (splitSingle x counts) (frontOf x) y ts)
 
 -- an exclusion, by whether its name is looked up
 behind : (n : Exclusions) (b : ℕ) (r : List ℕ) → eqb b 33 ≡ true → Judged n (b ∷ r)
-behind AsWritten b r e = fine (unasked (rw e)) (excludes r (λ ts. rw e) (λ es. rw e) (λ ps. rw e))
+behind AsWritten b r e = fine (unasked (rw e)) (excludes r (λ z ts. rw e) (λ z es. rw e) (λ q ps. rw e))
 behind LookedUp b r e = go (variableCode (frontOf (atColon r))) refl
   where
     go : (l : Lookup) → variableCode (frontOf (atColon r)) ≡ l → Judged LookedUp (b ∷ r)
     go (Lookup.Code c) f =
         fine (found (frontOf (atColon r)) c (rw e) f)
-        (excludes r (λ ts. rw e (ap (λ (l : Lookup). ifKnown l (frontOf (atColon r)) (withExclusion r ts)) f)) (λ es. rw e) (λ ps. rw e))
+        (excludes r (λ z ts. rw e (ap (λ (l : Lookup). ifKnown z l (frontOf (atColon r)) (withExclusion z r ts)) f)) (λ z es. rw e) (λ q ps. rw e))
     go Lookup.Unknown f =
-        bad (frontOf (atColon r)) (rw e) f (λ ts. rw e (ap (λ (l : Lookup). ifKnown l (frontOf (atColon r)) (withExclusion r ts)) f))
+        bad (frontOf (atColon r)) (rw e) f (λ z ts. rw e (ap (λ (l : Lookup). ifKnown z l (frontOf (atColon r)) (withExclusion z r ts)) f))
 
 judged : (n : Exclusions) (p : List ℕ) → Judged n p
 unfolding single
-judged n [] = by-name n [] (atColon []) false refl (λ ts. refl) (λ es. refl) (λ ps. refl)
+judged n [] = by-name n [] (atColon []) false refl (λ z ts. refl) (λ z es. refl) (λ q ps. refl)
 judged n (b ∷ r) = go (eqb b 33) refl (eqb b 38) refl
   where
     go : (t : Bool) → eqb b 33 ≡ t → (u : Bool) → eqb b 38 ≡ u → Judged n (b ∷ r)
     go true e u f = behind n b r e
-    go false e true f = by-name n (b ∷ r) (atColon r) true (rw (e, f)) (λ ts. rw (e, f)) (λ es. rw e) (λ ps. rw e)
-    go false e false f = by-name n (b ∷ r) (atColon (b ∷ r)) false (rw (e, f)) (λ ts. rw (e, f)) (λ es. rw e) (λ ps. rw e)
+    go false e true f = by-name n (b ∷ r) (atColon r) true (rw (e, f)) (λ z ts. rw (e, f)) (λ z es. rw e) (λ q ps. rw e)
+    go false e false f = by-name n (b ∷ r) (atColon (b ∷ r)) false (rw (e, f)) (λ z ts. rw (e, f)) (λ z es. rw e) (λ q ps. rw e)
 
 -- ---- a list
 
 -- every name is meant: so many variables are read, and the exclusions
-pub record Understood (n : Exclusions) (ps : List (List ℕ)) : Type 0 where
-  pub vs : List Variable
+pub record Understood (n : Exclusions) (ps : List Piece) : Type 0 where
+  pub vs : List (Sourced Variable)
   pub read : readAll (excludingOf n) ps ≡ targets vs (excludedOf ps)
   pub count : length vs ≡ length (unmarkedOf ps)
 
@@ -111,13 +116,13 @@ module _ (n : Exclusions) where
     where
       go : Judged n p → Refuses n p x
       go (fine m r) = absurd (never m a u)
-      go (bad y b v h) = let k : y ≡ x = cc in λ ts. h ts ∙ ap (refused 0) k
+      go (bad y b v h) = let k : y ≡ x = cc in λ z ts. h z ts ∙ ap (λ (t : List ℕ). refused 0 t z) k
 
-  pub all-or-missing : (ps : List (List ℕ)) → AllMeant n ps ⊎ Missing n ps
+  pub all-or-missing : (ps : List Piece) → AllMeant n ps ⊎ Missing n ps
   all-or-missing [] = inl noneMeant
-  all-or-missing (p ∷ ps) = go (judged n p) (all-or-missing ps)
+  all-or-missing (p ∷ ps) = go (judged n (p .text)) (all-or-missing ps)
     where
-      go : Judged n p → AllMeant n ps ⊎ Missing n ps → AllMeant n (p ∷ ps) ⊎ Missing n (p ∷ ps)
+      go : Judged n (p .text) → AllMeant n ps ⊎ Missing n ps → AllMeant n (p ∷ ps) ⊎ Missing n (p ∷ ps)
       go (bad x a u h) y = inr (record { passed = []; this = p; after = ps; text = x; list = refl; meant = noneMeant; asks = a; unknown = u })
       go (fine m r) (inl y) = inl (also m y)
       go (fine m r) (inr y) = inr (record {
@@ -125,42 +130,44 @@ module _ (n : Exclusions) where
         this = y .this;
         after = y .after;
         text = y .text;
-        list = ap (λ (l : List (List ℕ)). p ∷ l) (y .list);
+        list = ap (λ (l : List Piece). p ∷ l) (y .list);
         meant = also m (y .meant);
         asks = y .asks;
         unknown = y .unknown;
       })
 
-  pub understood : {ps : List (List ℕ)} → AllMeant n ps → Understood n ps
+  pub understood : {ps : List Piece} → AllMeant n ps → Understood n ps
   unfolding readAll excludedOf unmarkedOf
   understood noneMeant = record { vs = []; read = refl; count = refl }
   understood (also {p} {ps} m a) = go (reads-of m) (understood a)
     where
-      go : Reads n p → Understood n ps → Understood n (p ∷ ps)
+      go : Reads n (p .text) → Understood n ps → Understood n (p ∷ ps)
       go (excludes e h k u) y = record {
         vs = y .vs;
-        read = h (readAll (excludingOf n) ps) ∙ ap (withExclusion e) (y .read) ∙ ap (targets (y .vs)) (sym (k (excludedOf ps)));
-        count = y .count ∙ sym (u (unmarkedOf ps));
+        read = h (p .place) (readAll (excludingOf n) ps) ∙ ap (withExclusion (p .place) e) (y .read) ∙ ap (targets (y .vs)) (sym (k (p .place) (excludedOf ps)));
+        count = y .count ∙ sym (u p (unmarkedOf ps));
       }
       go (adds v h k u) y = record {
-        vs = v ∷ y .vs;
-        read = h (readAll (excludingOf n) ps) ∙ ap (withVariable (variable v)) (y .read) ∙ ap (targets (v ∷ y .vs)) (sym (k (excludedOf ps)));
-        count = ap suc (y .count) ∙ sym (u (unmarkedOf ps));
+        vs = sourced v (p .place) ∷ y .vs;
+        read = h (p .place) (readAll (excludingOf n) ps) ∙ ap (withVariable (p .place) (variable v)) (y .read) ∙ ap (targets (sourced v (p .place) ∷ y .vs)) (sym (k (p .place) (excludedOf ps)));
+        count = ap suc (y .count) ∙ sym (u p (unmarkedOf ps));
       }
 
   -- what is read before a refusal only counts
-  refused-after : {ps : List (List ℕ)} (rest : List (List ℕ)) (x : List ℕ) → AllMeant n ps → readAll (excludingOf n) rest ≡ refused 0 x
-      → readAll (excludingOf n) (ps ++ rest) ≡ refused (length ps) x
+  refused-after : {ps : List Piece} (rest : List Piece) (x : List ℕ) (z : Part) → AllMeant n ps → readAll (excludingOf n) rest ≡ refused 0 x z
+      → readAll (excludingOf n) (ps ++ rest) ≡ refused (length ps) x z
   unfolding readAll
-  refused-after rest x noneMeant e = e
-  refused-after rest x (also {p} {ps} m a) e = go (reads-of m) (refused-after rest x a e)
+  refused-after rest x z noneMeant e = e
+  refused-after rest x z (also {p} {ps} m a) e = go (reads-of m) (refused-after rest x z a e)
     where
-      go : Reads n p → readAll (excludingOf n) (ps ++ rest) ≡ refused (length ps) x → piece (excludingOf n) p (readAll (excludingOf n) (ps ++ rest)) ≡ refused (suc (length ps)) x
-      go (excludes d h k u) y = h (readAll (excludingOf n) (ps ++ rest)) ∙ ap (withExclusion d) y
-      go (adds v h k u) y = h (readAll (excludingOf n) (ps ++ rest)) ∙ ap (withVariable (variable v)) y
+      go : Reads n (p .text) → readAll (excludingOf n) (ps ++ rest) ≡ refused (length ps) x z
+          → piece (excludingOf n) (p .place) (p .text) (readAll (excludingOf n) (ps ++ rest)) ≡ refused (suc (length ps)) x z
+      go (excludes d h k u) y = h (p .place) (readAll (excludingOf n) (ps ++ rest)) ∙ ap (withExclusion (p .place) d) y
+      go (adds v h k u) y = h (p .place) (readAll (excludingOf n) (ps ++ rest)) ∙ ap (withVariable (p .place) (variable v)) y
 
-  pub refused-there : {ps : List (List ℕ)} (m : Missing n ps) → readAll (excludingOf n) ps ≡ refused (length (m .passed)) (m .text)
+  pub refused-there : {ps : List Piece} (m : Missing n ps) → readAll (excludingOf n) ps ≡ refused (length (m .passed)) (m .text) (m .this .place)
   unfolding readAll
   refused-there m =
       ap (readAll (excludingOf n)) (m .list)
-      ∙ refused-after (m .this ∷ m .after) (m .text) (m .meant) (refuses-of (m .this) (m .text) (m .asks) (m .unknown) (readAll (excludingOf n) (m .after)))
+      ∙ refused-after (m .this ∷ m .after) (m .text) (m .this .place) (m .meant)
+      (refuses-of (m .this .text) (m .text) (m .asks) (m .unknown) (m .this .place) (readAll (excludingOf n) (m .after)))

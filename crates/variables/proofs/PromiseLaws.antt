@@ -10,6 +10,7 @@ use lib.ListN.{length}
 use lib.Dec.{ltb}
 use borrow.Author.Tests.{lt-ltb, le-ltb, ltb-true, ltb-false}
 use Rattle.lent.specs.Sizes.{limit, variableWords, roomFor}
+use Rattle.lent.specs.Sources.{partWord, Sourced}
 use Rattle.lent.specs.Buffers.{zeros, padded}
 use Rattle.lent.specs.Gates.{gateOf}
 use Rattle.lent.specs.Table.{Given, noRoom, unknownVariable, Outcome, refuses, reads, pastGate, Filled, givenBy, textBy, recordsBy}
@@ -39,10 +40,10 @@ use Rattle.variables.proofs.MeantLaws.{all-or-missing, understood, refu
 
 module _ (n : Exclusions) (s : List ℕ) (m : ℕ) where
   -- what is read where every name is meant
-  abbrev pub variablesOf : AllMeant n (pieces s) → List Variable
+  abbrev pub variablesOf : AllMeant n (pieces s) → List (Sourced Variable)
   variablesOf a = understood n a .vs
 
-  abbrev pub exclusionsOf : List (List ℕ)
+  abbrev pub exclusionsOf : List (Sourced (List ℕ))
   exclusionsOf = keptOf (keptCount n (length (unmarkedOf (pieces s))) (length (excludedOf (pieces s)))) (excludedOf (pieces s))
 
   read-is : (a : AllMeant n (pieces s)) → readOutcome n s m ≡ roomed m (variablesOf a) exclusionsOf
@@ -55,8 +56,8 @@ module _ (n : Exclusions) (s : List ℕ) (m : ℕ) where
   pub needed-is : (a : AllMeant n (pieces s)) → length (variablesOf a) + length exclusionsOf ≡ needed n s
   needed-is a = ap₂ _+_ (understood n a .count) (sym (kept-long n (length (unmarkedOf (pieces s))) (excludedOf (pieces s))))
 
-  pub missing-is : (x : Missing n (pieces s)) → readOutcome n s m ≡ refuses (unknownVariable (length (x .passed)) (x .text))
-  missing-is x = refused-is n s m (length (x .passed)) (x .text) (targets-refused n s (length (x .passed)) (x .text) (refused-there n x))
+  pub missing-is : (x : Missing n (pieces s)) → readOutcome n s m ≡ refuses (unknownVariable (length (x .passed)) (x .text) (x .this .place))
+  missing-is x = refused-is n s m (length (x .passed)) (x .text) (x .this .place) (targets-refused n s (length (x .passed)) (x .text) (x .this .place) (refused-there n x))
 
   pub crowded-is : AllMeant n (pieces s) → roomFor variableWords m < needed n s → readOutcome n s m ≡ refuses (noRoom (needed n s))
   crowded-is a h =
@@ -114,9 +115,9 @@ pub record Numbers (n : Exclusions) (s text text′ records records′ : List �
   pub long : limit < length s → (r ≡ Answer.TooLong) × (text′ ≡ text) × (records′ ≡ records)
   pub high : (p : ℕ) → (length s ≤ limit) × FirstAt s p → (r ≡ Answer.NotAscii p) × (text′ ≡ text) × (records′ ≡ records)
   pub short : Shortened s (length text) (length s) → (r ≡ Answer.Short) × (text′ ≡ text) × (records′ ≡ records)
-  -- 7 gives the first such piece; the name stands in the text as written, and all else is zero.
+  -- 7 gives the first such piece and its span; the name stands in the text as written, and all else is zero.
   pub missed : Opened s (length text) (length s) → (x : Missing n (pieces s))
-      → (r ≡ Answer.Unknown (length (x .passed)) (length (x .text))) × (text′ ≡ padded (length text) (x .text)) × (records′ ≡ zeros (length records))
+      → (r ≡ Answer.Unknown (length (x .passed)) (length (x .text)) (partWord (x .this .place))) × (text′ ≡ padded (length text) (x .text)) × (records′ ≡ zeros (length records))
   -- 4 gives the records needed, and all is zero.
   pub full : Opened s (length text) (length s) → AllMeant n (pieces s) → roomFor variableWords (length records) < needed n s
       → (r ≡ Answer.NoRoom (needed n s)) × (text′ ≡ zeros (length text)) × (records′ ≡ zeros (length records))
@@ -162,7 +163,7 @@ module _ (n : Exclusions) (s : List ℕ) {text text′ records records′ : List
         long = λ h. by-outcome _ Answer.TooLong (at-gate Gate.TooLong h) refl;
         high = λ p h. by-outcome _ (Answer.NotAscii p) (at-gate (Gate.NotAscii p) h) refl;
         short = λ h. by-outcome _ Answer.Short (at-gate Gate.Short h) refl;
-        missed = λ o y. by-outcome _ (Answer.Unknown (length (y .passed)) (length (y .text))) (at-gate Gate.Open o ∙ missing-is n s m y) refl;
+        missed = λ o y. by-outcome _ (Answer.Unknown (length (y .passed)) (length (y .text)) (partWord (y .this .place))) (at-gate Gate.Open o ∙ missing-is n s m y) refl;
         full = λ o a h. by-outcome _ (Answer.NoRoom (needed n s)) (at-gate Gate.Open o ∙ crowded-is n s m a h) refl;
         read = λ o a h. by-outcome _ (Answer.Read (needed n s) (length (texts (variablesOf n s 0 a) (exclusionsOf n s 0)))) (at-gate Gate.Open o ∙ roomy-is n s m a h)
             (rw (needed-is n s m a));

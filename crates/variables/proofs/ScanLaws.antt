@@ -11,14 +11,15 @@ use lib.Dec.{eqb}
 use borrow.Author.Tests.{eqb-true, eqb-false, ne-eqb}
 use Rattle.ascii.specs.Choice.{pick}
 use Rattle.ascii.proofs.ListLaws.{rest-is}
-use Rattle.lent.specs.Sizes.{limit, variableWords}
+use Rattle.lent.specs.Sizes.{limit, spanWord, variableWords}
+use Rattle.lent.specs.Sources.{Part, part as placed, Sourced, sourced}
 use Rattle.lent.specs.Buffers.{stored}
 use Rattle.lent.specs.Layout.{textsOf}
 use Rattle.lent.proofs.LayoutLaws.{texts-more, count-more}
-use Rattle.variables.specs.Parts.{pieces}
+use Rattle.variables.specs.Parts.{Piece, pieceAt, piecesFrom, pieces}
 use Rattle.variables.specs.Variables.{Variable, variable, Targets, targets, refused, withVariable, withExclusion, piece, readAll}
-use Rattle.variables.specs.Layout.{chosenText, itself, selectionTexts, variableRecord, exclusionRecord}
-use Rattle.variables.specs.Steps.{part, NextPiece, excludingOf, entryWords, behindMark, excludedOf, IsVariable, IsExclusion, IsUnknown, Narrow, WroteVariables, WroteExclusions, AllRead, Stopped, Added, AllOrNone, keptOf}
+use Rattle.variables.specs.Layout.{variableText, exclusionText, selectionTexts, variableWhole, exclusionWhole}
+use Rattle.variables.specs.Steps.{part, NextPiece, excludingOf, wholeWords, behindMark, excludedOf, IsVariable, IsExclusion, IsUnknown, Narrow, WroteVariables, WroteExclusions, AllRead, Stopped, Added, AllOrNone, keptOf}
 use Rattle.variables.specs.declared.singles.Exclusions.{Exclusions}
 use Rattle.variables.specs.declared.singles.Entry.{Entry}
 use Rattle.variables.proofs.PlaceLaws.{part-length, part-part}
@@ -27,35 +28,35 @@ use Rattle.variables.proofs.LayoutLaws.{wrote-none, wrote-more}
 
 -- ---- before what is still to come
 
-abbrev ahead : List Variable → List (List ℕ) → ℕ → Targets → Targets
+abbrev ahead : List (Sourced Variable) → List (Sourced (List ℕ)) → ℕ → Targets → Targets
 ahead vs es i (targets us ds) = targets (vs ++ us) (es ++ ds)
-ahead vs es i (refused j name) = refused (i + j) name
+ahead vs es i (refused j name x) = refused (i + j) name x
 
 ahead-none : (ts : Targets) → ts ≡ ahead [] [] 0 ts
 ahead-none (targets vs es) = refl
-ahead-none (refused j name) = let e : 0 + j ≡ j = omega arith in rw e
+ahead-none (refused j name x) = let e : 0 + j ≡ j = omega arith in rw e
 
-module _ (vs : List Variable) (es : List (List ℕ)) (i : ℕ) where
-  ahead-variable : (v : Variable) (ts : Targets) → ahead vs es i (withVariable (variable v) ts) ≡ ahead (vs ++ (v ∷ [])) es (i + 1) ts
-  ahead-variable v (targets us ds) = ap (λ (l : List Variable). targets l (es ++ ds)) (sym (append-assoc vs (v ∷ []) us))
-  ahead-variable v (refused j name) = let e : i + suc j ≡ i + 1 + j = omega arith in rw e
+module _ (vs : List (Sourced Variable)) (es : List (Sourced (List ℕ))) (i : ℕ) where
+  ahead-variable : (x : Part) (v : Variable) (ts : Targets) → ahead vs es i (withVariable x (variable v) ts) ≡ ahead (vs ++ (sourced v x ∷ [])) es (i + 1) ts
+  ahead-variable x v (targets us ds) = ap (λ (l : List (Sourced Variable)). targets l (es ++ ds)) (sym (append-assoc vs (sourced v x ∷ []) us))
+  ahead-variable x v (refused j name y) = let e : i + suc j ≡ i + 1 + j = omega arith in rw e
 
-  ahead-exclusion : (x : List ℕ) (ts : Targets) → ahead vs es i (withExclusion x ts) ≡ ahead vs (es ++ (x ∷ [])) (i + 1) ts
-  ahead-exclusion x (targets us ds) = ap (targets (vs ++ us)) (sym (append-assoc es (x ∷ []) ds))
-  ahead-exclusion x (refused j name) = let e : i + suc j ≡ i + 1 + j = omega arith in rw e
+  ahead-exclusion : (x : Part) (t : List ℕ) (ts : Targets) → ahead vs es i (withExclusion x t ts) ≡ ahead vs (es ++ (sourced t x ∷ [])) (i + 1) ts
+  ahead-exclusion x t (targets us ds) = ap (targets (vs ++ us)) (sym (append-assoc es (sourced t x ∷ []) ds))
+  ahead-exclusion x t (refused j name y) = let e : i + suc j ≡ i + 1 + j = omega arith in rw e
 
 -- ---- the first loop
 
 pub record Sofar (n : Exclusions) (s : List ℕ) (offset place : ℕ) (text₀ records₀ text records : List ℕ) (at variables excluded used : ℕ) : Type 0 where
-  pub vs : List Variable
-  pub es : List (List ℕ)
-  pub read : readAll (excludingOf n) (pieces s) ≡ ahead vs es (variables + excluded) (readAll (excludingOf n) (pieces (drop at s)))
-  pub marked : excludedOf (pieces s) ≡ es ++ excludedOf (pieces (drop at s))
+  pub vs : List (Sourced Variable)
+  pub es : List (Sourced (List ℕ))
+  pub read : readAll (excludingOf n) (pieces s) ≡ ahead vs es (variables + excluded) (readAll (excludingOf n) (piecesFrom at (drop at s)))
+  pub marked : excludedOf (pieces s) ≡ es ++ excludedOf (piecesFrom at (drop at s))
   pub excluded-are : excluded ≡ length es
   pub wrote : WroteVariables offset place text₀ text records₀ records vs used (place + variables)
-  pub low : used + length (textsOf itself es) + (variables + excluded) ≤ offset + at
+  pub low : used + length (textsOf exclusionText es) + (variables + excluded) ≤ offset + at
   pub inside : at ≤ length s + 1
-  pub fits : used + length (textsOf itself es) ≤ offset + length s
+  pub fits : used + length (textsOf exclusionText es) ≤ offset + length s
   pub few : variables + excluded ≤ length s
 
 pub begun : (n : Exclusions) (s text records : List ℕ) (offset place : ℕ) → Sofar n s offset place text records text records 0 0 0 offset
@@ -66,17 +67,17 @@ begun n s text records offset place = record {
   read = ahead-none (readAll (excludingOf n) (pieces s));
   marked = refl;
   excluded-are = refl;
-  wrote = let z : place + 0 ≡ place = omega arith in rw z (wrote-none variableRecord chosenText offset place text records);
+  wrote = let z : place + 0 ≡ place = omega arith in rw z (wrote-none variableWhole variableText offset place text records);
   low = omega arith;
   inside = omega arith;
   fits = omega arith;
   few = omega arith;
 }
 
-pub wide-variable : (o : ℕ) (v : Variable) → length (variableRecord o v) ≡ variableWords
+pub wide-variable : (o : ℕ) (v : Sourced Variable) → length (variableWhole o v) ≡ variableWords
 wide-variable o v = refl
 
-pub wide-exclusion : (o : ℕ) (e : List ℕ) → length (exclusionRecord o e) ≡ variableWords
+pub wide-exclusion : (o : ℕ) (e : Sourced (List ℕ)) → length (exclusionWhole o e) ≡ variableWords
 wide-exclusion o e = refl
 
 module _ {n : Exclusions} {s : List ℕ} {offset place : ℕ} {text₀ records₀ text records : List ℕ} {at variables excluded used : ℕ}
@@ -88,24 +89,24 @@ module _ {n : Exclusions} {s : List ℕ} {offset place : ℕ} {text₀ records�
   some-low = omega (arith, x .few)
 
   -- nothing is left
-  left-is : pieces (drop at s) ≡ [] → readAll (excludingOf n) (pieces s) ≡ targets (x .vs) (x .es)
+  left-is : piecesFrom at (drop at s) ≡ [] → readAll (excludingOf n) (pieces s) ≡ targets (x .vs) (x .es)
   unfolding readAll
   left-is e =
-      x .read ∙ ap (λ (l : List (List ℕ)). ahead (x .vs) (x .es) (variables + excluded) (readAll (excludingOf n) l)) e
+      x .read ∙ ap (λ (l : List Piece). ahead (x .vs) (x .es) (variables + excluded) (readAll (excludingOf n) l)) e
       ∙ ap₂ targets (append-nil (x .vs)) (append-nil (x .es))
 
-  unmarked-left : pieces (drop at s) ≡ [] → excludedOf (pieces s) ≡ x .es
+  unmarked-left : piecesFrom at (drop at s) ≡ [] → excludedOf (pieces s) ≡ x .es
   unfolding excludedOf
-  unmarked-left e = x .marked ∙ ap (λ (l : List (List ℕ)). x .es ++ excludedOf l) e ∙ append-nil (x .es)
+  unmarked-left e = x .marked ∙ ap (λ (l : List Piece). x .es ++ excludedOf l) e ∙ append-nil (x .es)
 
-  pub ended : pieces (drop at s) ≡ [] → AllRead n s offset place text₀ text records₀ records variables excluded used
+  pub ended : piecesFrom at (drop at s) ≡ [] → AllRead n s offset place text₀ text records₀ records variables excluded used
   ended e =
       let m = unmarked-left e in
       record {
         vs = x .vs;
         read = left-is e ∙ ap (targets (x .vs)) (sym m);
         excluded-are = x .excluded-are ∙ ap length (sym m);
-        fits = rw m (omega (arith, length-append (selectionTexts (x .vs)) (textsOf itself (x .es)), x .wrote .used-is, x .fits));
+        fits = rw m (omega (arith, length-append (selectionTexts (x .vs)) (textsOf exclusionText (x .es)), x .wrote .used-is, x .fits));
         few = omega (arith, x .few);
         wrote = x .wrote;
       }
@@ -115,7 +116,7 @@ module _ {n : Exclusions} {s : List ℕ} {offset place : ℕ} {text₀ records�
     this = part s first past
 
     abbrev later : Targets
-    later = readAll (excludingOf n) (pieces (drop next s))
+    later = readAll (excludingOf n) (piecesFrom next (drop next s))
 
     pub this-long : length this ≡ past - first
     this-long = part-length s first past (omega (arith, p .before, p .inside))
@@ -123,22 +124,22 @@ module _ {n : Exclusions} {s : List ℕ} {offset place : ℕ} {text₀ records�
     pub this-some : 0 < length this
     this-some = omega (arith, this-long, p .some)
 
-    all-is : readAll (excludingOf n) (pieces s) ≡ ahead (x .vs) (x .es) (variables + excluded) (piece (excludingOf n) this later)
+    all-is : readAll (excludingOf n) (pieces s) ≡ ahead (x .vs) (x .es) (variables + excluded) (piece (excludingOf n) (placed first past) this later)
     unfolding readAll
-    all-is = x .read ∙ ap (λ (l : List (List ℕ)). ahead (x .vs) (x .es) (variables + excluded) (readAll (excludingOf n) l)) (p .list)
+    all-is = x .read ∙ ap (λ (l : List Piece). ahead (x .vs) (x .es) (variables + excluded) (readAll (excludingOf n) l)) (p .list)
 
-    mark-is : excludedOf (pieces s) ≡ x .es ++ behindMark this (excludedOf (pieces (drop next s)))
+    mark-is : excludedOf (pieces s) ≡ x .es ++ behindMark (placed first past) this (excludedOf (piecesFrom next (drop next s)))
     unfolding excludedOf
-    mark-is = x .marked ∙ ap (λ (l : List (List ℕ)). x .es ++ excludedOf l) (p .list)
+    mark-is = x .marked ∙ ap (λ (l : List Piece). x .es ++ excludedOf l) (p .list)
 
     -- a name that is none
-    pub stopped : (begin end : ℕ) → IsUnknown (excludingOf n) this begin end → Stopped n s (variables + excluded) (first + begin) (first + end)
+    pub stopped : (begin end : ℕ) → IsUnknown (excludingOf n) this begin end → Stopped n s (variables + excluded) (first + begin) (first + end) first past
     stopped begin end u =
         let k : end ≤ past - first = omega (arith, this-long, u .inside) in
         let z : variables + excluded + 0 ≡ variables + excluded = omega arith in
         record {
-          read = all-is ∙ ap (ahead (x .vs) (x .es) (variables + excluded)) (u .is later) ∙ rw z
-              (ap (refused (variables + excluded)) (part-part s first past begin end (omega (arith, p .some)) (omega (arith, p .before, p .inside)) (u .ordered) k));
+          read = all-is ∙ ap (ahead (x .vs) (x .es) (variables + excluded)) (u .is (placed first past) later) ∙ rw z
+              (ap (λ (t : List ℕ). refused (variables + excluded) t (placed first past)) (part-part s first past begin end (omega (arith, p .some)) (omega (arith, p .before, p .inside)) (u .ordered) k));
           ordered = omega (arith, u .ordered);
           inside = omega (arith, k, p .some, p .before, p .inside);
         }
@@ -146,18 +147,19 @@ module _ {n : Exclusions} {s : List ℕ} {offset place : ℕ} {text₀ records�
     -- an exclusion
     pub passed : IsExclusion (excludingOf n) this → Sofar n s offset place text₀ records₀ text records next variables (excluded + 1) used
     passed u =
-        let t = texts-more itself (x .es) (drop 1 this) in
-        let grown : used + length (textsOf itself (x .es ++ (drop 1 this ∷ []))) + (variables + (excluded + 1)) ≤ offset + next =
-        omega (arith, x .low, ap length t, length-append (textsOf itself (x .es)) (drop 1 this), length-drop 1 this, this-long, this-some, p .begun, p .some, p .before) in
+        let d = sourced (drop 1 this) (placed first past) in
+        let t = texts-more exclusionText (x .es) d in
+        let grown : used + length (textsOf exclusionText (x .es ++ (d ∷ []))) + (variables + (excluded + 1)) ≤ offset + next =
+        omega (arith, x .low, ap length t, length-append (textsOf exclusionText (x .es)) (drop 1 this), length-drop 1 this, this-long, this-some, p .begun, p .some, p .before) in
         record {
           vs = x .vs;
-          es = x .es ++ (drop 1 this ∷ []);
-          read = all-is ∙ ap (ahead (x .vs) (x .es) (variables + excluded)) (u .is later)
-              ∙ ahead-exclusion (x .vs) (x .es) (variables + excluded) (drop 1 this) later
-              ∙ ap (λ (i : ℕ). ahead (x .vs) (x .es ++ (drop 1 this ∷ [])) i later) (omega arith);
-          marked = mark-is ∙ ap (λ (l : List (List ℕ)). x .es ++ l) (u .mark (excludedOf (pieces (drop next s))))
-              ∙ sym (append-assoc (x .es) (drop 1 this ∷ []) (excludedOf (pieces (drop next s))));
-          excluded-are = omega (arith, x .excluded-are, count-more (x .es) (drop 1 this));
+          es = x .es ++ (d ∷ []);
+          read = all-is ∙ ap (ahead (x .vs) (x .es) (variables + excluded)) (u .is (placed first past) later)
+              ∙ ahead-exclusion (x .vs) (x .es) (variables + excluded) (placed first past) (drop 1 this) later
+              ∙ ap (λ (i : ℕ). ahead (x .vs) (x .es ++ (d ∷ [])) i later) (omega arith);
+          marked = mark-is ∙ ap (λ (l : List (Sourced (List ℕ))). x .es ++ l) (u .mark (placed first past) (excludedOf (piecesFrom next (drop next s))))
+              ∙ sym (append-assoc (x .es) (d ∷ []) (excludedOf (piecesFrom next (drop next s))));
+          excluded-are = omega (arith, x .excluded-are, count-more (x .es) d);
           wrote = x .wrote;
           low = grown;
           inside = p .inside;
@@ -178,23 +180,25 @@ module _ {n : Exclusions} {s : List ℕ} {offset place : ℕ} {text₀ records�
       entry-inside = u .held .text .inside
 
       pub turned : (text′ records′ : List ℕ) → text′ ≡ stored text used (part this (e .first) (e .past))
-          → records′ ≡ stored records ((place + variables) * variableWords) (entryWords used e)
+          → records′ ≡ stored records ((place + variables) * variableWords) (wholeWords used e first (length this))
           → Sofar n s offset place text₀ records₀ text′ records′ next (variables + 1) excluded (used + (e .past - e .first))
       turned text′ records′ a b =
           let t = u .held .text in
+          let v = sourced (u .v) (placed first past) in
+          let w : wholeWords used e first (length this) ≡ variableWhole used v = ap₂ (λ (l : List ℕ) (k : ℕ). l ++ (spanWord first k ∷ [])) (u .held .words used) this-long in
           let l = part-length this (e .first) (e .past) (t .inside) in
-          let grown : used + (e .past - e .first) + length (textsOf itself (x .es)) + (variables + 1 + excluded) ≤ offset + next = omega (arith, x .low, t .short, t .ordered, this-long, p .begun, p .some, p .before) in
+          let grown : used + (e .past - e .first) + length (textsOf exclusionText (x .es)) + (variables + 1 + excluded) ≤ offset + next = omega (arith, x .low, t .short, t .ordered, this-long, p .begun, p .some, p .before) in
           record {
-            vs = x .vs ++ (u .v ∷ []);
+            vs = x .vs ++ (v ∷ []);
             es = x .es;
-            read = all-is ∙ ap (ahead (x .vs) (x .es) (variables + excluded)) (u .is later)
-                ∙ ahead-variable (x .vs) (x .es) (variables + excluded) (u .v) later
-                ∙ ap (λ (i : ℕ). ahead (x .vs ++ (u .v ∷ [])) (x .es) i later) (omega arith);
-            marked = mark-is ∙ ap (λ (l : List (List ℕ)). x .es ++ l) (u .plain (excludedOf (pieces (drop next s))));
+            read = all-is ∙ ap (ahead (x .vs) (x .es) (variables + excluded)) (u .is (placed first past) later)
+                ∙ ahead-variable (x .vs) (x .es) (variables + excluded) (placed first past) (u .v) later
+                ∙ ap (λ (i : ℕ). ahead (x .vs ++ (v ∷ [])) (x .es) i later) (omega arith);
+            marked = mark-is ∙ ap (λ (l : List (Sourced (List ℕ))). x .es ++ l) (u .plain (placed first past) (excludedOf (piecesFrom next (drop next s))));
             excluded-are = x .excluded-are;
             wrote = let z : place + (variables + 1) ≡ place + variables + 1 = omega arith in
-                rw z (wrote-more (x .wrote) wide-variable (u .v) text′ records′ (part this (e .first) (e .past)) (entryWords used e) (used + (e .past - e .first))
-                (t .is) (u .held .words used) (omega (arith, l)) a b);
+                rw z (wrote-more (x .wrote) wide-variable v text′ records′ (part this (e .first) (e .past)) (wholeWords used e first (length this)) (used + (e .past - e .first))
+                (t .is) w (omega (arith, l)) a b);
             low = grown;
             inside = p .inside;
             fits = omega (arith, grown, p .inside);
@@ -203,13 +207,13 @@ module _ {n : Exclusions} {s : List ℕ} {offset place : ℕ} {text₀ records�
 
 -- ---- the second loop
 
-no-more : (es : List (List ℕ)) → length es ≡ 0 → es ≡ []
+no-more : (es : List (Sourced (List ℕ))) → length es ≡ 0 → es ≡ []
 no-more [] e = refl
 no-more (x ∷ es) e = absurd (omega (arith, e))
 
 pub record Adding (s : List ℕ) (offset place : ℕ) (text₀ records₀ text records : List ℕ) (at used count : ℕ) : Type 0 where
-  pub es : List (List ℕ)
-  pub marked : excludedOf (pieces s) ≡ es ++ excludedOf (pieces (drop at s))
+  pub es : List (Sourced (List ℕ))
+  pub marked : excludedOf (pieces s) ≡ es ++ excludedOf (piecesFrom at (drop at s))
   pub wrote : WroteExclusions offset place text₀ text records₀ records es used count
   pub used-low : used ≤ offset + at
   pub count-low : count ≤ place + at
@@ -219,7 +223,7 @@ pub add-begun : (s text records : List ℕ) (offset place : ℕ) → Adding s of
 add-begun s text records offset place = record {
   es = [];
   marked = refl;
-  wrote = wrote-none exclusionRecord itself offset place text records;
+  wrote = wrote-none exclusionWhole exclusionText offset place text records;
   used-low = omega arith;
   count-low = omega arith;
   inside = omega arith;
@@ -230,14 +234,14 @@ abbrev pub exclusionEntry : ℕ → Entry
 exclusionEntry n = record { kind = 2; code = 0; counts = false; selection = 0; spanned = true; first = 1; past = n }
 
 module _ {s : List ℕ} {offset place : ℕ} {text₀ records₀ text records : List ℕ} {at used count : ℕ} (x : Adding s offset place text₀ records₀ text records at used count) where
-  pub add-ended : pieces (drop at s) ≡ [] → Added (excludedOf (pieces s)) offset place text₀ text records₀ records used
+  pub add-ended : piecesFrom at (drop at s) ≡ [] → Added (excludedOf (pieces s)) offset place text₀ text records₀ records used
   unfolding excludedOf
   add-ended e =
-      let m : excludedOf (pieces s) ≡ x .es = x .marked ∙ ap (λ (l : List (List ℕ)). x .es ++ excludedOf l) e ∙ append-nil (x .es) in
+      let m : excludedOf (pieces s) ≡ x .es = x .marked ∙ ap (λ (l : List Piece). x .es ++ excludedOf l) e ∙ append-nil (x .es) in
       rw (m, ← x .wrote .count-is) (x .wrote)
 
   -- the list ended with some still asked for: these are all
-  pub add-ended-kept : (kept : ℕ) → (kept ≡ 0 → ⊥) → pieces (drop at s) ≡ [] → Added (keptOf kept (excludedOf (pieces s))) offset place text₀ text records₀ records used
+  pub add-ended-kept : (kept : ℕ) → (kept ≡ 0 → ⊥) → piecesFrom at (drop at s) ≡ [] → Added (keptOf kept (excludedOf (pieces s))) offset place text₀ text records₀ records used
   add-ended-kept kept h e = rw (ne-eqb kept 0 h) (add-ended e)
 
   -- as many are written as are kept
@@ -254,9 +258,9 @@ module _ {s : List ℕ} {offset place : ℕ} {text₀ records₀ text records : 
 
       all : kept ≡ length (excludedOf (pieces s)) → Added (excludedOf (pieces s)) offset place text₀ text records₀ records used
       all e =
-          let rest = excludedOf (pieces (drop at s)) in
+          let rest = excludedOf (piecesFrom at (drop at s)) in
           let l : length rest ≡ 0 = omega (arith, written, ap length (x .marked), length-append (x .es) rest) in
-          let m : excludedOf (pieces s) ≡ x .es = x .marked ∙ ap (λ (l : List (List ℕ)). x .es ++ l) (no-more rest l) ∙ append-nil (x .es) in
+          let m : excludedOf (pieces s) ≡ x .es = x .marked ∙ ap (λ (l : List (Sourced (List ℕ))). x .es ++ l) (no-more rest l) ∙ append-nil (x .es) in
           rw (m, ← x .wrote .count-is) (x .wrote)
 
       go : (t : Bool) → eqb kept 0 ≡ t → AllOrNone kept (excludedOf (pieces s)) → Added (pick t [] (excludedOf (pieces s))) offset place text₀ text records₀ records used
@@ -276,15 +280,15 @@ module _ {s : List ℕ} {offset place : ℕ} {text₀ records₀ text records : 
         let z : first + 0 ≡ first = omega arith in
         getD-take (past - first) (drop first s) 0 0 (omega (arith, p .some)) ∙ getD-drop first s 0 0 ∙ ap (λ (i : ℕ). getD s i 0) z
 
-    mark-at : excludedOf (pieces s) ≡ x .es ++ behindMark (part s first past) (excludedOf (pieces (drop next s)))
+    mark-at : excludedOf (pieces s) ≡ x .es ++ behindMark (placed first past) (part s first past) (excludedOf (piecesFrom next (drop next s)))
     unfolding excludedOf
-    mark-at = x .marked ∙ ap (λ (l : List (List ℕ)). x .es ++ excludedOf l) (p .list)
+    mark-at = x .marked ∙ ap (λ (l : List Piece). x .es ++ excludedOf l) (p .list)
 
     -- no exclusion
     pub add-passed : (getD s first 0 ≡ 33 → ⊥) → Adding s offset place text₀ records₀ text records next used count
     add-passed h = record {
       es = x .es;
-      marked = mark-at ∙ ap (λ (l : List (List ℕ)). x .es ++ l) (plain-mark (part s first past) (λ e. h (sym first-byte ∙ e)) (excludedOf (pieces (drop next s))));
+      marked = mark-at ∙ ap (λ (l : List (Sourced (List ℕ))). x .es ++ l) (plain-mark (part s first past) (λ e. h (sym first-byte ∙ e)) (placed first past) (excludedOf (piecesFrom next (drop next s))));
       wrote = x .wrote;
       used-low = omega (arith, x .used-low, p .begun, p .some, p .before);
       count-low = omega (arith, x .count-low, p .begun, p .some, p .before);
@@ -300,18 +304,19 @@ module _ {s : List ℕ} {offset place : ℕ} {text₀ records₀ text records : 
 
     -- an exclusion
     pub add-turned : getD s first 0 ≡ 33 → (text′ records′ : List ℕ) → text′ ≡ stored text used (part (part s first past) 1 (past - first))
-        → records′ ≡ stored records (count * variableWords) (entryWords used (exclusionEntry (past - first)))
+        → records′ ≡ stored records (count * variableWords) (wholeWords used (exclusionEntry (past - first)) first (length (part s first past)))
         → Adding s offset place text₀ records₀ text′ records′ next (used + (past - first - 1)) (count + 1)
     add-turned h text′ records′ a b =
         let q = part s first past in
         let t : part q 1 (past - first) ≡ drop 1 q = ap (λ (k : ℕ). take (k - 1) (drop 1 q)) (sym piece-long) ∙ rest-is q 1 in
         let l : length (drop 1 q) ≡ past - first - 1 = length-drop 1 q ∙ ap (λ (k : ℕ). k - 1) piece-long in
-        let r : entryWords used (exclusionEntry (past - first)) ≡ exclusionRecord used (drop 1 q) = rw l in
+        let d = sourced (drop 1 q) (placed first past) in
+        let r : wholeWords used (exclusionEntry (past - first)) first (length q) ≡ exclusionWhole used d = rw (l, piece-long) in
         record {
-          es = x .es ++ (drop 1 q ∷ []);
-          marked = mark-at ∙ ap (λ (l : List (List ℕ)). x .es ++ l) (has-mark q piece-some (first-byte ∙ h) (excludedOf (pieces (drop next s))))
-              ∙ sym (append-assoc (x .es) (drop 1 q ∷ []) (excludedOf (pieces (drop next s))));
-          wrote = wrote-more (x .wrote) wide-exclusion (drop 1 q) text′ records′ (part q 1 (past - first)) (entryWords used (exclusionEntry (past - first))) (used + (past - first - 1))
+          es = x .es ++ (d ∷ []);
+          marked = mark-at ∙ ap (λ (l : List (Sourced (List ℕ))). x .es ++ l) (has-mark q piece-some (first-byte ∙ h) (placed first past) (excludedOf (piecesFrom next (drop next s))))
+              ∙ sym (append-assoc (x .es) (d ∷ []) (excludedOf (piecesFrom next (drop next s))));
+          wrote = wrote-more (x .wrote) wide-exclusion d text′ records′ (part q 1 (past - first)) (wholeWords used (exclusionEntry (past - first)) first (length q)) (used + (past - first - 1))
               t r (omega (arith, ap length t, l)) a b;
           used-low = omega (arith, x .used-low, p .begun, p .some, p .before);
           count-low = omega (arith, x .count-low, p .begun, p .some, p .before);

@@ -13,6 +13,7 @@ use Rattle.ascii.specs.Splits.{Split, firstOf}
 use Rattle.ascii.proofs.ListLaws.{next-byte, rest-is}
 use Rattle.ascii.proofs.SplitLaws.{joined, first-fits, split-at}
 use Rattle.lent.specs.Sizes.{spanWord}
+use Rattle.lent.specs.Sources.{Part, Sourced, sourced}
 use Rattle.names.specs.Variables.{variableCode}
 use Rattle.names.specs.declared.Lookup.{Lookup}
 use Rattle.names.specs.declared.Lookup.the-variants as Lookup
@@ -164,33 +165,33 @@ unfolding single
 single-plain [] l h = absurd (omega arith)
 single-plain (b ∷ r) l h = rw (ne-eqb b 38 h)
 
-pub unknown-first : (x : Single) (n : List ℕ) → x ≡ unknown n → (ts : Targets) → withVariable x ts ≡ refused 0 n
-unknown-first x n e ts = ap (λ (y : Single). withVariable y ts) e ∙ go ts
+pub unknown-first : (x : Part) (y : Single) (n : List ℕ) → y ≡ unknown n → (ts : Targets) → withVariable x y ts ≡ refused 0 n x
+unknown-first x y n e ts = ap (λ (y : Single). withVariable x y ts) e ∙ go ts
   where
-    go : (ts : Targets) → withVariable (unknown n) ts ≡ refused 0 n
+    go : (ts : Targets) → withVariable x (unknown n) ts ≡ refused 0 n x
     go (targets vs es) = refl
-    go (refused i m) = refl
+    go (refused i m z) = refl
 
-pub plain-mark : (p : List ℕ) → (getD p 0 0 ≡ 33 → ⊥) → (es : List (List ℕ)) → behindMark p es ≡ es
-plain-mark [] h es = refl
-plain-mark (b ∷ r) h es = rw (ne-eqb b 33 h)
+pub plain-mark : (p : List ℕ) → (getD p 0 0 ≡ 33 → ⊥) → (x : Part) (es : List (Sourced (List ℕ))) → behindMark x p es ≡ es
+plain-mark [] h x es = refl
+plain-mark (b ∷ r) h x es = rw (ne-eqb b 33 h)
 
 module _ (ex : Excluding) where
-  unmarked : (p : List ℕ) → 0 < length p → (getD p 0 0 ≡ 33 → ⊥) → (ts : Targets) → piece ex p ts ≡ withVariable (single p) ts
-  unmarked [] l h ts = refl
-  unmarked (b ∷ r) l h ts = rw (ne-eqb b 33 h)
+  unmarked : (p : List ℕ) → 0 < length p → (getD p 0 0 ≡ 33 → ⊥) → (x : Part) (ts : Targets) → piece ex x p ts ≡ withVariable x (single p) ts
+  unmarked [] l h x ts = refl
+  unmarked (b ∷ r) l h x ts = rw (ne-eqb b 33 h)
 
   module _ (p : List ℕ) (l : 0 < length p) (h : getD p 0 0 ≡ 33 → ⊥) where
     pieced : (r : Reading) → Singles p (single p) r → Pieced ex p r
     pieced (Reading.Variable e) x = record {
       v = x .v;
-      is = λ ts. unmarked p l h ts ∙ ap (λ (y : Single). withVariable y ts) (x .is);
+      is = λ z ts. unmarked p l h z ts ∙ ap (λ (y : Single). withVariable z y ts) (x .is);
       plain = plain-mark p h;
       held = x .held;
     }
     pieced Reading.Exclusion x = absurd x
     pieced (Reading.Unknown begin end) x = record {
-      is = λ ts. unmarked p l h ts ∙ unknown-first (single p) (part p begin end) (x .is) ts;
+      is = λ z ts. unmarked p l h z ts ∙ unknown-first z (single p) (part p begin end) (x .is) ts;
       ordered = x .ordered;
       inside = x .inside;
     }
@@ -203,35 +204,35 @@ module _ (ex : Excluding) where
 
 -- ---- an exclusion
 
-pub has-mark : (p : List ℕ) → 0 < length p → getD p 0 0 ≡ 33 → (es : List (List ℕ)) → behindMark p es ≡ drop 1 p ∷ es
-has-mark [] l e es = absurd (omega arith)
-has-mark (b ∷ r) l e es = rw (eq-eqb b 33 e)
+pub has-mark : (p : List ℕ) → 0 < length p → getD p 0 0 ≡ 33 → (x : Part) (es : List (Sourced (List ℕ))) → behindMark x p es ≡ sourced (drop 1 p) x ∷ es
+has-mark [] l e x es = absurd (omega arith)
+has-mark (b ∷ r) l e x es = rw (eq-eqb b 33 e)
 
-marked-by : (ex : Excluding) (p : List ℕ) → 0 < length p → getD p 0 0 ≡ 33 → (ts : Targets) → piece ex p ts ≡ ex (drop 1 p) ts
-marked-by ex [] l e ts = absurd (omega arith)
-marked-by ex (b ∷ r) l e ts = rw (eq-eqb b 33 e)
+marked-by : (ex : Excluding) (p : List ℕ) → 0 < length p → getD p 0 0 ≡ 33 → (x : Part) (ts : Targets) → piece ex x p ts ≡ ex x (drop 1 p) ts
+marked-by ex [] l e x ts = absurd (omega arith)
+marked-by ex (b ∷ r) l e x ts = rw (eq-eqb b 33 e)
 
 module _ (p : List ℕ) (l : 0 < length p) (e : getD p 0 0 ≡ 33) where
   pub marked-written : IsExclusion asWritten p
   marked-written = record { is = marked-by asWritten p l e; mark = has-mark p l e }
 
   module _ (q : ℕ) (f : q ≡ firstOf 58 (take (length p - 1) (drop 1 p))) (k : Lookup) (g : k ≡ variableCode (take (1 + q - 1) (drop 1 p))) where
-    looked : (ts : Targets) → piece lookedUp p ts ≡ ifKnown k (take (1 + q - 1) (drop 1 p)) (withExclusion (drop 1 p) ts)
-    looked ts =
+    looked : (z : Part) (ts : Targets) → piece lookedUp z p ts ≡ ifKnown z k (take (1 + q - 1) (drop 1 p)) (withExclusion z (drop 1 p) ts)
+    looked z ts =
         let n = front-is (drop 1 p) ∙ sym (name-is p 1 q false (omega arith) f) in
-        marked-by lookedUp p l e ts
-        ∙ ap (λ (x : List ℕ). ifKnown (variableCode x) x (withExclusion (drop 1 p) ts)) n
-        ∙ ap (λ (x : Lookup). ifKnown x (take (1 + q - 1) (drop 1 p)) (withExclusion (drop 1 p) ts)) (sym g)
+        marked-by lookedUp p l e z ts
+        ∙ ap (λ (x : List ℕ). ifKnown z (variableCode x) x (withExclusion z (drop 1 p) ts)) n
+        ∙ ap (λ (x : Lookup). ifKnown z x (take (1 + q - 1) (drop 1 p)) (withExclusion z (drop 1 p) ts)) (sym g)
 
     pub marked-known : (code : ℕ) → k ≡ Lookup.Code code → IsExclusion lookedUp p
     marked-known code i = record {
-      is = λ ts. looked ts ∙ ap (λ (x : Lookup). ifKnown x (take (1 + q - 1) (drop 1 p)) (withExclusion (drop 1 p) ts)) i;
+      is = λ z ts. looked z ts ∙ ap (λ (x : Lookup). ifKnown z x (take (1 + q - 1) (drop 1 p)) (withExclusion z (drop 1 p) ts)) i;
       mark = has-mark p l e;
     }
 
     pub marked-unknown : k ≡ Lookup.Unknown → IsUnknown lookedUp p 1 (1 + q)
     marked-unknown i = record {
-      is = λ ts. looked ts ∙ ap (λ (x : Lookup). ifKnown x (take (1 + q - 1) (drop 1 p)) (withExclusion (drop 1 p) ts)) i;
+      is = λ z ts. looked z ts ∙ ap (λ (x : Lookup). ifKnown z x (take (1 + q - 1) (drop 1 p)) (withExclusion z (drop 1 p) ts)) i;
       ordered = omega arith;
       inside = colon-fits p 1 q false (omega arith) f;
     }

@@ -7,7 +7,7 @@ use lib.Dec.{eqb}
 use Rattle.ascii.specs.Choice.{pick}
 use Rattle.names.specs.Variables.{variableCode}
 use Rattle.names.specs.declared.Lookup.the-variants as Lookup
-use Rattle.variables.specs.Parts.{pieces}
+use Rattle.variables.specs.Parts.{Piece, pieces}
 use Rattle.variables.specs.Variables.{atColon, frontOf}
 use Rattle.variables.specs.Steps.{excludedOf, keptCount}
 use Rattle.variables.specs.declared.singles.Exclusions.{Exclusions}
@@ -37,29 +37,29 @@ pub data Meant (n : Exclusions) (p : List ℕ) : Type 0 where
   unasked : asked n p ≡ nothing → Meant n p
   found : (x : List ℕ) (code : ℕ) → asked n p ≡ name x → variableCode x ≡ Lookup.Code code → Meant n p
 
-pub data AllMeant (n : Exclusions) : List (List ℕ) → Type 0 where
+pub data AllMeant (n : Exclusions) : List Piece → Type 0 where
   none : AllMeant n []
-  also : {p : List ℕ} {ps : List (List ℕ)} → Meant n p → AllMeant n ps → AllMeant n (p ∷ ps)
+  also : {p : Piece} {ps : List Piece} → Meant n (p .text) → AllMeant n ps → AllMeant n (p ∷ ps)
 
 -- the first piece whose name is no variable's
-pub record Missing (n : Exclusions) (ps : List (List ℕ)) : Type 0 where
-  pub passed : List (List ℕ)
-  pub this : List ℕ
-  pub after : List (List ℕ)
+pub record Missing (n : Exclusions) (ps : List Piece) : Type 0 where
+  pub passed : List Piece
+  pub this : Piece
+  pub after : List Piece
   pub text : List ℕ
   pub list : ps ≡ passed ++ this ∷ after
   pub meant : AllMeant n passed
-  pub asks : asked n this ≡ name text
+  pub asks : asked n (this .text) ≡ name text
   pub unknown : variableCode text ≡ Lookup.Unknown
 
 -- the pieces without a mark
-abbrev pub unmarked : List ℕ → List (List ℕ) → List (List ℕ)
-unmarked [] ps = [] ∷ ps
-unmarked (b ∷ r) ps = pick (eqb b 33) ps ((b ∷ r) ∷ ps)
+abbrev pub unmarked : List ℕ → Piece → List Piece → List Piece
+unmarked [] p ps = p ∷ ps
+unmarked (b ∷ r) p ps = pick (eqb b 33) ps (p ∷ ps)
 
-unfoldable pub unmarkedOf : List (List ℕ) → List (List ℕ)
+unfoldable pub unmarkedOf : List Piece → List Piece
 unmarkedOf [] = []
-unmarkedOf (p ∷ ps) = unmarked p (unmarkedOf ps)
+unmarkedOf (p ∷ ps) = unmarked (p .text) p (unmarkedOf ps)
 
 -- how many records a list takes: its variables, and the exclusions that are kept
 abbrev pub needed : Exclusions → List ℕ → ℕ

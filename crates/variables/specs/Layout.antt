@@ -4,6 +4,7 @@ use mathlib.Core.List.{List, [], _∷_, _++_}
 use lib.ListN.{length}
 use Rattle.ascii.specs.Choice.{bit}
 use Rattle.lent.specs.Sizes.{spanWord}
+use Rattle.lent.specs.Sources.{Sourced, sourcedText, sourcedRecord}
 use Rattle.lent.specs.Layout.{textsOf, wordsOf}
 use Rattle.variables.specs.Variables.{Selection, none, key, regex, Variable}
 
@@ -24,6 +25,7 @@ selectionSpan o none = 0
 selectionSpan o (key t) = spanWord o (length t)
 selectionSpan o (regex t) = spanWord o (length t)
 
+-- A record but for its last word, the span of what it was read from.
 abbrev pub variableRecord : ℕ → Variable → List ℕ
 variableRecord o v = 1 ∷ v .code ∷ bit (v .counts) ∷ selectionCode (v .chosen) ∷ selectionSpan o (v .chosen) ∷ []
 
@@ -37,11 +39,24 @@ chosenText v = selectionText (v .chosen)
 abbrev pub itself : List ℕ → List ℕ
 itself e = e
 
-abbrev pub selectionTexts : List Variable → List ℕ
-selectionTexts vs = textsOf chosenText vs
+-- The same with the part that each was read from: the text is as it was, and the record whole.
+abbrev pub variableText : Sourced Variable → List ℕ
+variableText = sourcedText chosenText
 
-abbrev pub texts : List Variable → List (List ℕ) → List ℕ
-texts vs es = selectionTexts vs ++ textsOf itself es
+abbrev pub exclusionText : Sourced (List ℕ) → List ℕ
+exclusionText = sourcedText itself
 
-abbrev pub wordsFrom : ℕ → List Variable → List (List ℕ) → List ℕ
-wordsFrom o vs es = wordsOf variableRecord chosenText o vs ++ wordsOf exclusionRecord itself (o + length (selectionTexts vs)) es
+abbrev pub variableWhole : ℕ → Sourced Variable → List ℕ
+variableWhole = sourcedRecord variableRecord
+
+abbrev pub exclusionWhole : ℕ → Sourced (List ℕ) → List ℕ
+exclusionWhole = sourcedRecord exclusionRecord
+
+abbrev pub selectionTexts : List (Sourced Variable) → List ℕ
+selectionTexts vs = textsOf variableText vs
+
+abbrev pub texts : List (Sourced Variable) → List (Sourced (List ℕ)) → List ℕ
+texts vs es = selectionTexts vs ++ textsOf exclusionText es
+
+abbrev pub wordsFrom : ℕ → List (Sourced Variable) → List (Sourced (List ℕ)) → List ℕ
+wordsFrom o vs es = wordsOf variableWhole variableText o vs ++ wordsOf exclusionWhole exclusionText (o + length (selectionTexts vs)) es

@@ -6,6 +6,7 @@ use lib.ListN.{length}
 use lib.Dec.{ltb}
 use Rattle.ascii.specs.Choice.{pick}
 use Rattle.lent.specs.Sizes.{variableWords, roomFor}
+use Rattle.lent.specs.Sources.{Sourced}
 use Rattle.lent.specs.Gates.{gateOf}
 use Rattle.lent.specs.Table.{Given, given, tooLong, notAscii, shortBuffer, noRoom, unknownVariable, refused as refusedBy, Outcome, refuses, reads, pastGate, Filled, givenBy, textBy, recordsBy}
 use Rattle.variables.specs.Parts.{pieces}
@@ -20,27 +21,27 @@ answerGiven (Answer.Read count used) = given 0 (count ∷ used ∷ [])
 answerGiven Answer.TooLong = refusedBy tooLong
 answerGiven (Answer.NotAscii place) = refusedBy (notAscii place)
 answerGiven Answer.Short = refusedBy shortBuffer
-answerGiven (Answer.Unknown piece name) = given 7 (piece ∷ name ∷ [])
+answerGiven (Answer.Unknown piece name span) = given 7 (piece ∷ name ∷ span ∷ [])
 answerGiven (Answer.NoRoom needed) = refusedBy (noRoom needed)
 
 -- Targets laid out: the count of records and the length of the texts, the texts, and the words.
-abbrev pub laidOut : List Variable → List (List ℕ) → Filled
+abbrev pub laidOut : List (Sourced Variable) → List (Sourced (List ℕ)) → Filled
 laidOut vs es = record { values = (length vs + length es) ∷ length (texts vs es) ∷ []; texts = texts vs es; words = wordsFrom 0 vs es }
 
 -- Number 4 comes last.
-abbrev pub roomed : ℕ → List Variable → List (List ℕ) → Outcome Filled
+abbrev pub roomed : ℕ → List (Sourced Variable) → List (Sourced (List ℕ)) → Outcome Filled
 roomed m vs es = pick (ltb (roomFor variableWords m) (length vs + length es)) (refuses (noRoom (length vs + length es))) (reads (laidOut vs es))
 
 -- Update targets keep their exclusions.
 abbrev pub updated : ℕ → Targets → Outcome Filled
 updated m (targets vs es) = roomed m vs es
-updated m (refused i name) = refuses (unknownVariable i name)
+updated m (refused i name x) = refuses (unknownVariable i name x)
 
 -- parse_variables hangs its exclusions on its variables: with none of these, nothing is left.
 abbrev pub hung : ℕ → Targets → Outcome Filled
 hung m (targets [] es) = roomed m [] []
 hung m (targets (v ∷ vs) es) = roomed m (v ∷ vs) es
-hung m (refused i name) = refuses (unknownVariable i name)
+hung m (refused i name x) = refuses (unknownVariable i name x)
 
 -- What each call comes to, with n bytes of text and m words of records lent.
 unfoldable pub variablesOutcome : List ℕ → ℕ → ℕ → Outcome Filled

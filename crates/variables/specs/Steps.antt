@@ -7,13 +7,14 @@ use lib.ListN.{length, take, drop}
 use lib.Dec.{eqb}
 use Rattle.ascii.specs.Choice.{pick, bit}
 use Rattle.lent.specs.Sizes.{limit, spanWord, variableWords}
+use Rattle.lent.specs.Sources.{Part, part as placed, Sourced, sourced}
 use Rattle.lent.specs.Buffers.{storedEach}
 use Rattle.lent.specs.Gates.{gateOf}
 use Rattle.lent.specs.Table.{Outcome, pastGate, Filled}
 use Rattle.lent.specs.Layout.{textsOf, eachText, recordsOf}
-use Rattle.variables.specs.Parts.{pieces}
+use Rattle.variables.specs.Parts.{Piece, pieceAt, piecesFrom, pieces}
 use Rattle.variables.specs.Variables.{Selection, none, selection, Variable, Single, variable, unknown, Targets, targets, refused, withVariable, withExclusion, Excluding, asWritten, lookedUp, piece, readAll}
-use Rattle.variables.specs.Layout.{selectionCode, selectionText, selectionSpan, variableRecord, exclusionRecord, chosenText, itself, texts}
+use Rattle.variables.specs.Layout.{selectionCode, selectionText, selectionSpan, variableRecord, variableText, exclusionText, variableWhole, exclusionWhole, texts}
 use Rattle.variables.specs.Promises.{updated}
 use Rattle.variables.specs.declared.finding.Next.{Next}
 use Rattle.variables.specs.declared.finding.Next.the-variants as Next
@@ -34,7 +35,7 @@ part s from past = take (past - from) (drop from s)
 
 -- the next piece from `at` on, and where the parts after it start
 pub record NextPiece (s : List ℕ) (at first past next : ℕ) : Type 0 where
-  pub list : pieces (drop at s) ≡ part s first past ∷ pieces (drop next s)
+  pub list : piecesFrom at (drop at s) ≡ pieceAt s first past ∷ piecesFrom next (drop next s)
   pub begun : at ≤ first
   pub some : first < past
   pub before : past < next
@@ -42,7 +43,7 @@ pub record NextPiece (s : List ℕ) (at first past next : ℕ) : Type 0 where
 
 abbrev pub Nexts : List ℕ → ℕ → Next → Type 0
 Nexts s at (Next.Piece first past next) = NextPiece s at first past next
-Nexts s at Next.End = pieces (drop at s) ≡ []
+Nexts s at Next.End = piecesFrom at (drop at s) ≡ []
 
 -- ---- one piece
 
@@ -74,6 +75,10 @@ entrySpan o e = pick (e .spanned) (spanWord o (e .past - e .first)) 0
 abbrev pub entryWords : ℕ → Entry → List ℕ
 entryWords o e = e .kind ∷ e .code ∷ bit (e .counts) ∷ e .selection ∷ entrySpan o e ∷ []
 
+-- with the last one, for a piece of so many bytes that stands at k
+abbrev pub wholeWords : ℕ → Entry → ℕ → ℕ → List ℕ
+wholeWords o e k n = e .kind ∷ e .code ∷ bit (e .counts) ∷ e .selection ∷ entrySpan o e ∷ spanWord k n ∷ []
+
 -- an entry of the piece p for a variable
 pub record Held (p : List ℕ) (e : Entry) (v : Variable) : Type 0 where
   pub words : (o : ℕ) → entryWords o e ≡ variableRecord o v
@@ -95,28 +100,28 @@ Singles p x (Reading.Variable e) = Found p x e
 Singles p x Reading.Exclusion = ⊥
 Singles p x (Reading.Unknown begin end) = Missed p x begin end
 
--- the texts behind `!`
-abbrev pub behindMark : List ℕ → List (List ℕ) → List (List ℕ)
-behindMark [] es = es
-behindMark (b ∷ r) es = pick (eqb b 33) (r ∷ es) es
+-- the texts behind `!`, of pieces that stand at x
+abbrev pub behindMark : Part → List ℕ → List (Sourced (List ℕ)) → List (Sourced (List ℕ))
+behindMark x [] es = es
+behindMark x (b ∷ r) es = pick (eqb b 33) (sourced r x ∷ es) es
 
-unfoldable pub excludedOf : List (List ℕ) → List (List ℕ)
+unfoldable pub excludedOf : List Piece → List (Sourced (List ℕ))
 excludedOf [] = []
-excludedOf (p ∷ ps) = behindMark p (excludedOf ps)
+excludedOf (p ∷ ps) = behindMark (p .place) (p .text) (excludedOf ps)
 
--- a piece, whatever stands behind it
+-- a piece, wherever it stands and whatever stands behind it
 pub record IsVariable (ex : Excluding) (p : List ℕ) (e : Entry) : Type 0 where
   pub v : Variable
-  pub is : (ts : Targets) → piece ex p ts ≡ withVariable (variable v) ts
-  pub plain : (es : List (List ℕ)) → behindMark p es ≡ es
+  pub is : (x : Part) (ts : Targets) → piece ex x p ts ≡ withVariable x (variable v) ts
+  pub plain : (x : Part) (es : List (Sourced (List ℕ))) → behindMark x p es ≡ es
   pub held : Held p e v
 
 pub record IsExclusion (ex : Excluding) (p : List ℕ) : Type 0 where
-  pub is : (ts : Targets) → piece ex p ts ≡ withExclusion (drop 1 p) ts
-  pub mark : (es : List (List ℕ)) → behindMark p es ≡ drop 1 p ∷ es
+  pub is : (x : Part) (ts : Targets) → piece ex x p ts ≡ withExclusion x (drop 1 p) ts
+  pub mark : (x : Part) (es : List (Sourced (List ℕ))) → behindMark x p es ≡ sourced (drop 1 p) x ∷ es
 
 pub record IsUnknown (ex : Excluding) (p : List ℕ) (begin end : ℕ) : Type 0 where
-  pub is : (ts : Targets) → piece ex p ts ≡ refused 0 (part p begin end)
+  pub is : (x : Part) (ts : Targets) → piece ex x p ts ≡ refused 0 (part p begin end) x
   pub ordered : begin ≤ end
   pub inside : end ≤ length p
 
@@ -141,33 +146,33 @@ pub record Wrote {A : Type 0} (words : ℕ → A → List ℕ) (text-of : A → 
   pub text-laid : text′ ≡ storedEach text offset (eachText text-of xs)
   pub words-laid : records′ ≡ storedEach records (place * variableWords) (recordsOf words text-of offset xs)
 
-abbrev pub WroteVariables : ℕ → ℕ → List ℕ → List ℕ → List ℕ → List ℕ → List Variable → ℕ → ℕ → Type 0
-WroteVariables = Wrote variableRecord chosenText
+abbrev pub WroteVariables : ℕ → ℕ → List ℕ → List ℕ → List ℕ → List ℕ → List (Sourced Variable) → ℕ → ℕ → Type 0
+WroteVariables = Wrote variableWhole variableText
 
-abbrev pub WroteExclusions : ℕ → ℕ → List ℕ → List ℕ → List ℕ → List ℕ → List (List ℕ) → ℕ → ℕ → Type 0
-WroteExclusions = Wrote exclusionRecord itself
+abbrev pub WroteExclusions : ℕ → ℕ → List ℕ → List ℕ → List ℕ → List ℕ → List (Sourced (List ℕ)) → ℕ → ℕ → Type 0
+WroteExclusions = Wrote exclusionWhole exclusionText
 
 -- every piece was read, and the variables are written
 pub record AllRead (n : Exclusions) (s : List ℕ) (offset place : ℕ) (text text′ records records′ : List ℕ) (variables excluded used : ℕ) : Type 0 where
-  pub vs : List Variable
+  pub vs : List (Sourced Variable)
   pub read : readAll (excludingOf n) (pieces s) ≡ targets vs (excludedOf (pieces s))
   pub excluded-are : excluded ≡ length (excludedOf (pieces s))
   pub fits : length (texts vs (excludedOf (pieces s))) ≤ length s
   pub few : variables + excluded ≤ limit
   pub wrote : WroteVariables offset place text text′ records records′ vs used (place + variables)
 
--- or a name was none
-pub record Stopped (n : Exclusions) (s : List ℕ) (piece first past : ℕ) : Type 0 where
-  pub read : readAll (excludingOf n) (pieces s) ≡ refused piece (part s first past)
-  pub ordered : first ≤ past
-  pub inside : past ≤ length s
+-- or a name was none, which runs from `begin` up to `end`, in a piece from `first` up to `past`
+pub record Stopped (n : Exclusions) (s : List ℕ) (piece begin end first past : ℕ) : Type 0 where
+  pub read : readAll (excludingOf n) (pieces s) ≡ refused piece (part s begin end) (placed first past)
+  pub ordered : begin ≤ end
+  pub inside : end ≤ length s
 
 abbrev pub Scanned : Exclusions → List ℕ → ℕ → ℕ → List ℕ → List ℕ → List ℕ → List ℕ → Tally → Type 0
 Scanned n s offset place text text′ records records′ (Tally.Targets variables excluded used) = AllRead n s offset place text text′ records records′ variables excluded used
-Scanned n s offset place text text′ records records′ (Tally.Unknown piece first past) = Stopped n s piece first past
+Scanned n s offset place text text′ records records′ (Tally.Unknown piece begin end first past) = Stopped n s piece begin end first past
 
 -- exclusions are written
-abbrev pub Added : List (List ℕ) → ℕ → ℕ → List ℕ → List ℕ → List ℕ → List ℕ → ℕ → Type 0
+abbrev pub Added : List (Sourced (List ℕ)) → ℕ → ℕ → List ℕ → List ℕ → List ℕ → List ℕ → ℕ → Type 0
 Added es offset place text text′ records records′ r = WroteExclusions offset place text text′ records records′ es r (place + length es)
 
 -- ---- what a call comes to, for both parsers
@@ -178,16 +183,16 @@ keptCount AsWritten variables excluded = pick (eqb variables 0) 0 excluded
 keptCount LookedUp variables excluded = excluded
 
 -- all of these, or none
-abbrev pub AllOrNone : ℕ → List (List ℕ) → Type 0
+abbrev pub AllOrNone : ℕ → List (Sourced (List ℕ)) → Type 0
 AllOrNone kept es = (kept ≡ 0) ⊎ (kept ≡ length es)
 
-abbrev pub keptOf : ℕ → List (List ℕ) → List (List ℕ)
+abbrev pub keptOf : ℕ → List (Sourced (List ℕ)) → List (Sourced (List ℕ))
 keptOf kept es = pick (eqb kept 0) [] es
 
 abbrev pub hanging : Exclusions → Targets → Targets
 hanging AsWritten (targets [] es) = targets [] []
 hanging AsWritten (targets (v ∷ vs) es) = targets (v ∷ vs) es
-hanging AsWritten (refused i name) = refused i name
+hanging AsWritten (refused i name x) = refused i name x
 hanging LookedUp ts = ts
 
 -- what a list is read to, with the exclusions that are kept

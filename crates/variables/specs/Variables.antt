@@ -6,9 +6,11 @@ use lib.ListN.{length, take, drop, getD}
 use lib.Dec.{eqb, ltb}
 use Rattle.ascii.specs.Choice.{pick, and}
 use Rattle.ascii.specs.Splits.{Split, whole, halves, split}
+use Rattle.lent.specs.Sources.{Part, Sourced, sourced}
 use Rattle.names.specs.Variables.{variableCode}
 use Rattle.names.specs.declared.Lookup.{Lookup}
 use Rattle.names.specs.declared.Lookup.the-variants.{Code, Unknown}
+use Rattle.variables.specs.Parts.{Piece}
 
 -- ---- one variable
 
@@ -55,47 +57,48 @@ single (b ∷ r) = pick (eqb b 38) (splitSingle (atColon r) true) (splitSingle (
 
 -- ---- a list
 
--- What a list is read to: variables and exclusions, each in order; or the first name that is none, with its piece.
+-- What a list is read to: variables and exclusions, each in order and with the part that it was read from;
+-- or the first name that is none, with its piece and the part that this is.
 pub data Targets : Type 0 where
-  targets : List Variable → List (List ℕ) → Targets
-  refused : ℕ → List ℕ → Targets
+  targets : List (Sourced Variable) → List (Sourced (List ℕ)) → Targets
+  refused : ℕ → List ℕ → Part → Targets
 
--- One piece read before the others.
-abbrev pub withVariable : Single → Targets → Targets
-withVariable (variable v) (targets vs es) = targets (v ∷ vs) es
-withVariable (variable v) (refused i n) = refused (suc i) n
-withVariable (unknown n) (targets vs es) = refused 0 n
-withVariable (unknown n) (refused i m) = refused 0 n
+-- One piece, which stands at x, read before the others.
+abbrev pub withVariable : Part → Single → Targets → Targets
+withVariable x (variable v) (targets vs es) = targets (sourced v x ∷ vs) es
+withVariable x (variable v) (refused i n y) = refused (suc i) n y
+withVariable x (unknown n) (targets vs es) = refused 0 n x
+withVariable x (unknown n) (refused i m y) = refused 0 n x
 
-abbrev pub withExclusion : List ℕ → Targets → Targets
-withExclusion e (targets vs es) = targets vs (e ∷ es)
-withExclusion e (refused i n) = refused (suc i) n
+abbrev pub withExclusion : Part → List ℕ → Targets → Targets
+withExclusion x e (targets vs es) = targets vs (sourced e x ∷ es)
+withExclusion x e (refused i n y) = refused (suc i) n y
 
 -- An exclusion's name up to a colon, looked up: only parse_update_targets does.
 abbrev pub frontOf : Split → List ℕ
 frontOf (whole s) = s
 frontOf (halves s t) = s
 
-abbrev pub ifKnown : Lookup → List ℕ → Targets → Targets
-ifKnown (Code c) n ts = ts
-ifKnown Unknown n ts = refused 0 n
+abbrev pub ifKnown : Part → Lookup → List ℕ → Targets → Targets
+ifKnown x (Code c) n ts = ts
+ifKnown x Unknown n ts = refused 0 n x
 
--- What `!` does with the text behind it, in each of the two parsers.
+-- What `!` does with the text behind it, in each of the two parsers; the piece stands at the part given, its `!` with it.
 abbrev pub Excluding : Type 0
-Excluding = List ℕ → Targets → Targets
+Excluding = Part → List ℕ → Targets → Targets
 
 abbrev pub asWritten : Excluding
-asWritten e ts = withExclusion e ts
+asWritten x e ts = withExclusion x e ts
 
 abbrev pub lookedUp : Excluding
-lookedUp e ts = ifKnown (variableCode (frontOf (atColon e))) (frontOf (atColon e)) (withExclusion e ts)
+lookedUp x e ts = ifKnown x (variableCode (frontOf (atColon e))) (frontOf (atColon e)) (withExclusion x e ts)
 
--- A piece: an exclusion behind `!`, else a variable.
-abbrev pub piece : Excluding → List ℕ → Targets → Targets
-piece ex [] ts = withVariable (single []) ts
-piece ex (b ∷ r) ts = pick (eqb b 33) (ex r ts) (withVariable (single (b ∷ r)) ts)
+-- A piece, by its place and its bytes: an exclusion behind `!`, else a variable.
+abbrev pub piece : Excluding → Part → List ℕ → Targets → Targets
+piece ex x [] ts = withVariable x (single []) ts
+piece ex x (b ∷ r) ts = pick (eqb b 33) (ex x r ts) (withVariable x (single (b ∷ r)) ts)
 
 -- The loops of parse_variables and parse_update_targets over their pieces.
-unfoldable pub readAll : Excluding → List (List ℕ) → Targets
+unfoldable pub readAll : Excluding → List Piece → Targets
 readAll ex [] = targets [] []
-readAll ex (p ∷ ps) = piece ex p (readAll ex ps)
+readAll ex (p ∷ ps) = piece ex (p .place) (p .text) (readAll ex ps)

@@ -17,8 +17,12 @@ pub enum Answer {
     TooLong,
     NotAscii(usize),
     Short,
-    // 7: the piece, and the length of the name that is none.
-    Unknown { piece: usize, name: usize },
+    // 7: the piece, the length of the name that is none, and the piece's span in the input.
+    Unknown {
+        piece: usize,
+        name: usize,
+        span: u64,
+    },
     // 4: the records needed.
     NoRoom(usize),
 }
@@ -27,8 +31,13 @@ pub enum Answer {
 pub enum Reached {
     // How many records, and the offset past the last text.
     Read { count: usize, offset: usize },
-    // The piece, and the length of the name that is none.
-    Unknown { piece: usize, name: usize },
+    // The piece, the length of the name that is none, and where the piece stands in the list.
+    Unknown {
+        piece: usize,
+        name: usize,
+        first: usize,
+        past: usize,
+    },
     // It may not be read from there: `lent::starts` is false.
     Unfit,
 }

@@ -41,11 +41,19 @@ pub fn read_targets(
 {
     if lent::starts(s.len(), text.len(), offset, place) {
         match scan(s, exclusions, text, offset, records, place) {
-            Tally::Unknown { piece, first, past } => {
-                lent::refuse_piece(text, records, &s[first..past]);
+            Tally::Unknown {
+                piece,
+                begin,
+                end,
+                first,
+                past,
+            } => {
+                lent::refuse_piece(text, records, &s[begin..end]);
                 return Reached::Unknown {
                     piece,
-                    name: past - first,
+                    name: end - begin,
+                    first,
+                    past,
                 };
             }
             Tally::Targets {
@@ -77,7 +85,16 @@ fn parse(input: &[u8], exclusions: Exclusions, text: &mut [u8], records: &mut [u
     }
     match read_targets(input, exclusions, text, 0, records, 0) {
         Reached::Unfit => Answer::Short,
-        Reached::Unknown { piece, name } => Answer::Unknown { piece, name },
+        Reached::Unknown {
+            piece,
+            name,
+            first,
+            past,
+        } => Answer::Unknown {
+            piece,
+            name,
+            span: lent::span(first as u32, (past - first) as u32),
+        },
         Reached::Read { count, offset } => {
             if lent::finish(text, offset, records, count, lent::VARIABLE_WORDS) {
                 return Answer::NoRoom(count);

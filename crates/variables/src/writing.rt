@@ -6,7 +6,7 @@ ghost use Rattle.ascii.specs.Choice.{bit};
 ghost use Rattle.lent.specs.Sizes.{limit, variableWords};
 ghost use Rattle.lent.specs.Buffers.{stored};
 ghost use Rattle.variables.specs.Parts.{pieces};
-ghost use Rattle.variables.specs.Steps.{part, entrySpan, entryWords, Narrow, Scanned, excludedOf, keptOf, AllOrNone, Added};
+ghost use Rattle.variables.specs.Steps.{part, entrySpan, wholeWords, Narrow, Scanned, excludedOf, keptOf, AllOrNone, Added};
 use crate::finding::Next;
 use crate::finding::next_piece;
 use crate::singles::Entry;
@@ -31,12 +31,22 @@ fn span_of(e: Entry, offset: usize) -> u64
     0
 }
 
-// The text of an entry of the piece `p` at the offset `used`, and its record in the place `count`, each where it fits.
-fn put(p: &[u8], e: Entry, text: &mut [u8], used: usize, records: &mut [u64], count: usize)
+// The text of an entry of the piece `p`, which stands at `at` in the list, at the offset `used`, and its record in the
+// place `count`, each where it fits.
+fn put(
+    p: &[u8],
+    at: usize,
+    e: Entry,
+    text: &mut [u8],
+    used: usize,
+    records: &mut [u64],
+    count: usize,
+)
     requires { ⌜ Narrow e used ⌝ }
     requires { ⌜ (e .past ≤ length (now p)) × (count ≤ 4 * limit) ⌝ }
+    requires { ⌜ (at ≤ limit) × (length (now p) ≤ limit) ⌝ }
     ensures { λ r. ⌜ now (text .exit) ≡ stored (now (text .entry)) used (part (now (p .entry)) (e .first) (e .past)) ⌝ }
-    ensures { λ r. ⌜ now (records .exit) ≡ stored (now (records .entry)) (count * variableWords) (entryWords used e) ⌝ }
+    ensures { λ r. ⌜ now (records .exit) ≡ stored (now (records .entry)) (count * variableWords) (wholeWords used e at (length (now (p .entry)))) ⌝ }
 {
     let record = [
         e.kind,
@@ -44,6 +54,7 @@ fn put(p: &[u8], e: Entry, text: &mut [u8], used: usize, records: &mut [u64], co
         flag(e.counts),
         e.selection,
         span_of(e, used),
+        lent::span(at as u32, p.len() as u32),
     ];
     lent::store_words(records, count * lent::VARIABLE_WORDS, &record);
     let first = e.first;
@@ -52,7 +63,7 @@ fn put(p: &[u8], e: Entry, text: &mut [u8], used: usize, records: &mut [u64], co
 }
 
 // What a list was read to: how many variables and exclusions, and the offset past the selections' texts;
-// or the first name that is none, with its piece and its places.
+// or the first name that is none, with its piece, its places, and the piece's.
 pub enum Tally {
     Targets {
         variables: usize,
@@ -61,6 +72,8 @@ pub enum Tally {
     },
     Unknown {
         piece: usize,
+        begin: usize,
+        end: usize,
         first: usize,
         past: usize,
     },
@@ -96,8 +109,10 @@ pub fn scan(
             Reading::Unknown { begin, end } => {
                 return Tally::Unknown {
                     piece: variables + excluded,
-                    first: first + begin,
-                    past: first + end,
+                    begin: first + begin,
+                    end: first + end,
+                    first,
+                    past,
                 };
             }
             Reading::Exclusion => {
@@ -105,7 +120,7 @@ pub fn scan(
                 at = next;
             }
             Reading::Variable(e) => {
-                put(p, e, text, used, records, place + variables);
+                put(p, first, e, text, used, records, place + variables);
                 used += e.past - e.first;
                 variables += 1;
                 at = next;
@@ -146,7 +161,7 @@ pub fn add_exclusions(
                 first: 1,
                 past: past - first,
             };
-            put(&s[first..past], e, text, used, records, count);
+            put(&s[first..past], first, e, text, used, records, count);
             used += past - first - 1;
             count += 1;
             at = next;

@@ -5,13 +5,13 @@ use Prim.Native.Nat.{_≤_, _-_}
 use native.Mathlib.Omega.{arith}
 use denote.Ref.{now}
 use lib.ListN.{length, drop}
-use Rattle.variables.specs.Parts.{pieces}
+use Rattle.variables.specs.Parts.{piecesFrom}
 use Rattle.variables.proofs.PlaceLaws.{bar-fits, trim-fits, trim-first, piece-found, part-empty, next-from, pieces-end}
 use Rattle.variables.proofs.finding.next_piece.Statement.{statement}
 use Rattle.variables.proofs.finding.next_piece.Tie as tie
 
 abbrev Inv-loop : tie.InvT-loop
-Inv-loop s from at₀ at = (from ≤ at) × (pieces (drop at s) ≡ pieces (drop from s))
+Inv-loop s from at₀ at = (from ≤ at) × (piecesFrom at (drop at s) ≡ piecesFrom from (drop from s))
 
 abbrev μ-loop : tie.MeasureT-loop
 μ-loop s from at₀ at = length s - at
