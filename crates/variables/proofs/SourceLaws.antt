@@ -115,8 +115,7 @@ module _ (s : List ℕ) where
   onto-rows : (k b : ℕ) (l : List (List ℕ)) → drop k s ≡ b ∷ drop (k + 1) s → k < length s → Rows s (k + 1) l → Rows s k (onto b l)
   onto-rows k b [] e h w = (record { bytes = rw e (ap (λ (t : List ℕ). b ∷ t) (front (drop (k + 1) s))); inside = omega arith }, tt)
   onto-rows k b (p ∷ ps) e h w =
-      let z : k + 1 + length p + 1 ≡ k + suc (length p) + 1 = omega arith in
-      (
+      let z : k + 1 + length p + 1 ≡ k + suc (length p) + 1 = omega arith in (
         record { bytes = rw e (ap (λ (t : List ℕ). b ∷ t) (w .0 .bytes)); inside = omega (arith, w .0 .inside) },
         subst (λ (j : ℕ). Rows s j ps) z (w .1),
       )
@@ -144,11 +143,11 @@ module _ (s : List ℕ) where
       record {
         inside = record { some = omega arith; within = omega (arith, ends-fit white p, w .inside) };
         bytes = rw i (
-          ap (take l) (sym (drop-drop a k s))
-          ∙ sym (inner a l (length p) (drop k s) (ends-fit white p) (omega (arith, ends-fit white p, w .inside, length-drop k s)))
-          ∙ ap (λ (t : List ℕ). take l (drop a t)) (w .bytes)
-          ∙ ends-are white p
-        );
+            ap (take l) (sym (drop-drop a k s))
+            ∙ sym (inner a l (length p) (drop k s) (ends-fit white p) (omega (arith, ends-fit white p, w .inside, length-drop k s)))
+            ∙ ap (λ (t : List ℕ). take l (drop a t)) (w .bytes)
+            ∙ ends-are white p
+            );
       }
 
   filled-stand : (k : ℕ) (l : List (List ℕ)) → Rows s k l → EveryPiece (Stands s) (filledFrom k l)

@@ -12,7 +12,10 @@ pub use singles::Exclusions;
 // What a list of variables or of update targets answers.
 pub enum Answer {
     // 0: how many records and bytes of text.
-    Read { count: usize, text: usize },
+    Read {
+        count: usize,
+        text: usize,
+    },
     // The numbers 1, 2 and 3.
     TooLong,
     NotAscii(usize),
@@ -30,7 +33,10 @@ pub enum Answer {
 // What a list comes to that is read into buffers from an offset and a place on.
 pub enum Reached {
     // How many records, and the offset past the last text.
-    Read { count: usize, offset: usize },
+    Read {
+        count: usize,
+        offset: usize,
+    },
     // The piece, the length of the name that is none, and where the piece stands in the list.
     Unknown {
         piece: usize,

@@ -1,8 +1,9 @@
 -- By the gate's answer, then by what the list was read to, then by whether the records fit; each way out is one law of AnswerLaws.
+use native.Mathlib.Omega.{arith}
 use denote.Ref.{now}
 use borrow.Author.Needs.{needs}
 use Rattle.variables.specs.declared.Answer.the-variants as Answer
-use Rattle.variables.proofs.AnswerLaws.{never-unfit, parsed-unknown, parsed-read, gate-too-long, gate-not-ascii, gate-short, gate-opened, gate-open}
+use Rattle.variables.proofs.AnswerLaws.{never-unfit, refused-narrow, parsed-unknown, parsed-read, gate-too-long, gate-not-ascii, gate-short, gate-opened, gate-open}
 use Rattle.variables.proofs.parsing.parse.Statement.{statement}
 use Rattle.variables.proofs.parsing.parse.Tie as tie
 
@@ -32,11 +33,26 @@ returns-5 c =
     let a = c .before .before .before .before .before .before .before .before .before .before .before .before .before .before .before .args in
     absurd (never-unfit (a .exclusions) (now (a .input)) (now (a .text)) (now (a .records)) (c .before .before .before .before .before .before .read-targets .ensures) (gate-opened (a .exclusions) (now (a .input)) (now (a .text)) (now (a .records)) _ (c .before .before .before .before .before .before .before .before .before .before .before .admit .ensures) (c .before .before .before .before .before .before .before .before .before .enum-told3 .given .1)) (c .enum-told4 .given .1))
 
+cast-span : tie.Need-cast-span
+cast-span c =
+    let a = c .before .before .before .before .before .before .before .before .before .before .before .before .before .before .before .before .args in
+    omega (arith, refused-narrow (a .exclusions) (now (a .input)) (now (a .text)) (now (a .records)) (c .before .before .before .before .before .before .before .read-targets .ensures) (gate-opened (a .exclusions) (now (a .input)) (now (a .text)) (now (a .records)) _ (c .before .before .before .before .before .before .before .before .before .before .before .before .admit .ensures) (c .before .before .before .before .before .before .before .before .before .before .enum-told3 .given .1)) _ _ _ _ (c .before .piece .given .1))
+
+sub-span : tie.Need-sub-span
+sub-span c =
+    let a = c .before .before .before .before .before .before .before .before .before .before .before .before .before .before .before .before .args in
+    refused-narrow (a .exclusions) (now (a .input)) (now (a .text)) (now (a .records)) (c .before .before .before .before .before .before .before .read-targets .ensures) (gate-opened (a .exclusions) (now (a .input)) (now (a .text)) (now (a .records)) _ (c .before .before .before .before .before .before .before .before .before .before .before .before .admit .ensures) (c .before .before .before .before .before .before .before .before .before .before .enum-told3 .given .1)) _ _ _ _ (c .before .piece .given .1) .0
+
+cast-span-2 : tie.Need-cast-span-2
+cast-span-2 c =
+    let a = c .before .before .before .before .before .before .before .before .before .before .before .before .before .before .before .before .args in
+    omega (arith, refused-narrow (a .exclusions) (now (a .input)) (now (a .text)) (now (a .records)) (c .before .before .before .before .before .before .before .read-targets .ensures) (gate-opened (a .exclusions) (now (a .input)) (now (a .text)) (now (a .records)) _ (c .before .before .before .before .before .before .before .before .before .before .before .before .admit .ensures) (c .before .before .before .before .before .before .before .before .before .before .enum-told3 .given .1)) _ _ _ _ (c .before .piece .given .1))
+
 returns-6 : tie.Need-returns-6
 returns-6 c =
-    let a = c .before .before .before .before .before .before .before .before .before .before .before .before .before .before .before .before .args in
-    gate-open (a .exclusions) (now (a .input)) (now (a .text)) (now (a .records)) _ (c .before .before .before .before .before .before .before .before .before .before .before .before .admit .ensures) (c .before .before .before .before .before .before .before .before .before .before .enum-told3 .given .1)
-    (parsed-unknown (a .exclusions) (now (a .input)) (now (a .text)) (now (a .records)) (c .before .before .before .before .before .before .before .read-targets .ensures) (gate-opened (a .exclusions) (now (a .input)) (now (a .text)) (now (a .records)) _ (c .before .before .before .before .before .before .before .before .before .before .before .before .admit .ensures) (c .before .before .before .before .before .before .before .before .before .before .enum-told3 .given .1)) _ _ (c .before .piece .given .1))
+    let a = c .before .before .before .before .before .before .before .before .before .before .before .before .before .before .before .before .before .args in
+    gate-open (a .exclusions) (now (a .input)) (now (a .text)) (now (a .records)) _ (c .before .before .before .before .before .before .before .before .before .before .before .before .before .admit .ensures) (c .before .before .before .before .before .before .before .before .before .before .before .enum-told3 .given .1)
+    (parsed-unknown (a .exclusions) (now (a .input)) (now (a .text)) (now (a .records)) (c .before .before .before .before .before .before .before .before .read-targets .ensures) (gate-opened (a .exclusions) (now (a .input)) (now (a .text)) (now (a .records)) _ (c .before .before .before .before .before .before .before .before .before .before .before .before .before .admit .ensures) (c .before .before .before .before .before .before .before .before .before .before .before .enum-told3 .given .1)) _ _ _ _ _ (c .before .before .piece .given .1) (c .span .ensures))
 
 returns-7 : tie.Need-returns-7
 returns-7 c =
@@ -59,6 +75,10 @@ parse-spec =
     (λ c κs. search needs)
     (λ c. search needs)
     (λ c. search needs)
+    cast-span
+    sub-span
+    cast-span-2
+    (λ c κs. search needs)
     (λ c. search needs)
     (λ c κs. search needs)
     (λ c. search needs)

@@ -26,8 +26,8 @@ part-refuse-piece-start c = let x = (rw (c .before .before .before .piece .given
 part-refuse-piece-end : tie.Need-part-refuse-piece-end
 part-refuse-piece-end c = let x = (rw (c .before .before .before .piece .given .1) at (c .before .before .before .before .before .before .before .before .before .scan .ensures)) in x .inside
 
-sub-t29 : tie.Need-sub-t29
-sub-t29 c = let x = (rw (c .before .before .before .before .before .before .before .before .before .piece .given .1) at (c .before .before .before .before .before .before .before .before .before .before .before .before .before .before .before .scan .ensures)) in x .ordered
+sub-t31 : tie.Need-sub-t31
+sub-t31 c = let x = (rw (c .before .before .before .before .before .before .before .before .before .piece .given .1) at (c .before .before .before .before .before .before .before .before .before .before .before .before .before .before .before .scan .ensures)) in x .ordered
 
 returns : tie.Need-returns
 returns c =
@@ -49,8 +49,8 @@ add-exclusions-requires c κs =
     let x = (rw (c .before .before .before .before .variables .given .1) at (c .before .before .before .before .before .before .before .before .before .before .scan .ensures)) in
     (b .within, ((omega (arith, used-fits x, b .offset-low, b .within), omega (arith, x .few, b .count-low)), all-or-none (a .exclusions) _ _ _ (excludedOf (pieces (now (a .s)))) (c .before .before .kept .ensures) (x .excluded-are)))
 
-add-t36 : tie.Need-add-t36
-add-t36 c =
+add-t38 : tie.Need-add-t38
+add-t38 c =
     let x = (rw (c .before .before .before .before .before .before .before .before .before .variables .given .1) at (c .before .before .before .before .before .before .before .before .before .before .before .before .before .before .before .scan .ensures)) in
     omega (arith, x .few, kept-low (c .before .before .before .before .before .before .before .before .before .before .before .before .before .before .before .before .before .before .before .before .before .before .before .args .exclusions) _ _ _ (c .before .before .before .before .before .before .before .kept .ensures))
 
@@ -75,7 +75,7 @@ read-targets-spec =
     part-refuse-piece-start
     part-refuse-piece-end
     (λ c κs. search needs)
-    sub-t29
+    sub-t31
     (λ c. search needs)
     (λ c. search needs)
     returns
@@ -83,7 +83,7 @@ read-targets-spec =
     (λ c κs. search needs)
     add-add-exclusions
     add-exclusions-requires
-    add-t36
+    add-t38
     (λ c. search needs)
     (λ c. search needs)
     returns-2
