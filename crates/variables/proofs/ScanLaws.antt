@@ -124,10 +124,6 @@ module _ {n : Exclusions} {s : List ℕ} {offset place : ℕ} {text₀ records�
     pub this-some : 0 < length this
     this-some = omega (arith, this-long, p .some)
 
-    -- numbers that a span word takes
-    pub this-low : (first ≤ limit) × (length this ≤ limit)
-    this-low = (omega (arith, short, p .some, p .before, p .inside), omega (arith, short, this-long, p .before, p .inside))
-
     all-is : readAll (excludingOf n) (pieces s) ≡ ahead (x .vs) (x .es) (variables + excluded) (piece (excludingOf n) (placed first past) this later)
     unfolding readAll
     all-is = x .read ∙ ap (λ (l : List Piece). ahead (x .vs) (x .es) (variables + excluded) (readAll (excludingOf n) l)) (p .list)
@@ -278,9 +274,6 @@ module _ {s : List ℕ} {offset place : ℕ} {text₀ records₀ text records : 
 
     piece-some : 0 < length (part s first past)
     piece-some = omega (arith, piece-long, p .some)
-
-    pub piece-low : length s ≤ limit → (first ≤ limit) × (length (part s first past) ≤ limit)
-    piece-low h = (omega (arith, h, p .some, p .before, p .inside), omega (arith, h, piece-long, p .before, p .inside))
 
     first-byte : getD (part s first past) 0 0 ≡ getD s first 0
     first-byte =

@@ -172,3 +172,73 @@ every-piece f (and-piece {p} h w) = and-piece (f p h) (every-piece f w)
 -- Every source is a part of the list that is not empty; so is the piece that is refused.
 pub targets-inside : (n : Exclusions) (s : List ℕ) → EachIn (Inside (length s)) (targetsOf n s)
 targets-inside n s = targets-in (Inside (length s)) n s (every-piece (λ p h. h .inside) (pieces-stand s))
+
+-- ---- in order
+
+-- each begins where the one before it has ended, or further on; the first at k or further on
+pub data Rising {A : Type 0} : ℕ → List (Sourced A) → Type 0 where
+  no-more : {k : ℕ} → Rising k []
+  then-at : {k : ℕ} {x : Sourced A} {xs : List (Sourced A)} → k ≤ x .source .first → Rising (x .source .past) xs → Rising k (x ∷ xs)
+
+abbrev pub InOrder : ℕ → Targets → Type 0
+InOrder k (targets vs es) = Rising k vs × Rising k es
+InOrder k (refused i name x) = k ≤ x .first
+
+rising-from : {A : Type 0} {j k : ℕ} {xs : List (Sourced A)} → j ≤ k → Rising k xs → Rising j xs
+rising-from h no-more = no-more
+rising-from {j = j} h (then-at {k} {x} {xs} l w) = let m : j ≤ x .source .first = omega (arith, h, l) in then-at m w
+
+from-order : (j k : ℕ) (ts : Targets) → j ≤ k → InOrder k ts → InOrder j ts
+from-order j k (targets vs es) h w = (rising-from h (w .0), rising-from h (w .1))
+from-order j k (refused i name x) h w = omega (arith, h, w)
+
+-- a piece before others that begin where it ends, or further on
+module _ (k : ℕ) (x : Part) (h : k ≤ x .first) (l : x .first ≤ x .past) where
+  variable-order : (y : Single) (ts : Targets) → InOrder (x .past) ts → InOrder k (withVariable x y ts)
+  variable-order (variable v) (targets vs es) w = (then-at h (w .0), rising-from (omega (arith, h, l)) (w .1))
+  variable-order (variable v) (refused i n z) w = omega (arith, h, l, w)
+  variable-order (unknown n) (targets vs es) w = h
+  variable-order (unknown n) (refused i m z) w = h
+
+  exclusion-order : (e : List ℕ) (ts : Targets) → InOrder (x .past) ts → InOrder k (withExclusion x e ts)
+  exclusion-order e (targets vs es) w = (rising-from (omega (arith, h, l)) (w .0), then-at h (w .1))
+  exclusion-order e (refused i n z) w = omega (arith, h, l, w)
+
+  known-order : (y : Lookup) (n : List ℕ) (ts : Targets) → InOrder k ts → InOrder k (ifKnown x y n ts)
+  known-order (Code c) n ts w = w
+  known-order Unknown n ts w = h
+
+  excluding-order : (n : Exclusions) (e : List ℕ) (ts : Targets) → InOrder (x .past) ts → InOrder k (excludingOf n x e ts)
+  excluding-order AsWritten e ts w = exclusion-order e ts w
+  excluding-order LookedUp e ts w = known-order (variableCode (frontOf (atColon e))) (frontOf (atColon e)) (withExclusion x e ts) (exclusion-order e ts w)
+
+  piece-order : (n : Exclusions) (p : List ℕ) (ts : Targets) → InOrder (x .past) ts → InOrder k (piece (excludingOf n) x p ts)
+  piece-order n [] ts w = variable-order (single []) ts w
+  piece-order n (b ∷ r) ts w = go (eqb b 33)
+    where
+      go : (t : Bool) → InOrder k (pick t (excludingOf n x r ts) (withVariable x (single (b ∷ r)) ts))
+      go true = excluding-order n r ts w
+      go false = variable-order (single (b ∷ r)) ts w
+
+filled-order : (n : Exclusions) (k : ℕ) (l : List (List ℕ)) → InOrder k (readAll (excludingOf n) (filledFrom k l))
+unfolding filledFrom readAll
+filled-order n k [] = (no-more, no-more)
+filled-order n k (p ∷ ps) = go (trimEnds p) (filled-order n (k + length p + 1) ps)
+  where
+    go : (t : List ℕ) → InOrder (k + length p + 1) (readAll (excludingOf n) (filledFrom (k + length p + 1) ps))
+        → InOrder k (readAll (excludingOf n) (kept t (placeOf k p) (filledFrom (k + length p + 1) ps)))
+    go [] w = from-order k (k + length p + 1) (readAll (excludingOf n) (filledFrom (k + length p + 1) ps)) (omega arith) w
+    go (b ∷ r) w =
+        let ts = readAll (excludingOf n) (filledFrom (k + length p + 1) ps) in
+        piece-order k (placeOf k p) (omega arith) (omega arith) n (b ∷ r) ts (from-order (placeOf k p .past) (k + length p + 1) ts (omega (arith, ends-fit white p)) w)
+
+hanging-order : (n : Exclusions) (k : ℕ) (ts : Targets) → InOrder k ts → InOrder k (hanging n ts)
+hanging-order AsWritten k (targets [] es) w = (no-more, no-more)
+hanging-order AsWritten k (targets (v ∷ vs) es) w = w
+hanging-order AsWritten k (refused i name x) w = w
+hanging-order LookedUp k ts w = w
+
+-- Variables come in the order of the list, and so do exclusions: one walk over the list finds either.
+pub targets-order : (n : Exclusions) (s : List ℕ) → InOrder 0 (targetsOf n s)
+unfolding targetsOf piecesFrom
+targets-order n s = hanging-order n 0 (readAll (excludingOf n) (pieces s)) (filled-order n 0 (cut s))

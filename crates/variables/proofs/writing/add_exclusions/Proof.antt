@@ -5,7 +5,7 @@ use Prim.Native.Nat.{_+_, _-_, _≤_}
 use native.Mathlib.Omega.{arith}
 use denote.Ref.{now}
 use lib.ListN.{length}
-use Rattle.variables.proofs.ScanLaws.{Adding, add-begun, add-ended-kept, add-done, add-passed, add-narrow, add-turned, piece-long, piece-low}
+use Rattle.variables.proofs.ScanLaws.{Adding, add-begun, add-ended-kept, add-done, add-passed, add-narrow, add-turned, piece-long}
 use Rattle.variables.proofs.LayoutLaws.{text-long, records-long}
 use Rattle.variables.proofs.writing.add_exclusions.Statement.{statement}
 use Rattle.variables.proofs.writing.add_exclusions.Tie as tie
@@ -58,7 +58,7 @@ put-requires c κs =
     let at-next-piece = at-first .before .before in
     let at-loop = at-next-piece .before .before in
     let start = at-loop .before .before .before .before in
-    let p = (rw (at-first .first .given .1) at (at-next-piece .next-piece .ensures)) in (add-narrow (at-loop .loop .inv .0) _ _ _ p (start .pre .0) (start .pre .1 .0 .0), ((omega (arith, piece-long (at-loop .loop .inv .0) _ _ _ p), omega (arith, at-loop .loop .inv .0 .count-low, p .begun, p .some, p .before, p .inside, start .pre .0, start .pre .1 .0)), piece-low (at-loop .loop .inv .0) _ _ _ p (start .pre .0)))
+    let p = (rw (at-first .first .given .1) at (at-next-piece .next-piece .ensures)) in (add-narrow (at-loop .loop .inv .0) _ _ _ p (start .pre .0) (start .pre .1 .0 .0), ((omega (arith, piece-long (at-loop .loop .inv .0) _ _ _ p), omega (arith, at-loop .loop .inv .0 .count-low, p .begun, p .some, p .before, p .inside, start .pre .0, start .pre .1 .0)), (omega (arith, start .pre .0, p .begun, p .some, p .before, p .inside), omega (arith, start .pre .0, piece-long (at-loop .loop .inv .0) _ _ _ p, p .before, p .inside))))
 
 sub-used : tie.Need-sub-used Inv-loop μ-loop
 sub-used c =

@@ -4,7 +4,7 @@ use Prim.Native.Nat.{_+_, _-_}
 use native.Mathlib.Omega.{arith}
 use denote.Ref.{now}
 use lib.ListN.{length}
-use Rattle.variables.proofs.ScanLaws.{Sofar, begun, ended, some-low, this-some, this-low, stopped, passed, entry-narrow, entry-inside, turned}
+use Rattle.variables.proofs.ScanLaws.{Sofar, begun, ended, some-low, this-long, this-some, stopped, passed, entry-narrow, entry-inside, turned}
 use Rattle.variables.proofs.LayoutLaws.{text-long, records-long}
 use Rattle.variables.proofs.writing.scan.Statement.{statement}
 use Rattle.variables.proofs.writing.scan.Tie as tie
@@ -101,7 +101,8 @@ put-requires c κs =
     let at-next-piece = at-first .before .before in
     let at-loop = at-next-piece .before in
     let start = at-loop .before .before .before .before in
-    (entry-narrow (at-loop .loop .inv) (start .pre .0) (start .pre .1) _ _ _ (rw (at-first .first .given .1) at (at-next-piece .next-piece .ensures)) _ (rw (at-e .e .given .1) at (at-read-piece .read-piece .ensures)), ((entry-inside (at-loop .loop .inv) (start .pre .0) (start .pre .1) _ _ _ (rw (at-first .first .given .1) at (at-next-piece .next-piece .ensures)) _ (rw (at-e .e .given .1) at (at-read-piece .read-piece .ensures)), omega (arith, some-low (at-loop .loop .inv) (start .pre .0) (start .pre .1))), this-low (at-loop .loop .inv) (start .pre .0) (start .pre .1) _ _ _ (rw (at-first .first .given .1) at (at-next-piece .next-piece .ensures))))
+    let p = (rw (at-first .first .given .1) at (at-next-piece .next-piece .ensures)) in
+    (entry-narrow (at-loop .loop .inv) (start .pre .0) (start .pre .1) _ _ _ p _ (rw (at-e .e .given .1) at (at-read-piece .read-piece .ensures)), ((entry-inside (at-loop .loop .inv) (start .pre .0) (start .pre .1) _ _ _ p _ (rw (at-e .e .given .1) at (at-read-piece .read-piece .ensures)), omega (arith, some-low (at-loop .loop .inv) (start .pre .0) (start .pre .1))), (omega (arith, start .pre .0, p .begun, p .some, p .before, p .inside), omega (arith, start .pre .0, this-long (at-loop .loop .inv) (start .pre .0) (start .pre .1) _ _ _ p, p .before, p .inside))))
 
 sub-used : tie.Need-sub-used Inv-loop μ-loop
 sub-used c =
