@@ -13,6 +13,7 @@ pub mod WritingLaws
 pub mod ScratchLaws
 pub mod GoingLaws
 pub mod CoreLaws
+pub mod SitingLaws
 pub mod PromiseLaws
 pub mod NumberLaws
 pub mod CountLaws

@@ -20,6 +20,7 @@ use crate::writing::span_of;
 use crate::writing::store_lowered;
 use lent::Flaw;
 use lent::Gate;
+use places::Rule;
 use single_action::Verdict;
 use single_action::put_name;
 use single_action::read_setvar;
@@ -51,13 +52,7 @@ fn refuse_row(
 }
 
 // And one whose name is no action's: the name in small letters, and zeros.
-fn refuse_name(
-    name: &[u8],
-    piece: usize,
-    span: u64,
-    text: &mut [u8],
-    records: &mut [u64],
-) -> Reached
+fn refuse_name(name: &[u8], piece: usize, span: u64, text: &mut [u8], records: &mut [u64]) -> Reached
     requires { ⌜ length (now name) ≤ length (now text) ⌝ }
     ensures { λ r. ⌜ now (text .exit) ≡ padded (length (now (text .entry))) (lowered (now (name .entry))) ⌝ }
     ensures { λ r. ⌜ now (records .exit) ≡ zeros (length (now (records .entry))) ⌝ }
@@ -190,10 +185,17 @@ pub fn parse_actions(
             flaw,
             piece,
             name,
-            span,
+            span: places::site_word(input, 0, Rule::Joined, span),
         },
-        Reached::Unknown { piece, name, span } => Answer::UnknownAction { piece, name, span },
-        Reached::Read { count, offset } => { finish(text, offset, records, count) }
+        Reached::Unknown { piece, name, span } => Answer::UnknownAction {
+            piece,
+            name,
+            span: places::site_word(input, 0, Rule::Joined, span),
+        },
+        Reached::Read { count, offset } => {
+            places::resite(input, 0, Rule::Joined, records, 0, count, lent::ACTION_WORDS);
+            finish(text, offset, records, count)
+        }
         // not past the gate
         Reached::Unfit => Answer::Short,
     }

@@ -4,6 +4,7 @@ use mathlib.Core.List.{List, [], _∷_, _++_}
 use lib.ListN.{length}
 use Rattle.ascii.specs.Choice.{bit}
 use Rattle.lent.specs.Sizes.{spanWord}
+use Rattle.lent.specs.Sources.{Sourced}
 use Rattle.lent.specs.Layout.{textsOf, wordsOf}
 use Rattle.variables.specs.Layout as Targets
 use Rattle.records.specs.Actions.{Action, Slot, absent, present, slotText}
@@ -55,7 +56,7 @@ argumentSlot (marker m) = absent
 argumentSlot (defaults xs) = absent
 argumentSlot (unknown n) = absent
 
-abbrev pub actionsIn : Body → List Action
+abbrev pub actionsIn : Body → List (Sourced Action)
 actionsIn (rule vs o xs) = xs
 actionsIn (act xs) = xs
 actionsIn (marker m) = []

@@ -6,15 +6,19 @@ use mathlib.Core.List.{List, [], _∷_, _++_, map}
 use lib.ListN.{length}
 use lib.Dec.{eqb}
 use Rattle.lent.specs.Sizes.{limit}
+use Rattle.lent.specs.Sources.{Part, part, sitedAll}
+use Rattle.lent.specs.Table.{resited}
 use Rattle.lexer.specs.Tokens.{reading}
 use Rattle.lexer.specs.Places.{feeds}
 use Rattle.lexer.specs.Parts.{raised, among, Closed}
 use Rattle.lexer.specs.Calls.{Ascii}
 use Rattle.directives.specs.Groups.{Item, joined, stray, items}
-use Rattle.directives.specs.Directives.{Directive, Fault, wrongCount, untaken, stopped, within, Result, bad, good, ending, directives}
+use Rattle.directives.specs.Directives.{listed, Body, rule, act, marker, defaults, unknown, Directive, Fault, wrongCount, untaken, stopped, within, Result, bad, good, ending, directives}
 use Rattle.directives.specs.Table.{Filled, Outcome, shut, faulty, overfull, filled}
 use Rattle.directives.specs.Promises.{Lent, Directives}
 use Rattle.directives.specs.declared.Answer.{Answer}
+use Rattle.directives.specs.declared.Answer.the-variants as Answer
+use Rattle.directives.specs.declared.Fault.the-variants as Told
 
 -- ---- idle lines
 
@@ -35,14 +39,25 @@ abbrev pub raisedItem : ℕ → ℕ → Item → Item
 raisedItem d l (joined t args) = joined (raised d l t) (map (raised d l) args)
 raisedItem d l (stray t) = stray (raised d l t)
 
-abbrev pub raisedFault : ℕ → Fault → Fault
-raisedFault l (wrongCount n) = wrongCount (l + n)
-raisedFault l (untaken n) = untaken (l + n)
-raisedFault l (stopped n) = stopped (l + n)
-raisedFault l (within n f) = within (l + n) f
+abbrev pub raisedPart : ℕ → Part → Part
+raisedPart d x = part (d + x .first) (d + x .past)
+
+-- Every source of a body put where a site says.
+abbrev pub resitedBody : (Part → Part) → Body → Body
+resitedBody f (rule vs o xs) = rule (listed (sitedAll f (vs .variables)) (sitedAll f (vs .exclusions))) o (sitedAll f xs)
+resitedBody f (act xs) = act (sitedAll f xs)
+resitedBody f (marker m) = marker m
+resitedBody f (defaults xs) = defaults (sitedAll f xs)
+resitedBody f (unknown n) = unknown n
+
+abbrev pub raisedFault : ℕ → ℕ → Fault → Fault
+raisedFault d l (wrongCount n) = wrongCount (l + n)
+raisedFault d l (untaken n) = untaken (l + n)
+raisedFault d l (stopped n) = stopped (l + n)
+raisedFault d l (within n f) = within (l + n) (resited (raisedPart d) f)
 
 abbrev pub raisedDirective : ℕ → ℕ → Directive → Directive
-raisedDirective d l x = record { line = l + x .line; first = d + x .first; past = d + x .past; body = x .body }
+raisedDirective d l x = record { line = l + x .line; first = d + x .first; past = d + x .past; body = resitedBody (raisedPart d) (x .body) }
 
 -- Both sides of a result, each in its way.
 abbrev pub mapped : {A B : Type 0} → (Fault → Fault) → (A → B) → Result A → Result B
@@ -50,11 +65,11 @@ mapped f g (bad x) = bad (f x)
 mapped f g (good y) = good (g y)
 
 abbrev pub raisedAll : ℕ → ℕ → Result (List Directive) → Result (List Directive)
-raisedAll d l = mapped (raisedFault l) (map (raisedDirective d l))
+raisedAll d l = mapped (raisedFault d l) (map (raisedDirective d l))
 
 -- The directives of a closed front, and behind them a result: the front's first fault comes first.
 abbrev pub behind : List ℕ → Result (List Directive) → Result (List Directive)
-behind front o = ending o (items false (reading front .tokens))
+behind front o = ending front o (items false (reading front .tokens))
 
 -- The rest's own result, further on by the front and the line.
 abbrev pub restBehind : List ℕ → List ℕ → List ℕ → Result (List Directive)
@@ -62,38 +77,57 @@ restBehind front line rest = raisedAll (length front + length line) (feeds front
 
 -- ---- without spans in the input
 
-abbrev pub erased : Directive → Directive
-erased x = record { line = x .line; first = 0; past = 0; body = x .body }
+abbrev pub nowhere : Part → Part
+nowhere x = part 0 0
 
-abbrev pub itself : Fault → Fault
-itself f = f
+abbrev pub erased : Directive → Directive
+erased x = record { line = x .line; first = 0; past = 0; body = resitedBody nowhere (x .body) }
+
+abbrev pub erasedFault : Fault → Fault
+erasedFault (wrongCount n) = wrongCount n
+erasedFault (untaken n) = untaken n
+erasedFault (stopped n) = stopped n
+erasedFault (within n f) = within n (resited nowhere f)
 
 abbrev pub erasedAll : Result (List Directive) → Result (List Directive)
-erasedAll = mapped itself (map erased)
+erasedAll = mapped erasedFault (map erased)
 
--- Directive words with 0 for each record's third word, its span in the input. The first k words are passed as they are.
-unfoldable pub blanked : ℕ → List ℕ → List ℕ
-blanked zero [] = []
-blanked (suc k) [] = []
-blanked zero (w ∷ ws) = 0 ∷ blanked 10 ws
-blanked (suc k) (w ∷ ws) = w ∷ blanked k ws
+-- Words with 0 for one in each record of `suc n`: the first k are passed as they are, and n between two.
+unfoldable pub blanked : ℕ → ℕ → List ℕ → List ℕ
+blanked n zero [] = []
+blanked n (suc k) [] = []
+blanked n zero (w ∷ ws) = 0 ∷ blanked n n ws
+blanked n (suc k) (w ∷ ws) = w ∷ blanked n k ws
 
+-- Without the spans in the input: a directive's third word, a variable's sixth, an action's seventh.
 abbrev pub unspanned : List ℕ → List ℕ
-unspanned = blanked 2
+unspanned = blanked 10 2
+
+abbrev pub unsourcedVariables : List ℕ → List ℕ
+unsourcedVariables = blanked 5 5
+
+abbrev pub unsourcedActions : List ℕ → List ℕ
+unsourcedActions = blanked 6 6
 
 abbrev pub unspannedFilled : Filled → Filled
-unspannedFilled x = record { values = x .values; texts = x .texts; directives = unspanned (x .directives); variables = x .variables; actions = x .actions }
+unspannedFilled x = record {
+  values = x .values;
+  texts = x .texts;
+  directives = unspanned (x .directives);
+  variables = unsourcedVariables (x .variables);
+  actions = unsourcedActions (x .actions);
+}
 
 abbrev pub unspannedOutcome : Outcome → Outcome
 unspannedOutcome (shut f) = shut f
-unspannedOutcome (faulty f) = faulty f
+unspannedOutcome (faulty f) = faulty (erasedFault f)
 unspannedOutcome (overfull d v a) = overfull d v a
 unspannedOutcome (filled x) = filled (unspannedFilled x)
 
 -- ---- the theorem
 
 -- Another idle line in an idle line's place: each text's directives are the front's, and behind them the rest's further on, so that
--- those before the line are the same and those behind it differ in their spans only, by the difference in length; faults are equal.
+-- those before the line are the same and those behind it differ in their spans only, by the difference in length; so do faults.
 pub record Unmoved (front line line′ rest : List ℕ) : Type 0 where
   pub old : directives (front ++ line ++ rest) ≡ behind front (restBehind front line rest)
   pub new : directives (front ++ line′ ++ rest) ≡ behind front (restBehind front line′ rest)
@@ -121,14 +155,24 @@ pub record Alike (m n : Lent) : Type 0 where
   pub variables : length (m .variables) ≡ length (n .variables)
   pub actions : length (m .actions) ≡ length (n .actions)
 
--- Two calls that tell the same: number and values, and all lent memory but each directive's span in the input.
+-- An answer without the span of a refused piece.
+abbrev pub unspannedReply : Answer → Answer
+unspannedReply (Answer.Read directives variables actions text) = Answer.Read directives variables actions text
+unspannedReply Answer.TooLong = Answer.TooLong
+unspannedReply (Answer.NotAscii place) = Answer.NotAscii place
+unspannedReply Answer.Short = Answer.Short
+unspannedReply (Answer.Refused (Told.Line why line)) = Answer.Refused (Told.Line why line)
+unspannedReply (Answer.Refused (Told.Argument why line at len span)) = Answer.Refused (Told.Argument why line at len 0)
+unspannedReply (Answer.NoRoom directives variables actions) = Answer.NoRoom directives variables actions
+
+-- Two calls that tell the same: number and values, and all lent memory, but for spans in the input.
 pub record SameTold {s s′ : List ℕ} {m n : Lent} (k : Called s m) (k′ : Called s′ n) : Type 0 where
-  pub answer : k .reply ≡ k′ .reply
+  pub answer : unspannedReply (k .reply) ≡ unspannedReply (k′ .reply)
   pub text : k .after .text ≡ k′ .after .text
   pub scratch : k .after .scratch ≡ k′ .after .scratch
   pub directives : unspanned (k .after .directives) ≡ unspanned (k′ .after .directives)
-  pub variables : k .after .variables ≡ k′ .after .variables
-  pub actions : k .after .actions ≡ k′ .after .actions
+  pub variables : unsourcedVariables (k .after .variables) ≡ unsourcedVariables (k′ .after .variables)
+  pub actions : unsourcedActions (k .after .actions) ≡ unsourcedActions (k′ .after .actions)
 
 -- M-100's theorem in one place: over the definitions, and over the promise of the public call.
 pub record WholeDirectives : Type 0 where

@@ -36,7 +36,7 @@ argumentNumber (BadArgument flaw) = flawNumber flaw
 -- Number and values of each.
 abbrev pub faultTold : Fault → Given
 faultTold (Fault.Line why line) = given (lineNumber why) (line ∷ [])
-faultTold (Fault.Argument why line at len) = given (argumentNumber why) (line ∷ at ∷ len ∷ [])
+faultTold (Fault.Argument why line at len span) = given (argumentNumber why) (line ∷ at ∷ len ∷ span ∷ [])
 
 -- A fault that leaves a name in the text buffer.
 abbrev pub leavesName : ArgumentFault → Bool
@@ -47,7 +47,7 @@ leavesName (BadArgument flaw) = true
 
 abbrev pub naming : Fault → Bool
 naming (Fault.Line why line) = false
-naming (Fault.Argument why line at len) = leavesName why
+naming (Fault.Argument why line at len span) = leavesName why
 
 -- And of each answer.
 abbrev pub answerGiven : Answer → Given

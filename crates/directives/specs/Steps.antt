@@ -8,6 +8,11 @@ use lib.Dec.{ltb, leb, eqb}
 use Rattle.ascii.specs.Choice.{pick, and, or, bit}
 use Rattle.lent.specs.Sizes.{limit, variableWords, actionWords, directiveWords, spanWord, roomFor}
 use Rattle.lent.specs.Buffers.{zeros, padded, placed, storedEach}
+use Rattle.lent.specs.Sources.{Part, part, partWord, Sourced}
+use Rattle.places.specs.declared.Rule.the-variants as Rule
+use Rattle.places.specs.Sites.{wordPart, siteWord}
+use Rattle.places.specs.Moves.{lastChanged}
+use Rattle.actions.specs.Normal.{normalised}
 use Rattle.lent.specs.Table.{Outcome, refuses, reads}
 use Rattle.lexer.specs.declared.Kind.{Kind}
 use Rattle.lexer.specs.declared.Kind.the-variants.{Directive as Leading, Word, QuotedString, Comment, Newline}
@@ -23,16 +28,15 @@ use Rattle.variables.specs.Cores as Cores
 use Rattle.operators.specs.Operators.{Spec}
 use Rattle.records.specs.Actions.{Action}
 use Rattle.records.specs.Layout as Acts
-use Rattle.actions.specs.Lists.{actionsOf}
 use Rattle.actions.specs.Cores.{reachedFrom, coreGiven, coreRecords}
-use Rattle.actions.specs.declared.Reached.{Reached as ActionsReached}
 use Rattle.directives.specs.Groups.{argumentsOf, items}
-use Rattle.directives.specs.Directives.{Listed, Body, Directive, Fault, within, Result, bad, good, Shape, ofRule, ofAction, ofMarker, ofDefaults, ofOther, lastPast, directives}
+use Rattle.directives.specs.Directives.{Listed, Body, Directive, Fault, within, Result, bad, good, actionsRead, Shape, ofRule, ofAction, ofMarker, ofDefaults, ofOther, lastPast, standing, siteAt, directives}
 use Rattle.directives.specs.Layout.{Reached, reached, pastBody, kindCode, nameSlot, listedIn, actionsIn, negatedWord, operatorWord, argumentSlot, nameEnd, listedEnd, argumentEnd, bodyText, directiveText, directiveRecord, listedCount, actionCount, texts, listedCounts, actionCounts}
 use Rattle.directives.specs.Table.{nameLeft, faultGiven, faultName}
 use Rattle.directives.specs.Promises.{faultTold, naming}
 use Rattle.directives.specs.declared.LineFault.{LineFault}
 use Rattle.directives.specs.declared.ArgumentFault.{ArgumentFault}
+use Rattle.directives.specs.declared.ArgumentFault.the-variants.{UnknownVariable, UnknownOperator, UnknownAction, BadArgument}
 use Rattle.directives.specs.declared.Fault.{Fault as Told}
 use Rattle.directives.specs.declared.Fault.the-variants as Told
 use Rattle.directives.specs.declared.Answer.{Answer}
@@ -44,6 +48,8 @@ use Rattle.directives.specs.declared.tokens.Next.the-variants as Next
 use Rattle.directives.specs.declared.arguments.Arguments.{Arguments}
 use Rattle.directives.specs.declared.arguments.Taken.{Taken}
 use Rattle.directives.specs.declared.parts.Tally.{Tally}
+use Rattle.directives.specs.declared.parts.List.{List as ListAnswer}
+use Rattle.directives.specs.declared.settling.Listed.{Listed as ListPlace}
 use Rattle.directives.specs.declared.parts.Entry.{Entry}
 use Rattle.directives.specs.declared.parts.Judged.{Judged}
 use Rattle.directives.specs.declared.parts.Judged.the-variants as Judged
@@ -97,6 +103,12 @@ Nexts s here held old new (Next.Nothing stop) = None-is s here old new stop
 abbrev pub endsAt : ℕ → ℕ → List Token → ℕ
 endsAt held k args = held + length (Lexed.texts (take k args))
 
+-- Where the argument with this number stands in the input.
+unfoldable pub placeOf : ℕ → List Token → Part
+placeOf n [] = part 0 0
+placeOf zero (t ∷ ts) = standing t
+placeOf (suc n) (t ∷ ts) = placeOf n ts
+
 abbrev pub argumentsAs : ℕ → ℕ → List Token → Arguments
 argumentsAs held past args = record {
   count = length args;
@@ -105,17 +117,23 @@ argumentsAs held past args = record {
   three = endsAt held 3 args;
   end = held + length (Lexed.texts args);
   past = lastPast past args;
+  first = placeOf 0 args;
+  second = placeOf 1 args;
+  third = placeOf 2 args;
 }
 
--- One more, with so many bytes of text, that ends at a place of the input.
-abbrev pub oneMore : Arguments → ℕ → ℕ → Arguments
-oneMore a len past = record {
+-- One more, with so many bytes of text, that stands there in the input.
+abbrev pub oneMore : Arguments → ℕ → Part → Arguments
+oneMore a len here = record {
   count = a .count + 1;
   one = pick (ltb (a .count) 1) (a .end + len) (a .one);
   two = pick (ltb (a .count) 2) (a .end + len) (a .two);
   three = pick (ltb (a .count) 3) (a .end + len) (a .three);
   end = a .end + len;
-  past = past;
+  past = here .past;
+  first = pick (eqb (a .count) 0) here (a .first);
+  second = pick (eqb (a .count) 1) here (a .second);
+  third = pick (eqb (a .count) 2) here (a .third);
 }
 
 -- The tokens that are taken from a cursor on.
@@ -132,6 +150,94 @@ pub record Took (s : List ℕ) (from : Cursor) (past held : ℕ) (old new : List
   pub short : from .place + length (Lexed.texts (takenFrom s from)) ≤ r .next .place
   pub past-low : past ≤ r .arguments .past
   pub past-high : r .arguments .past ≤ r .next .place
+
+-- ---- spans put into the input
+
+-- A token that lies in the input.
+pub record Stands (s : List ℕ) (t : Part) : Type 0 where
+  pub short : length s ≤ limit
+  pub some : t .first < t .past
+  pub inside : t .past ≤ length s
+
+-- Each of the first three arguments that is there.
+pub record Stand (s : List ℕ) (a : Arguments) : Type 0 where
+  pub first : 0 < a .count → Stands s (a .first)
+  pub second : 1 < a .count → Stands s (a .second)
+  pub third : 2 < a .count → Stands s (a .third)
+
+-- A span of a token's text, as the span in the input.
+abbrev pub tokenWord : List ℕ → Part → ℕ → ℕ
+tokenWord s t w = partWord (siteAt s t (wordPart w))
+
+-- The last words of records so changed, where the token is there.
+abbrev pub tokenMoved : List ℕ → Bool → Part → ℕ → ℕ → ℕ → List ℕ → List ℕ
+tokenMoved s there t width count at records = pick there (lastChanged (tokenWord s t) width count at records) records
+
+-- The text of the argument with this number.
+unfoldable pub textNumber : ℕ → List Token → List ℕ
+textNumber n [] = []
+textNumber zero (t ∷ ts) = t .text
+textNumber (suc n) (t ∷ ts) = textNumber n ts
+
+-- The list of actions: the only argument, or the third.
+abbrev pub listAmong : ℕ → ℕ
+listAmong count = pick (eqb count 1) 0 2
+
+abbrev pub listIn : Arguments → ℕ → ListPlace
+listIn a name =
+    pick (eqb (a .count) 1)
+    (record { token = a .first; first = name; past = a .one })
+    (record { token = a .third; first = a .two; past = a .three })
+
+abbrev pub listText : List ℕ → Cursor → List ℕ
+listText s from = textNumber (listAmong (length (takenFrom s from))) (takenFrom s from)
+
+-- Enough to take the arguments again from a cursor on, behind a name in scratch.
+pub record Heard (s : List ℕ) (from : Cursor) (name : ℕ) (scratch : List ℕ) : Type 0 where
+  pub short : length s ≤ limit
+  pub arrived : Arrived s from
+  pub room : length s ≤ length scratch
+  pub low : name ≤ from .place
+
+-- A list of actions among them.
+pub record Listing (s : List ℕ) (from : Cursor) (name : ℕ) (l : ListPlace) : Type 0 where
+  pub is : l ≡ listIn (argumentsAs name (from .place) (takenFrom s from)) name
+  pub token : Stands s (l .token)
+  pub there : listAmong (length (takenFrom s from)) < length (takenFrom s from)
+
+-- A span of such a list's normalised text, as the span in the input; and the last words of records so changed: where nothing was
+-- taken out, places in the list and in its normalised text are the same.
+abbrev pub listWord : List ℕ → Cursor → Part → ℕ → ℕ
+listWord s from t w = tokenWord s t (siteWord Rule.Joined 0 (listText s from) w)
+
+abbrev pub listMoved : List ℕ → Cursor → Part → ℕ → ℕ → ℕ → List ℕ → List ℕ
+listMoved s from t shrunk count at records =
+    lastChanged (tokenWord s t) actionWords count at
+    (pick (ltb 0 shrunk) (lastChanged (siteWord Rule.Joined 0 (listText s from)) actionWords count at records) records)
+
+-- How much shorter a list is when it is normalised.
+abbrev pub shrunkBy : List ℕ → ℕ
+shrunkBy s = length s - length (normalised s)
+
+-- The list is there: one argument, or three at least.
+abbrev pub listThere : ℕ → Bool
+listThere count = or (eqb count 1) (ltb 2 count)
+
+-- What is read of a directive, put into the input.
+pub record Settled (s : List ℕ) (from : Cursor) (a : Arguments) (name : ℕ) (t : Tally) (e : Entry) (variables variables′ actions actions′ : List ℕ) : Type 0 where
+  pub listed : variables′ ≡ tokenMoved s (ltb 0 (a .count)) (a .first) variableWords (e .variables) (t .variables * variableWords) variables
+  pub acted : actions′ ≡ pick (listThere (a .count)) (listMoved s from (listIn a name .token) (e .shrunk) (e .actions) (t .actions * actionWords) actions) actions
+
+-- And a fault.
+abbrev pub spanMoved : List ℕ → Cursor → Arguments → ℕ → ArgumentFault → ℕ → ℕ
+spanMoved s from a name UnknownVariable w = pick (ltb 0 (a .count)) (tokenWord s (a .first) w) w
+spanMoved s from a name UnknownOperator w = pick (ltb 1 (a .count)) (tokenWord s (a .second) w) w
+spanMoved s from a name UnknownAction w = pick (listThere (a .count)) (listWord s from (listIn a name .token) w) w
+spanMoved s from a name (BadArgument flaw) w = pick (listThere (a .count)) (listWord s from (listIn a name .token) w) w
+
+abbrev pub faultMoved : List ℕ → Cursor → Arguments → ℕ → Told → Told
+faultMoved s from a name (Told.Line why line) = Told.Line why line
+faultMoved s from a name (Told.Argument why line at len span) = Told.Argument why line at len (spanMoved s from a name why span)
 
 -- ---- one directive
 
@@ -164,25 +270,25 @@ pub record Faulted (f : Fault) (text text′ : List ℕ) (r : Told) : Type 0 whe
   pub given : faultTold r ≡ faultGiven f
   pub left : pick (naming r) text′ (zeros (length text)) ≡ padded (length text) (faultName f)
 
-abbrev pub inArgument : ArgumentFault → ℕ → ℕ → ℕ → Told
-inArgument why line at len = Told.Argument why line at len
+abbrev pub inArgument : ArgumentFault → ℕ → ℕ → ℕ → ℕ → Told
+inArgument why line at len span = Told.Argument why line at len span
 
 -- An entry of that kind with nothing read yet; and one that is given more: a name, variables, an operator, actions.
 abbrev pub emptyEntry : ℕ → ℕ → Entry
-emptyEntry kind text = record { kind = kind; name = 0; negated = 0; operator = 0; argument = 0; variables = 0; actions = 0; text = text }
+emptyEntry kind text = record { kind = kind; name = 0; negated = 0; operator = 0; argument = 0; variables = 0; actions = 0; text = text; shrunk = 0 }
 
 abbrev pub withName : Entry → ℕ → ℕ → Entry
-withName e name text = record { kind = e .kind; name = name; negated = e .negated; operator = e .operator; argument = e .argument; variables = e .variables; actions = e .actions; text = text }
+withName e name text = record { kind = e .kind; name = name; negated = e .negated; operator = e .operator; argument = e .argument; variables = e .variables; actions = e .actions; text = text; shrunk = e .shrunk }
 
 abbrev pub withVariables : Entry → ℕ → ℕ → Entry
-withVariables e n text = record { kind = e .kind; name = e .name; negated = e .negated; operator = e .operator; argument = e .argument; variables = n; actions = e .actions; text = text }
+withVariables e n text = record { kind = e .kind; name = e .name; negated = e .negated; operator = e .operator; argument = e .argument; variables = n; actions = e .actions; text = text; shrunk = e .shrunk }
 
 abbrev pub withOperator : Entry → ℕ → ℕ → ℕ → ℕ → Entry
 withOperator e negated operator argument text =
-    record { kind = e .kind; name = e .name; negated = negated; operator = operator; argument = argument; variables = e .variables; actions = e .actions; text = text }
+    record { kind = e .kind; name = e .name; negated = negated; operator = operator; argument = argument; variables = e .variables; actions = e .actions; text = text; shrunk = e .shrunk }
 
-abbrev pub withActions : Entry → ℕ → ℕ → Entry
-withActions e n text = record { kind = e .kind; name = e .name; negated = e .negated; operator = e .operator; argument = e .argument; variables = e .variables; actions = n; text = text }
+abbrev pub withActions : Entry → ℕ → ℕ → ℕ → Entry
+withActions e n text shrunk = record { kind = e .kind; name = e .name; negated = e .negated; operator = e .operator; argument = e .argument; variables = e .variables; actions = n; text = text; shrunk = shrunk }
 
 -- One part read into an entry: what it grew to, its text laid, and the records that are left.
 pub record Grew (e : Entry) (at : ℕ) (xs text text′ words records′ : List ℕ) (r : Judged) : Type 0 where
@@ -209,21 +315,22 @@ AddsOperator e line text text′ (reads x) =
     (x .argument) text text′ [] []
 AddsOperator e line text text′ (refuses f) = Fell (within line f) text text′
 
-abbrev pub AddsActions : Entry → ℕ → ℕ → List ℕ → List ℕ → List ℕ → List ℕ → Outcome (List Action) → Judged → Type 0
-AddsActions e line place text text′ records records′ (reads xs) =
-    Grew (withActions e (length xs) (e .text + length (Acts.texts xs))) (e .text) (Acts.texts xs) text text′
+abbrev pub AddsActions : Entry → ℕ → ℕ → List ℕ → List ℕ → List ℕ → List ℕ → Outcome (List (Sourced Action)) → ℕ → Judged → Type 0
+AddsActions e line place text text′ records records′ (reads xs) shrunk =
+    Grew (withActions e (length xs) (e .text + length (Acts.texts xs)) shrunk) (e .text) (Acts.texts xs) text text′
     (storedEach records (place * actionWords) (Acts.recordsFrom (e .text) xs)) records′
-AddsActions e line place text text′ records records′ (refuses f) = Fell (within line f) text text′
+AddsActions e line place text text′ records records′ (refuses f) shrunk = Fell (within line f) text text′
 
 -- An action list that was read from scratch: the answer of the parser's core, and what it leaves.
-abbrev pub ListLeft : Outcome (List Action) → ℕ → List ℕ → List ℕ → Type 0
+abbrev pub ListLeft : Outcome (List (Sourced Action)) → ℕ → List ℕ → List ℕ → Type 0
 ListLeft (reads xs) used text text′ = Laid text text′ used (Acts.texts xs)
 ListLeft (refuses f) used text text′ = text′ ≡ padded (length text) (nameLeft f)
 
-pub record ListRead (s : List ℕ) (used place : ℕ) (text text′ records records′ : List ℕ) (r : ActionsReached) : Type 0 where
-  pub answer : r ≡ reachedFrom (coreGiven used (actionsOf s))
-  pub left : ListLeft (actionsOf s) used text text′
-  pub words : records′ ≡ coreRecords used place records (actionsOf s)
+pub record ListRead (s : List ℕ) (used place : ℕ) (text text′ records records′ : List ℕ) (r : ListAnswer) : Type 0 where
+  pub shrunk : r .shrunk ≡ shrunkBy s
+  pub answer : r .reached ≡ reachedFrom (coreGiven used (actionsRead s))
+  pub left : ListLeft (actionsRead s) used text text′
+  pub words : records′ ≡ coreRecords used place records (actionsRead s)
 
 -- A directive's body: its entry and what is written, or its first fault.
 pub record Wrote (x : Body) (t : Tally) (text text′ variables variables′ actions actions′ : List ℕ) (r : Judged) : Type 0 where

@@ -51,8 +51,8 @@ nameLeft tooLong = []
 nameLeft (notAscii place) = []
 nameLeft shortBuffer = []
 nameLeft (noRoom needed) = []
-nameLeft (named why piece name) = name
-nameLeft (unknownOperator place len) = []
+nameLeft (named why piece name source) = name
+nameLeft (unknownOperator place len source) = []
 nameLeft badCursor = []
 
 abbrev pub faultName : Fault → List ℕ

@@ -3,7 +3,9 @@ mod arguments;
 mod bodies;
 mod parts;
 mod reading;
+mod settling;
 mod shapes;
+mod sites;
 mod tokens;
 mod writing;
 
@@ -34,12 +36,14 @@ pub enum Fault {
         why: LineFault,
         line: usize,
     },
-    // the directive's line; the piece, or of 8 the name's place in the argument; the length of the name
+    // the directive's line; the piece, or of 8 the name's place in the argument; the length of the name; the span of the piece, or of
+    // the name, in the input
     Argument {
         why: ArgumentFault,
         line: usize,
         at: usize,
         len: usize,
+        span: u64,
     },
 }
 

@@ -7,10 +7,9 @@ ghost use Rattle.ascii.specs.Choice.{bit};
 ghost use Rattle.lent.specs.Sizes.{limit, spanWord};
 ghost use Rattle.lent.specs.Buffers.{stored};
 ghost use Rattle.lexer.specs.Steps.{part};
-ghost use Rattle.actions.specs.Lists.{actionsOf};
 ghost use Rattle.lent.specs.Endings.{starts};
-ghost use Rattle.directives.specs.Directives.{variablesRead, operatorRead};
-ghost use Rattle.directives.specs.Steps.{inArgument, emptyEntry, withName, AddsVariables, AddsOperator, AddsActions, ListRead};
+ghost use Rattle.directives.specs.Directives.{variablesRead, operatorRead, actionsRead};
+ghost use Rattle.directives.specs.Steps.{inArgument, emptyEntry, withName, shrunkBy, AddsVariables, AddsOperator, AddsActions, ListRead};
 use crate::ArgumentFault;
 use crate::Fault;
 use actions::Normal;
@@ -27,7 +26,8 @@ pub struct Tally {
     pub actions: usize,
 }
 
-// What a directive's record has of its own, and the offset past its texts.
+// What a directive's record has of its own, the offset past its texts, and by how much its list of actions was shorter when it was
+// normalised.
 pub struct Entry {
     pub kind: u64,
     pub name: u64,
@@ -37,6 +37,7 @@ pub struct Entry {
     pub variables: usize,
     pub actions: usize,
     pub text: usize,
+    pub shrunk: usize,
 }
 
 pub enum Judged {
@@ -50,10 +51,16 @@ fn flag(b: bool) -> u64
     if b { 1 } else { 0 }
 }
 
-fn in_argument(why: ArgumentFault, line: usize, at: usize, len: usize) -> Fault
-    ensures { λ r. ⌜ r ≡ inArgument why line at len ⌝ }
+fn in_argument(why: ArgumentFault, line: usize, at: usize, len: usize, span: u64) -> Fault
+    ensures { λ r. ⌜ r ≡ inArgument why line at len span ⌝ }
 {
-    Fault::Argument { why, line, at, len }
+    Fault::Argument {
+        why,
+        line,
+        at,
+        len,
+        span,
+    }
 }
 
 // An entry of that kind with nothing read yet.
@@ -69,6 +76,7 @@ pub fn empty_entry(kind: u64, text: usize) -> Entry
         variables: 0,
         actions: 0,
         text,
+        shrunk: 0,
     }
 }
 
@@ -89,6 +97,7 @@ pub fn add_name(e: Entry, name: &[u8], text: &mut [u8]) -> Entry
         variables: e.variables,
         actions: e.actions,
         text: at + len,
+        shrunk: e.shrunk,
     }
 }
 
@@ -108,8 +117,14 @@ pub fn add_variables(
     match variables::read_targets(s, Exclusions::AsWritten, text, at, records, place) {
         // it starts there
         Targets::Unfit => Judged::Good(e),
-        Targets::Unknown { piece, name } => {
-            Judged::Bad(in_argument(ArgumentFault::UnknownVariable, line, piece, name))
+        Targets::Unknown {
+            piece,
+            name,
+            first,
+            past,
+        } => {
+            let span = lent::span(first as u32, (past - first) as u32);
+            Judged::Bad(in_argument(ArgumentFault::UnknownVariable, line, piece, name, span))
         }
         Targets::Read { count, offset } => Judged::Good(Entry {
             kind: e.kind,
@@ -120,6 +135,7 @@ pub fn add_variables(
             variables: count,
             actions: e.actions,
             text: offset,
+            shrunk: e.shrunk,
         }),
     }
 }
@@ -148,14 +164,22 @@ pub fn add_operator(e: Entry, line: usize, s: &[u8], text: &mut [u8]) -> Judged
                 variables: e.variables,
                 actions: e.actions,
                 text: at + len,
+                shrunk: e.shrunk,
             })
         }
         Operator::Unknown { place, len } => {
-            Judged::Bad(in_argument(ArgumentFault::UnknownOperator, line, place, len))
+            let span = lent::span(place as u32, len as u32);
+            Judged::Bad(in_argument(ArgumentFault::UnknownOperator, line, place, len, span))
         }
         // there is no gate before it
         _ => Judged::Good(e),
     }
+}
+
+// What an action list comes to, and by how much it was shorter when it was normalised.
+struct List {
+    reached: Reached,
+    shrunk: usize,
 }
 
 // The action list in scratch from `first` up to `past`, its texts from `used` and its records from `place` on.
@@ -168,7 +192,7 @@ fn read_list(
     used: usize,
     records: &mut [u64],
     place: usize,
-) -> Reached
+) -> List
     requires { ⌜ (first ≤ past) × (past ≤ length (now scratch)) ⌝ }
     requires { ⌜ starts (past - first) (length (now text)) used place ≡ true ⌝ }
     ensures { λ r. ⌜ ListRead (part (now (scratch .entry)) first past) used place (now (text .entry)) (now (text .exit)) (now (records .entry)) (now (records .exit)) r ⌝ }
@@ -177,8 +201,14 @@ fn read_list(
     let end = used + (past - first);
     match actions::normalise(&text[used..end], scratch) {
         // scratch is as long as the list at least
-        Normal::Short => Reached::Unfit,
-        Normal::Text(n) => actions::read_actions(&scratch[..n], text, used, records, place),
+        Normal::Short => List {
+            reached: Reached::Unfit,
+            shrunk: 0,
+        },
+        Normal::Text(n) => List {
+            reached: actions::read_actions(&scratch[..n], text, used, records, place),
+            shrunk: past - first - n,
+        },
     }
 }
 
@@ -195,10 +225,12 @@ pub fn add_actions(
 ) -> Judged
     requires { ⌜ (first ≤ past) × (past ≤ length (now scratch)) ⌝ }
     requires { ⌜ starts (past - first) (length (now text)) (e .text) place ≡ true ⌝ }
-    ensures { λ r. ⌜ AddsActions e line place (now (text .entry)) (now (text .exit)) (now (records .entry)) (now (records .exit)) (actionsOf (part (now (scratch .entry)) first past)) r ⌝ }
+    ensures { λ r. ⌜ AddsActions e line place (now (text .entry)) (now (text .exit)) (now (records .entry)) (now (records .exit)) (actionsRead (part (now (scratch .entry)) first past)) (shrunkBy (part (now (scratch .entry)) first past)) r ⌝ }
 {
     let used = e.text;
-    match read_list(scratch, first, past, text, used, records, place) {
+    let list = read_list(scratch, first, past, text, used, records, place);
+    let reached = list.reached;
+    match reached {
         Reached::Read { count, offset } => Judged::Good(Entry {
             kind: e.kind,
             name: e.name,
@@ -208,13 +240,19 @@ pub fn add_actions(
             variables: e.variables,
             actions: count,
             text: offset,
+            shrunk: list.shrunk,
         }),
-        Reached::Unknown { piece, name } => {
-            Judged::Bad(in_argument(ArgumentFault::UnknownAction, line, piece, name))
+        Reached::Unknown { piece, name, span } => {
+            Judged::Bad(in_argument(ArgumentFault::UnknownAction, line, piece, name, span))
         }
-        Reached::Bad { flaw, piece, name } => {
+        Reached::Bad {
+            flaw,
+            piece,
+            name,
+            span,
+        } => {
             let why = ArgumentFault::BadArgument(flaw);
-            Judged::Bad(in_argument(why, line, piece, name))
+            Judged::Bad(in_argument(why, line, piece, name, span))
         }
         // it starts there
         Reached::Unfit => Judged::Good(e),

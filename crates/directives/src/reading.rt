@@ -14,6 +14,8 @@ use crate::bodies::read_body;
 use crate::parts::Entry;
 use crate::parts::Judged;
 use crate::parts::Tally;
+use crate::settling::settle;
+use crate::settling::settle_fault;
 use crate::tokens::Next;
 use crate::tokens::Role;
 use crate::tokens::role_of;
@@ -93,8 +95,11 @@ fn read_all(
                         let taken = take_arguments(s, next, next.place, scratch, name);
                         let a = taken.arguments;
                         match read_body(line, scratch, name, a, text, variables, actions, t) {
-                            Judged::Bad(f) => return Ended::First(f),
+                            Judged::Bad(f) => {
+                                return Ended::First(settle_fault(s, next, name, a, scratch, f));
+                            }
                             Judged::Good(e) => {
+                                settle(s, next, name, a, scratch, variables, actions, t, e);
                                 put_directive(records, line, token.first, a.past, t, e);
                                 t = counted(t, e);
                                 here = taken.next;

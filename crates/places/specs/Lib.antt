@@ -3,3 +3,4 @@ pub mod Scans
 pub mod Tables
 pub mod Sites
 pub mod Moves
+pub mod Steps

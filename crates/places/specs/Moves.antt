@@ -30,5 +30,8 @@ lastChanged f width (suc n) i words =
 abbrev pub within : List ℕ → ℕ → ℕ → Bool
 within s k width = and (leb (length s) limit) (and (leb k (length s)) (leb 1 width))
 
+pub record SiteWord (s : List ℕ) (k : ℕ) (rule : Rule) (word r : ℕ) : Type 0 where
+  pub is : r ≡ pick (within s k 1) (siteWord rule k (drop k s) word) word
+
 pub record Resite (s : List ℕ) (k : ℕ) (rule : Rule) (count width at : ℕ) (records records′ : List ℕ) : Type 0 where
   pub words : records′ ≡ pick (within s k width) (lastChanged (siteWord rule k (drop k s)) width count at records) records

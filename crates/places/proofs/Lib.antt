@@ -1,0 +1,6 @@
+pub mod ActLaws
+pub mod WalkLaws
+pub mod SiteLaws
+pub mod MoveLaws
+pub mod LastLaws
+pub mod RaiseLaws

@@ -1,0 +1,278 @@
+-- Where a walk along the source stands: one byte more, a run of plain bytes more, and the part that two stands tell.
+use mathlib.Core.Path.{_≡_, _∙_, refl, sym, ap, subst}
+use mathlib.Core.Bool.{Bool, true, false}
+use mathlib.Core.List.{List, [], _∷_}
+use Prim.Native.Nat.{ℕ, zero, suc, _+_, _-_, _≤_, _<_}
+use native.Mathlib.Numerals.{add-one}
+use native.Mathlib.Omega.{arith}
+use lib.ListN.{length, take, drop, getD, length-drop, drop-of-length-le}
+use lib.Seq.{take-all, getD-take, getD-drop, length-take-le}
+use lib.Dec.{eqb, ltb, leb}
+use borrow.Author.Tests.{ne-eqb, eqb-false, lt-ltb, le-ltb, leb-true, leb-false, ltb-true, ltb-false}
+use Rattle.ascii.specs.Choice.{pick}
+use Rattle.ascii.specs.Trim.{leading}
+use Rattle.ascii.specs.Splits.{firstOf as sought}
+use Rattle.ascii.proofs.ListLaws.{next-byte}
+use Rattle.ascii.proofs.SplitLaws.{first-fits}
+use Rattle.lent.specs.Sources.{part}
+use Rattle.places.specs.Cells.{Cell, cell, firstOf, pastOf}
+use Rattle.places.specs.Scans.{Mode, plain, Act, pass, keep, turn, scanBy, scan}
+use Rattle.places.specs.Tables.{Rule, Joined, Word, Quoted, joining, wording, quotingBy, act}
+use Rattle.places.specs.Sites.{cellsOf, behind, siteIn}
+use Rattle.places.specs.Moves.{Site}
+use Rattle.places.specs.Steps.{Step, Pass, Keep, Turn, Stand, Sited, stepOf, begun, Stands, Paid, Plain, Onward, Moved, Reached, Sites, wanted}
+
+-- ---- a list of cells at a place
+
+past-at : (d n : ℕ) (cs : List Cell) (c : Cell) (t : List Cell) → drop n cs ≡ c ∷ t → pastOf d (take (suc n) cs) ≡ c .past
+unfolding pastOf
+past-at d zero [] c t e = absurd (let l = ap length e in omega arith)
+past-at d zero (x ∷ cs) c t e = ap (pastOf d) (ap (take 1) e)
+past-at d (suc n) [] c t e = absurd (let l = ap length e in omega arith)
+past-at d (suc n) (x ∷ cs) c t e = past-at (x .past) n cs c t e
+
+rest-at : (n : ℕ) (cs : List Cell) (c : Cell) (t : List Cell) → drop n cs ≡ c ∷ t → drop (suc n) cs ≡ t
+rest-at zero [] c t e = absurd (let l = ap length e in omega arith)
+rest-at zero (x ∷ cs) c t e = ap (drop 1) e
+rest-at (suc n) [] c t e = absurd (let l = ap length e in omega arith)
+rest-at (suc n) (x ∷ cs) c t e = rest-at n cs c t e
+
+-- ---- one byte
+
+-- what the code makes of a step
+abbrev pub nextBy : Step → Stand → Stand
+nextBy (Pass m) w = record { count = w .count; place = w .place + 1; mode = m; first = w .first; last = w .last }
+nextBy (Keep m) w = record { count = w .count + 1; place = w .place + 1; mode = m; first = w .place; last = w .place + 1 }
+nextBy (Turn m) w = record { count = w .count + 1; place = w .place + 1; mode = m; first = w .place - 1; last = w .place + 1 }
+
+-- and of a run of plain bytes
+abbrev pub jumpBy : ℕ → Stand → Stand
+jumpBy n w = record { count = w .count + n; place = w .place + n; mode = plain; first = w .place + n - 1; last = w .place + n }
+
+-- in the plain mode any byte but a backslash stands for itself, by every rule
+pub plain-keeps : (rule : Rule) (b : ℕ) (r : List ℕ) → (b ≡ 92 → ⊥) → act rule plain b r ≡ keep b plain
+unfolding joining wording quotingBy
+plain-keeps Joined b r n = rw (ne-eqb b 92 n)
+plain-keeps Word b r n = rw (ne-eqb b 92 n)
+plain-keeps Quoted b r n = rw (ne-eqb b 92 n)
+
+module _ (rule : Rule) (s : List ℕ) (k : ℕ) where
+  abbrev cells : List Cell
+  cells = cellsOf rule k (drop k s)
+
+  pub begun-stands : Stands rule s k (begun k)
+  unfolding pastOf
+  begun-stands = record { inside = omega arith; rest = refl; ends = refl; starts = λ d p. absurd (omega arith) }
+
+  module _ (w : Stand) (x : Stands rule s k w) (h : w .place < length s) where
+    abbrev byte : ℕ
+    byte = getD s (w .place) 0
+
+    abbrev rest : List ℕ
+    rest = drop (w .place + 1) s
+
+    opened : (a : Act) → act rule (w .mode) byte rest ≡ a → drop (w .count) cells ≡ scanBy a (w .place) (λ m. scan (act rule) m (suc (w .place)) rest)
+    unfolding scan
+    opened a e =
+        sym (x .rest) ∙ ap (scan (act rule) (w .mode) (w .place)) (next-byte s (w .place) h)
+        ∙ ap (λ (a : Act). scanBy a (w .place) (λ m. scan (act rule) m (suc (w .place)) rest)) e
+
+    passed : (m : Mode) → act rule (w .mode) byte rest ≡ pass m → Stands rule s k (nextBy (Pass m) w)
+    passed m e = record {
+      inside = x .inside;
+      rest = sym (opened (pass m) e ∙ rw (add-one (w .place)));
+      ends = x .ends;
+      starts = x .starts;
+    }
+
+    -- a byte that gives the cell c
+    gave : (c : Cell) (m : Mode) (w′ : Stand) → drop (w .count) cells ≡ c ∷ scan (act rule) m (suc (w .place)) rest
+        → w′ .count ≡ suc (w .count) → w′ .place ≡ suc (w .place) → w′ .mode ≡ m → w′ .first ≡ c .first → w′ .last ≡ c .past → Stands rule s k w′
+    unfolding firstOf
+    gave c m w′ e n p o f l =
+        let t = scan (act rule) m (suc (w .place)) rest in
+        let long = ap length e in
+        let some : w .count < length cells = omega (arith, long, length-drop (w .count) cells) in
+        let q : rest ≡ drop (suc (w .place)) s = rw (add-one (w .place)) in
+        record {
+          inside = omega (arith, some, n);
+          rest = rw (n, p, o) (ap (scan (act rule) m (suc (w .place))) (sym q) ∙ sym (rest-at (w .count) cells c t e));
+          ends = rw (n, l) (sym (past-at k (w .count) cells c t e));
+          starts = λ d z. let j : w′ .count - 1 ≡ w .count = omega (arith, n) in rw (j, f) (ap (firstOf d) e);
+        }
+
+    kept : (y : ℕ) (m : Mode) (w′ : Stand) → act rule (w .mode) byte rest ≡ keep y m
+        → w′ .count ≡ suc (w .count) → w′ .place ≡ suc (w .place) → w′ .mode ≡ m → w′ .first ≡ w .place → w′ .last ≡ suc (w .place) → Stands rule s k w′
+    kept y m w′ e = gave (cell y (w .place) (suc (w .place))) m w′ (opened (keep y m) e)
+
+    turned : (y : ℕ) (m : Mode) (w′ : Stand) → act rule (w .mode) byte rest ≡ turn y m
+        → w′ .count ≡ suc (w .count) → w′ .place ≡ suc (w .place) → w′ .mode ≡ m → w′ .first ≡ w .place - 1 → w′ .last ≡ suc (w .place) → Stands rule s k w′
+    turned y m w′ e = gave (cell y (w .place - 1) (suc (w .place))) m w′ (opened (turn y m) e)
+
+    next-stands : Stands rule s k (nextBy (stepOf (act rule (w .mode) byte rest)) w)
+    next-stands = go (act rule (w .mode) byte rest) refl
+      where
+        go : (a : Act) → act rule (w .mode) byte rest ≡ a → Stands rule s k (nextBy (stepOf a) w)
+        go (pass m) e = passed m e
+        go (keep y m) e = kept y m (nextBy (Keep m) w) e (omega arith) (omega arith) refl refl (omega arith)
+        go (turn y m) e = turned y m (nextBy (Turn m) w) e (omega arith) (omega arith) refl refl (omega arith)
+
+  jump-stands : (w : Stand) → Stands rule s k w → w .mode ≡ plain → (n : ℕ) → w .place + suc n ≤ length s
+      → ((i : ℕ) → i < suc n → getD s (w .place + i) 0 ≡ 92 → ⊥) → Stands rule s k (jumpBy (suc n) w)
+  jump-stands w x o zero h z =
+      let e : w .place + 0 ≡ w .place = omega arith in
+      let b : getD s (w .place) 0 ≡ 92 → ⊥ = subst (λ (i : ℕ). getD s i 0 ≡ 92 → ⊥) e (z 0 (omega arith)) in
+      kept w x (omega arith) (getD s (w .place) 0) plain (jumpBy 1 w) (rw o (plain-keeps rule _ _ b))
+      (omega arith) (omega arith) refl (omega arith) (omega arith)
+  jump-stands w x o (suc n) h z =
+      let v = jumpBy (suc n) w in
+      let y : Stands rule s k v = jump-stands w x o n (omega arith) (λ i j. z i (omega arith)) in
+      kept v y (omega arith) (getD s (w .place + suc n) 0) plain (jumpBy (suc (suc n)) w) (plain-keeps rule _ _ (z (suc n) (omega arith)))
+      (omega arith) (omega arith) refl (omega arith) (omega arith)
+
+  -- ---- a part
+
+  module _ (w : Stand) (x : Stands rule s k w) where
+    exhausted : length s ≤ w .place → length cells ≤ w .count
+    unfolding scan
+    exhausted h =
+        let e : [] ≡ drop (w .count) cells = sym (rw (drop-of-length-le s h)) ∙ x .rest in
+        let l = ap length e in
+        omega (arith, l, length-drop (w .count) cells)
+
+    behind-is : (past : ℕ) → w .count ≤ past → (w .count < past → length s ≤ w .place) → behind k cells past ≡ w .last
+    behind-is past h e = go (leb past (w .count)) refl
+      where
+        go : (t : Bool) → leb past (w .count) ≡ t → behind k cells past ≡ w .last
+        go true f = let g = leb-true past (w .count) f in let q : past ≡ w .count = omega arith in rw q (sym (x .ends))
+        go false f =
+            let g = leb-false past (w .count) f in
+            let l = exhausted (e g) in
+            let p : take past cells ≡ take (w .count) cells = take-all past cells (omega arith) ∙ sym (take-all (w .count) cells l) in
+            ap (pastOf k) p ∙ sym (x .ends)
+
+  module _ (first past : ℕ) (a z : Stand) (x : Stands rule s k a) (y : Stands rule s k z) (few : z .count ≤ past) (ended : z .count < past → length s ≤ z .place) where
+    pub site-full : first < past → a .count ≡ first + 1 → Site s k rule first past (part (a .first) (z .last))
+    unfolding siteIn
+    site-full h e =
+        let g : a .count - 1 ≡ first = omega arith in
+        let b = behind-is z y past few ended in
+        let f : firstOf (behind k cells past) (drop first cells) ≡ a .first = ap (λ (n : ℕ). firstOf (behind k cells past) (drop n cells)) (sym g) ∙ x .starts (behind k cells past) (omega arith) in
+        sym (rw (lt-ltb first past h, f, b))
+
+    pub site-none : first < past → a .count ≤ first → (a .count < first + 1 → length s ≤ a .place) → Site s k rule first past (part (z .last) (z .last))
+    unfolding siteIn firstOf
+    site-none h e f =
+        let l = exhausted a x (f (omega arith)) in
+        let b = behind-is z y past few ended in
+        sym (rw (lt-ltb first past h, drop-of-length-le cells {i = first} (omega arith), b))
+
+    pub site-empty : past ≤ first → Site s k rule first past (part (z .last) (z .last))
+    unfolding siteIn
+    site-empty h = sym (rw (le-ltb first past h, behind-is z y past few ended))
+
+-- ---- what the code's functions promise
+
+module _ (rule : Rule) (s : List ℕ) (w : Stand) (h : w .place < length s) (p : Paid w) where
+  pub onward-as : {a : Step} (b : Step) → a ≡ stepOf (act rule (w .mode) (getD s (w .place) 0) (drop (w .place + 1) s)) → a ≡ b → Onward rule s w (nextBy b w)
+  onward-as b e f = go b (λ k x. subst (λ (a : Step). Stands rule s k (nextBy a w)) (sym e ∙ f) (next-stands rule s k w x h))
+    where
+      go : (b : Step) → ((k : ℕ) → Stands rule s k w → Stands rule s k (nextBy b w)) → Onward rule s w (nextBy b w)
+      go (Pass m) g = record { stands = g; paid = omega arith; onward = omega arith; few = omega arith }
+      go (Keep m) g = record { stands = g; paid = omega arith; onward = omega arith; few = omega arith }
+      go (Turn m) g = record { stands = g; paid = omega arith; onward = omega arith; few = omega arith }
+
+  pub moved-one : {n : ℕ} {r : Stand} → w .count < n → Onward rule s w r → Moved rule s w n r
+  moved-one l x = record { stands = x .stands; paid = x .paid; onward = x .onward; few = omega (arith, x .few, l) }
+
+  pub moved-run : (n run : ℕ) → w .count < n → w .mode ≡ plain → Plain s (w .place) (n - w .count) run → 0 < run → Moved rule s w n (jumpBy run w)
+  moved-run n zero l o x z = absurd (omega arith)
+  moved-run n (suc j) l o x z = record {
+    stands = λ k y. jump-stands rule s k w y o j (x .inside) (x .none);
+    paid = omega arith;
+    onward = omega arith;
+    few = omega (arith, x .few, l);
+  }
+
+-- the bytes before the first one sought are others
+before-first : (m : ℕ) (l : List ℕ) (i : ℕ) → i < sought m l → getD l i 0 ≡ m → ⊥
+unfolding leading
+before-first m [] i h e = omega arith
+before-first m (b ∷ l) i h e = go (eqb b m) refl (before-first m l) i h e
+  where
+    go : (t : Bool) → eqb b m ≡ t → ((i : ℕ) → i < sought m l → getD l i 0 ≡ m → ⊥) → (i : ℕ) → i < pick (pick t false true) (1 + sought m l) 0 → getD (b ∷ l) i 0 ≡ m → ⊥
+    go true f ih i h e = omega arith
+    go false f ih zero h e = eqb-false b m f e
+    go false f ih (suc i) h e = ih i (omega arith) e
+
+pub run-plain : (s : List ℕ) (place most n r : ℕ) → place + n ≤ length s → n ≤ most → r ≡ sought 92 (take n (drop place s)) → Plain s place most r
+run-plain s place most n r h k e =
+    let l = take n (drop place s) in
+    let f : r ≤ n = omega (arith, e, first-fits 92 l, length-take-le n (drop place s) (omega (arith, length-drop place s))) in
+    record {
+      few = omega arith;
+      inside = omega arith;
+      none = λ i j g. before-first 92 l i (omega (arith, e, j)) (getD-take n (drop place s) i 0 (omega arith) ∙ getD-drop place s i 0 ∙ g);
+    }
+
+-- what a walk to n bytes keeps
+pub record Reaching (rule : Rule) (s : List ℕ) (w : Stand) (n : ℕ) (r : Stand) : Type 0 where
+  pub stands : (k : ℕ) → Stands rule s k w → Stands rule s k r
+  pub paid : Paid r
+  pub few : r .count ≤ n
+
+module _ {rule : Rule} {s : List ℕ} {w : Stand} {n : ℕ} where
+  pub reaching-on : {at r : Stand} → Reaching rule s w n at → Moved rule s at n r → Reaching rule s w n r
+  reaching-on x y = record { stands = λ k z. y .stands k (x .stands k z); paid = y .paid; few = y .few }
+
+  pub reached : {at : Stand} → Reaching rule s w n at → (at .count < n → length s ≤ at .place) → Reached rule s w n at
+  reached x e = record { stands = x .stands; paid = x .paid; few = x .few; ended = e }
+
+-- the walk that a part is sought from
+pub resumed-stands : (rule : Rule) (s : List ℕ) (k : ℕ) (w : Stand) (n : ℕ) → Stands rule s k w → Paid w
+    → let r = pick (ltb n (w .count)) (begun k) w in Stands rule s k r × Paid r × (r .count ≤ n)
+resumed-stands rule s k w n x p = go (ltb n (w .count)) refl
+  where
+    go : (t : Bool) → ltb n (w .count) ≡ t → let r = pick t (begun k) w in Stands rule s k r × Paid r × (r .count ≤ n)
+    go true e = (begun-stands rule s k, omega arith, omega arith)
+    go false e = (x, p, ltb-false n (w .count) e)
+
+pub wanted-fits : (first past : ℕ) → wanted first past ≤ past
+wanted-fits first past = go (ltb first past) refl
+  where
+    go : (t : Bool) → ltb first past ≡ t → pick t (first + 1) past ≤ past
+    go true e = let l = ltb-true first past e in omega arith
+    go false e = omega arith
+
+-- a walk from `from` up to the part's first byte, and on to its last
+module _ {rule : Rule} {s : List ℕ} {k : ℕ} (first past : ℕ) {stop : ℕ} {from a z : Stand} (o : Stands rule s k from) (w : stop ≡ wanted first past)
+    (x : Reached rule s from stop a) (y : Reached rule s a past z) where
+  abbrev standsA : Stands rule s k a
+  standsA = x .stands k o
+
+  abbrev standsZ : Stands rule s k z
+  standsZ = y .stands k standsA
+
+  first-wanted : first < past → stop ≡ first + 1
+  first-wanted h = w ∙ rw (lt-ltb first past h)
+
+  pub sites-full : first < past → first < a .count → Sites s k rule first past (record { part = part (a .first) (z .last); stand = z })
+  sites-full h e = record {
+    site = site-full rule s k first past a z standsA standsZ (y .few) (y .ended) h (omega (arith, first-wanted h, x .few, e));
+    stands = standsZ;
+    paid = y .paid;
+  }
+
+  pub sites-none : first < past → a .count ≤ first → Sites s k rule first past (record { part = part (z .last) (z .last); stand = z })
+  sites-none h e = record {
+    site = site-none rule s k first past a z standsA standsZ (y .few) (y .ended) h e (λ l. x .ended (omega (arith, first-wanted h, l)));
+    stands = standsZ;
+    paid = y .paid;
+  }
+
+  pub sites-empty : past ≤ first → Sites s k rule first past (record { part = part (z .last) (z .last); stand = z })
+  sites-empty h = record {
+    site = site-empty rule s k first past a z standsA standsZ (y .few) (y .ended) h;
+    stands = standsZ;
+    paid = y .paid;
+  }

@@ -1,0 +1,88 @@
+-- What the code does with a table: a step of it, and where a walk along the source stands.
+use mathlib.Core.Path.{_≡_}
+use Prim.Native.Nat.{ℕ, _+_, _-_, _≤_, _<_}
+use mathlib.Core.List.{List}
+use lib.ListN.{length, drop, getD}
+use lib.Dec.{ltb}
+use Rattle.ascii.specs.Choice.{pick}
+use Rattle.places.specs.Cells.{firstOf}
+use Rattle.places.specs.Scans.{Act, pass, keep, turn, plain, scan}
+use Rattle.places.specs.Tables.{Rule, act}
+use Rattle.places.specs.Sites.{cellsOf, behind, siteWord}
+use Rattle.places.specs.Moves.{Site, lastChanged}
+pub use Rattle.places.specs.declared.acting.Step.{Step}
+pub use Rattle.places.specs.declared.acting.Step.the-variants.{Pass, Keep, Turn}
+pub use Rattle.places.specs.declared.walking.Stand.{Stand}
+pub use Rattle.places.specs.declared.walking.Sited.{Sited}
+pub use Rattle.places.specs.declared.moving.Moved.{Moved as MovedWord}
+
+-- What a byte does, without the byte that it gives.
+abbrev pub stepOf : Act → Step
+stepOf (pass m) = Pass m
+stepOf (keep x m) = Keep m
+stepOf (turn x m) = Turn m
+
+-- ---- a walk along the source
+
+-- Before the first byte.
+abbrev pub begun : ℕ → Stand
+begun k = record { count = 0; place = k; mode = plain; first = k; last = k }
+
+-- Where a walk stands along the source of a text that was read from the place k on: what is still to come of the text,
+-- and where the byte came from that was passed last.
+pub record Stands (rule : Rule) (s : List ℕ) (k : ℕ) (w : Stand) : Type 0 where
+  pub inside : w .count ≤ length (cellsOf rule k (drop k s))
+  pub rest : scan (act rule) (w .mode) (w .place) (drop (w .place) s) ≡ drop (w .count) (cellsOf rule k (drop k s))
+  pub ends : w .last ≡ behind k (cellsOf rule k (drop k s)) (w .count)
+  pub starts : (d : ℕ) → 0 < w .count → firstOf d (drop (w .count - 1) (cellsOf rule k (drop k s))) ≡ w .first
+
+-- A byte of the text has one of the source at least, so that no count overflows.
+abbrev pub Paid : Stand → Type 0
+Paid w = w .count ≤ w .place
+
+-- So many bytes from the place on are no backslash.
+pub record Plain (s : List ℕ) (place most r : ℕ) : Type 0 where
+  pub few : r ≤ most
+  pub inside : place + r ≤ length s
+  pub none : (i : ℕ) → i < r → getD s (place + i) 0 ≡ 92 → ⊥
+
+-- The walk went on: it stands wherever it stood before.
+pub record Onward (rule : Rule) (s : List ℕ) (w r : Stand) : Type 0 where
+  pub stands : (k : ℕ) → Stands rule s k w → Stands rule s k r
+  pub paid : Paid r
+  pub onward : w .place < r .place
+  pub few : r .count ≤ w .count + 1
+
+-- By at least one byte of the source, and not past n of the text.
+pub record Moved (rule : Rule) (s : List ℕ) (w : Stand) (n : ℕ) (r : Stand) : Type 0 where
+  pub stands : (k : ℕ) → Stands rule s k w → Stands rule s k r
+  pub paid : Paid r
+  pub onward : w .place < r .place
+  pub few : r .count ≤ n
+
+-- Up to n bytes of the text, or the end of the source.
+pub record Reached (rule : Rule) (s : List ℕ) (w : Stand) (n : ℕ) (r : Stand) : Type 0 where
+  pub stands : (k : ℕ) → Stands rule s k w → Stands rule s k r
+  pub paid : Paid r
+  pub few : r .count ≤ n
+  pub ended : r .count < n → length s ≤ r .place
+
+-- ---- a part
+
+abbrev pub wanted : ℕ → ℕ → ℕ
+wanted first past = pick (ltb first past) (first + 1) past
+
+pub record Sites (s : List ℕ) (k : ℕ) (rule : Rule) (first past : ℕ) (r : Sited) : Type 0 where
+  pub site : Site s k rule first past (r .part)
+  pub stands : Stands rule s k (r .stand)
+  pub paid : Paid (r .stand)
+
+-- ---- records
+
+pub record WordSites (s : List ℕ) (k : ℕ) (rule : Rule) (word : ℕ) (r : MovedWord) : Type 0 where
+  pub site : r .word ≡ siteWord rule k (drop k s) word
+  pub stands : Stands rule s k (r .stand)
+  pub paid : Paid (r .stand)
+
+abbrev pub WordsSited : List ℕ → ℕ → Rule → ℕ → ℕ → ℕ → List ℕ → List ℕ → Type 0
+WordsSited s k rule count width at records records′ = records′ ≡ lastChanged (siteWord rule k (drop k s)) width count at records
