@@ -4,3 +4,4 @@ pub mod SiteLaws
 pub mod MoveLaws
 pub mod LastLaws
 pub mod RaiseLaws
+pub mod TokenLaws
