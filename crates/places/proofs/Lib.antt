@@ -5,3 +5,4 @@ pub mod MoveLaws
 pub mod LastLaws
 pub mod RaiseLaws
 pub mod TokenLaws
+pub mod StillLaws
