@@ -6,3 +6,4 @@ pub mod LastLaws
 pub mod RaiseLaws
 pub mod TokenLaws
 pub mod StillLaws
+pub mod SourceLaws
