@@ -7,3 +7,4 @@ pub mod RaiseLaws
 pub mod TokenLaws
 pub mod StillLaws
 pub mod SourceLaws
+pub mod AgainLaws

@@ -32,7 +32,7 @@ debtOf afterCr = 1
 debtOf margin = 0
 
 -- the look for a line end sees the same in the bytes that a word takes
-none-taken : (n : ℕ) (r : List ℕ) → lineEnd r ≡ 0 → lineEnd (take n r) ≡ 0
+pub none-taken : (n : ℕ) (r : List ℕ) → lineEnd r ≡ 0 → lineEnd (take n r) ≡ 0
 unfolding lineEnd feedNext
 none-taken zero r e = refl
 none-taken (suc n) [] e = refl
