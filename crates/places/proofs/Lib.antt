@@ -8,3 +8,4 @@ pub mod TokenLaws
 pub mod StillLaws
 pub mod SourceLaws
 pub mod AgainLaws
+pub mod UnderlineLaws
