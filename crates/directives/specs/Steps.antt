@@ -8,7 +8,7 @@ use lib.Dec.{ltb, leb, eqb}
 use Rattle.ascii.specs.Choice.{pick, and, or, bit}
 use Rattle.lent.specs.Sizes.{limit, variableWords, actionWords, directiveWords, spanWord, roomFor}
 use Rattle.lent.specs.Buffers.{zeros, padded, placed, storedEach}
-use Rattle.lent.specs.Sources.{Part, part, partWord, Sourced}
+use Rattle.lent.specs.Sources.{Part, part as stretch, partWord, Sourced}
 use Rattle.places.specs.declared.Rule.the-variants as Rule
 use Rattle.places.specs.Sites.{wordPart, siteWord}
 use Rattle.places.specs.Moves.{lastChanged}
@@ -30,7 +30,7 @@ use Rattle.records.specs.Actions.{Action}
 use Rattle.records.specs.Layout as Acts
 use Rattle.actions.specs.Cores.{reachedFrom, coreGiven, coreRecords}
 use Rattle.directives.specs.Groups.{argumentsOf, items}
-use Rattle.directives.specs.Directives.{Listed, Body, Directive, Fault, within, Result, bad, good, actionsRead, Shape, ofRule, ofAction, ofMarker, ofDefaults, ofOther, lastPast, standing, siteAt, directives}
+use Rattle.directives.specs.Directives.{Listed, Body, rule, act, marker, defaults, unknown, Directive, Fault, within, Result, bad, good, actionsRead, Shape, ofRule, ofAction, ofMarker, ofDefaults, ofOther, lastPast, standing, siteAt, directives}
 use Rattle.directives.specs.Layout.{Reached, reached, pastBody, kindCode, nameSlot, listedIn, actionsIn, negatedWord, operatorWord, argumentSlot, nameEnd, listedEnd, argumentEnd, bodyText, directiveText, directiveRecord, listedCount, actionCount, texts, listedCounts, actionCounts}
 use Rattle.directives.specs.Table.{nameLeft, faultGiven, faultName}
 use Rattle.directives.specs.Promises.{faultTold, naming}
@@ -105,7 +105,7 @@ endsAt held k args = held + length (Lexed.texts (take k args))
 
 -- Where the argument with this number stands in the input.
 unfoldable pub placeOf : ℕ → List Token → Part
-placeOf n [] = part 0 0
+placeOf n [] = stretch 0 0
 placeOf zero (t ∷ ts) = standing t
 placeOf (suc n) (t ∷ ts) = placeOf n ts
 
@@ -245,9 +245,17 @@ faultMoved s from a name (Told.Argument why line at len span) = Told.Argument wh
 abbrev pub reachedBy : Tally → Reached
 reachedBy t = reached (t .text) (t .variables) (t .actions)
 
+-- Only a list of actions shrinks.
+abbrev pub shrunkFor : Body → ℕ → ℕ
+shrunkFor (rule vs o xs) n = n
+shrunkFor (act xs) n = n
+shrunkFor (marker m) n = 0
+shrunkFor (defaults xs) n = n
+shrunkFor (unknown m) n = 0
+
 -- What a directive's record has of its own.
-abbrev pub entryOf : Reached → Body → Entry
-entryOf r x = record {
+abbrev pub entryOf : Reached → ℕ → Body → Entry
+entryOf r shrunk x = record {
   kind = kindCode x;
   name = Acts.slotWord (r .text) (nameSlot x);
   negated = negatedWord x;
@@ -256,6 +264,7 @@ entryOf r x = record {
   variables = listedCount x;
   actions = actionCount x;
   text = r .text + length (bodyText x);
+  shrunk = shrunkFor x shrunk;
 }
 
 -- The records of its variables and exclusions, and of its actions, one by one, its texts starting at o.
@@ -333,15 +342,15 @@ pub record ListRead (s : List ℕ) (used place : ℕ) (text text′ records reco
   pub words : records′ ≡ coreRecords used place records (actionsRead s)
 
 -- A directive's body: its entry and what is written, or its first fault.
-pub record Wrote (x : Body) (t : Tally) (text text′ variables variables′ actions actions′ : List ℕ) (r : Judged) : Type 0 where
-  pub is : r ≡ Judged.Good (entryOf (reachedBy t) x)
+pub record Wrote (x : Body) (shrunk : ℕ) (t : Tally) (text text′ variables variables′ actions actions′ : List ℕ) (r : Judged) : Type 0 where
+  pub is : r ≡ Judged.Good (entryOf (reachedBy t) shrunk x)
   pub laid : Laid text text′ (t .text) (bodyText x)
   pub listed : variables′ ≡ storedEach variables (t .variables * variableWords) (listedEach (t .text) x)
   pub acted : actions′ ≡ storedEach actions (t .actions * actionWords) (actedEach (t .text) x)
 
-abbrev pub Bodied : Result Body → Tally → List ℕ → List ℕ → List ℕ → List ℕ → List ℕ → List ℕ → Judged → Type 0
-Bodied (good x) t text text′ variables variables′ actions actions′ = Wrote x t text text′ variables variables′ actions actions′
-Bodied (bad f) t text text′ variables variables′ actions actions′ = Fell f text text′
+abbrev pub Bodied : Result Body → ℕ → Tally → List ℕ → List ℕ → List ℕ → List ℕ → List ℕ → List ℕ → Judged → Type 0
+Bodied (good x) shrunk t text text′ variables variables′ actions actions′ = Wrote x shrunk t text text′ variables variables′ actions actions′
+Bodied (bad f) shrunk t text text′ variables variables′ actions actions′ = Fell f text text′
 
 -- A directive of that shape takes so many arguments.
 abbrev pub takes : Shape → ℕ → Bool
@@ -361,6 +370,10 @@ heldBy (suc (suc (suc (suc n)))) v o x = v ∷ o ∷ x ∷ [] ∷ []
 
 abbrev pub heldArguments : List ℕ → ℕ → Arguments → List (List ℕ)
 heldArguments scratch name a = heldBy (a .count) (part scratch name (a .one)) (part scratch (a .one) (a .two)) (part scratch (a .two) (a .three))
+
+-- The list of actions among them.
+abbrev pub heldList : List ℕ → ℕ → Arguments → List ℕ
+heldList scratch name a = pick (eqb (a .count) 1) (part scratch name (a .one)) (part scratch (a .two) (a .three))
 
 -- Numbers that leave room: what is reached, and where the arguments stand in scratch.
 pub record Ready (scratch text : List ℕ) (name : ℕ) (a : Arguments) (t : Tally) : Type 0 where

@@ -3,7 +3,7 @@ ghost use mathlib.Core.Path.{_≡_};
 ghost use lib.ListN.{length, take};
 ghost use Rattle.lexer.specs.Steps.{part};
 ghost use Rattle.directives.specs.Directives.{ruleBy, told, variablesRead, operatorRead, actionsRead, shapeOf, bodyBy};
-ghost use Rattle.directives.specs.Steps.{takes as takesSo, heldArguments, Ready, Bodied};
+ghost use Rattle.directives.specs.Steps.{takes as takesSo, heldArguments, heldList, shrunkBy, Ready, Bodied};
 use crate::Fault;
 use crate::LineFault;
 use crate::arguments::Arguments;
@@ -47,7 +47,7 @@ fn read_rule(
     t: Tally,
 ) -> Judged
     requires { ⌜ Ready (now scratch) (now text) name a t ⌝ }
-    ensures { λ r. ⌜ Bodied (told line (ruleBy (variablesRead (part (now (scratch .entry)) name (a .one))) (operatorRead (part (now (scratch .entry)) (a .one) (a .two))) (actionsRead (part (now (scratch .entry)) (a .two) (a .three))))) t (now (text .entry)) (now (text .exit)) (now (variables .entry)) (now (variables .exit)) (now (actions .entry)) (now (actions .exit)) r ⌝ }
+    ensures { λ r. ⌜ Bodied (told line (ruleBy (variablesRead (part (now (scratch .entry)) name (a .one))) (operatorRead (part (now (scratch .entry)) (a .one) (a .two))) (actionsRead (part (now (scratch .entry)) (a .two) (a .three))))) (shrunkBy (part (now (scratch .entry)) (a .two) (a .three))) t (now (text .entry)) (now (text .exit)) (now (variables .entry)) (now (variables .exit)) (now (actions .entry)) (now (actions .exit)) r ⌝ }
 {
     let one = a.one;
     let two = a.two;
@@ -89,7 +89,7 @@ pub fn read_body(
     t: Tally,
 ) -> Judged
     requires { ⌜ Ready (now scratch) (now text) name a t ⌝ }
-    ensures { λ r. ⌜ Bodied (bodyBy (shapeOf (take name (now (scratch .entry)))) line (take name (now (scratch .entry))) (heldArguments (now (scratch .entry)) name a)) t (now (text .entry)) (now (text .exit)) (now (variables .entry)) (now (variables .exit)) (now (actions .entry)) (now (actions .exit)) r ⌝ }
+    ensures { λ r. ⌜ Bodied (bodyBy (shapeOf (take name (now (scratch .entry)))) line (take name (now (scratch .entry))) (heldArguments (now (scratch .entry)) name a)) (shrunkBy (heldList (now (scratch .entry)) name a)) t (now (text .entry)) (now (text .exit)) (now (variables .entry)) (now (variables .exit)) (now (actions .entry)) (now (actions .exit)) r ⌝ }
 {
     let shape = shape_of(&scratch[..name]);
     if !takes(shape, a.count) {
