@@ -4,3 +4,4 @@ pub mod Tables
 pub mod Sites
 pub mod Moves
 pub mod Steps
+pub mod Cases
