@@ -1,18 +1,18 @@
 -- By every rule a text may be taken up again at a byte that gives one, and a part by itself is read as it was in its place.
-use mathlib.Core.Path.{_≡_, _∙_, refl, sym, ap, subst}
-use mathlib.Core.Bool.{Bool, true, false, true≢false, false≢true}
+use mathlib.Core.Path.{_≡_, _∙_, refl, sym, subst}
+use mathlib.Core.Bool.{Bool, true, false, false≢true}
 use mathlib.Core.List.{List, [], _∷_}
-use Prim.Native.Nat.{ℕ, zero, suc, _≤_}
+use Prim.Native.Nat.{ℕ, zero, suc}
 use native.Mathlib.Omega.{arith}
-use lib.ListN.{length, take}
+use lib.ListN.{take}
 use lib.Dec.{eqb}
 use borrow.Author.Tests.{eqb-true}
 use Rattle.ascii.specs.Choice.{pick, and, or}
 use Rattle.lexer.specs.Rules.{feedNext, lineEnd, unescaped}
-use Rattle.places.specs.Scans.{Mode, plain, escaped, stayed, afterCr, margin, Act, pass, keep, turn, spell}
+use Rattle.places.specs.Scans.{Mode, plain, escaped, stayed, afterCr, margin, Act, pass, keep, turn}
 use Rattle.places.specs.Tables.{Rule, Joined, Word, Quoted, skipped, lineNext, plainJoin, marginJoin, joining, slashInWord, plainWord, wording, two, headOf, stays, staysNext, slashInQuotes, plainQuote, marginQuote, quotingBy, act, alone}
 use Rattle.places.proofs.TokenLaws.{none-taken}
-use Rattle.places.proofs.SourceLaws.{Again, uptoBy, upto, Same, Steady, Ahead, steady-ahead}
+use Rattle.places.proofs.SourceLaws.{Again, upto, Same, Steady, Ahead, steady-ahead}
 
 -- ---- what is known behind the byte h and before r
 

@@ -1,5 +1,5 @@
 -- The last words of stored records changed, record by record, are the records stored with their last words changed.
-use mathlib.Core.Path.{_≡_, _∙_, refl, sym, ap, ap₂, subst}
+use mathlib.Core.Path.{_≡_, _∙_, refl, sym, ap, ap₂}
 use mathlib.Core.Bool.{Bool, true, false}
 use mathlib.Core.List.{List, [], _∷_, _++_, append-assoc, map}
 use Prim.Native.Nat.{ℕ, suc, _+_, _-_, _≤_, _<_}
@@ -8,11 +8,10 @@ use lib.ListN.{length, take, drop, getD, set, length-append, length-set, List·g
 use lib.Seq.{length-take-le, set-at, getD-at, set-append-left, take-set-lt, drop-set-lt, getD-take}
 use lib.Dec.{leb}
 use borrow.Author.Tests.{leb-true, leb-false}
-use Rattle.ascii.specs.Choice.{pick}
 use Rattle.lent.specs.Sizes.{spanBase}
 use Rattle.lent.specs.Buffers.{placed, stored, storedEach}
 use Rattle.lent.specs.Layout.{recordsOf}
-use Rattle.lent.specs.Sources.{Part, part, partWord, Sourced, sourcedText, sourcedRecord, sitedBy, sitedAll}
+use Rattle.lent.specs.Sources.{Part, part, partWord, Sourced, sourcedText, sourcedRecord, sitedAll}
 use Rattle.lent.proofs.BufferLaws.{stored-fits, stored-short, stored-length, each-length}
 use Rattle.lent.proofs.SpanLaws.{span-offset, span-length}
 use Rattle.places.specs.Tables.{Rule}

@@ -1,23 +1,20 @@
 -- Last words changed, record by record: what the loop keeps, and how it ends.
 use mathlib.Core.Path.{_≡_, _∙_, refl, sym, ap}
-use mathlib.Core.Bool.{Bool, true, false}
-use mathlib.Core.List.{List, [], _∷_}
+use mathlib.Core.List.{List}
 use Prim.Native.Nat.{ℕ, zero, suc, _+_, _-_, _≤_, _<_}
 use native.Mathlib.Numerals.{add-one}
 use native.Mathlib.Nat.{sub-zero}
 use native.Mathlib.Omega.{arith}
 use lib.ListN.{length, drop, getD, set, length-set, length-drop}
 use lib.Seq.{set-split}
-use lib.Dec.{leb}
 use borrow.Author.Tests.{le-leb, lt-leb}
-use Rattle.ascii.specs.Choice.{pick}
 use Rattle.lent.specs.Sizes.{limit, spanOffset, spanLength}
 use Rattle.lent.specs.Sources.{part, partWord}
 use Rattle.places.specs.Tables.{Rule}
-use Rattle.places.specs.Sites.{siteOf, siteWord, wordPart}
-use Rattle.places.specs.Moves.{SiteWord, changed, lastChanged, within, Site, Resite}
+use Rattle.places.specs.Sites.{siteWord}
+use Rattle.places.specs.Moves.{SiteWord, changed, lastChanged, Resite}
 use Rattle.places.specs.Steps.{Stand, Sited, MovedWord, Stands, Paid, Sites, WordSites}
-use Rattle.places.proofs.SiteLaws.{Bounded, site-bounds}
+use Rattle.places.proofs.SiteLaws.{site-bounds}
 
 -- ---- a span word
 

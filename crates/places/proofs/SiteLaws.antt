@@ -2,15 +2,15 @@
 use mathlib.Core.Path.{_≡_, _∙_, refl, sym, ap, subst}
 use mathlib.Core.Bool.{Bool, true, false}
 use mathlib.Core.List.{List, [], _∷_}
-use Prim.Native.Nat.{ℕ, zero, suc, _+_, _-_, _≤_, _<_}
+use Prim.Native.Nat.{ℕ, zero, suc, _+_, _≤_, _<_}
 use native.Mathlib.Omega.{arith}
-use lib.ListN.{length, take, drop, drop-of-length-le}
+use lib.ListN.{length, drop, drop-of-length-le}
 use lib.Dec.{eqb, ltb, leb}
-use borrow.Author.Tests.{lt-ltb, leb-true, leb-false, ltb-true, ltb-false}
+use borrow.Author.Tests.{lt-ltb, leb-true, leb-false, ltb-true}
 use Rattle.ascii.specs.Choice.{pick, and, or}
 use Rattle.lent.specs.Sources.{Part, part}
 use Rattle.lexer.specs.Rules.{lineEnd, unescaped}
-use Rattle.places.specs.Cells.{Cell, cell, bytesOf, firstOf, pastOf, Along}
+use Rattle.places.specs.Cells.{Cell, bytesOf, firstOf, pastOf, Along}
 use Rattle.places.specs.Scans.{Mode, plain, escaped, stayed, afterCr, margin, Act, pass, keep, turn, scanBy, spellBy, scan, spell}
 use Rattle.places.specs.Tables.{Rule, Joined, Word, Quoted, skipped, lineNext, plainJoin, marginJoin, joining, slashInWord, plainWord, wording, headOf, staysNext, slashInQuotes, plainQuote, marginQuote, quotingBy, actBy, act}
 use Rattle.places.specs.Sites.{cellsOf, textOf, behind, siteIn, siteOf}

@@ -1,11 +1,11 @@
 -- The source of a part of the text: from where its first byte came from, and up to where its last one did.
-use mathlib.Core.Path.{_≡_, _∙_, refl, sym, ap, ap₂, subst}
-use mathlib.Core.List.{List, [], _∷_, _++_}
-use Prim.Native.Nat.{ℕ, zero, suc, _+_, _-_, _≤_, _<_}
+use mathlib.Core.Path.{_≡_, _∙_, refl, sym, ap}
+use mathlib.Core.List.{List, [], _∷_}
+use Prim.Native.Nat.{ℕ, zero, suc, _+_, _≤_, _<_}
 use native.Mathlib.Omega.{arith}
 use lib.ListN.{length, take, drop}
 use lib.Seq.{drop-nil, take-nil}
-use Rattle.places.specs.Cells.{Cell, cell, bytesOf, firstOf, pastOf}
+use Rattle.places.specs.Cells.{firstOf, pastOf}
 use Rattle.places.specs.Scans.{Mode, plain, Act, pass, keep, turn, scanBy, spellBy, scan, spell}
 
 -- Where the n-th byte of the text came from: how many bytes stand before that, of the source with the byte before it.

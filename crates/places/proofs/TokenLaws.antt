@@ -1,14 +1,14 @@
 -- The lexer's tokens: read by a rule, the bytes that one takes give its text.
-use mathlib.Core.Path.{_≡_, _∙_, refl, sym, ap, ap₂, subst}
-use mathlib.Core.Logic.{_⊎_, inl, inr, ⊎-elim}
+use mathlib.Core.Path.{_≡_, _∙_, refl, sym, ap}
+use mathlib.Core.Logic.{_⊎_, inl, inr}
 use mathlib.Core.Bool.{Bool, true, false, true≢false, false≢true}
 use mathlib.Core.List.{List, [], _∷_, _++_, append-assoc}
 use Prim.Native.Nat.{ℕ, zero, suc, _≤_}
 use native.Mathlib.Omega.{arith}
 use lib.ListN.{take}
 use lib.Dec.{eqb}
-use borrow.Author.Tests.{eqb-true, eqb-false, eq-eqb, ne-eqb}
-use Rattle.ascii.specs.Choice.{pick, or}
+use borrow.Author.Tests.{eqb-true, eq-eqb}
+use Rattle.ascii.specs.Choice.{pick}
 use Rattle.lexer.specs.declared.bytes.Class.{Class}
 use Rattle.lexer.specs.declared.bytes.Class.the-variants.{Feed, Return, Gap, Upright, Hash, Quote, Slash, Other}
 use Rattle.lexer.specs.Bytes.{class}
@@ -17,8 +17,8 @@ use Rattle.lexer.specs.Rules.{feedNext, lineEnd, wordSlash, wordBy, word, unesc
 use Rattle.lexer.specs.declared.quotes.Mode.{Mode as LexMode}
 use Rattle.lexer.specs.declared.quotes.Mode.the-variants.{Plain, Escaped, AfterCr, Margin}
 use Rattle.lexer.proofs.ClassLaws.{told}
-use Rattle.places.specs.Scans.{Mode, plain, escaped, stayed, afterCr, margin, Act, pass, keep, turn, spellBy, spell}
-use Rattle.places.specs.Tables.{Rule, Word, Quoted, slashInWord, plainWord, wording, two, headOf, stays, staysNext, slashInQuotes, plainQuote, marginQuote, quotingBy, act}
+use Rattle.places.specs.Scans.{Mode, plain, escaped, stayed, afterCr, margin, Act, spellBy, spell}
+use Rattle.places.specs.Tables.{Word, Quoted, plainWord, wording, two, headOf, stays, staysNext, plainQuote, marginQuote, quotingBy}
 use Rattle.places.specs.Sites.{textOf}
 
 -- ---- a word

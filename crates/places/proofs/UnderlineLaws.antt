@@ -1,5 +1,5 @@
 -- The underlined bytes, read by themselves, are the part that they are underlined for.
-use mathlib.Core.Path.{_≡_, _∙_, refl, sym, ap, ap₂, subst}
+use mathlib.Core.Path.{_≡_, _∙_, refl, sym, ap, subst}
 use mathlib.Core.Logic.{_⊎_, inl, inr}
 use mathlib.Core.Bool.{Bool, true, false}
 use mathlib.Core.List.{List, [], _∷_, _++_}
@@ -11,11 +11,11 @@ use lib.Dec.{eqb}
 use borrow.Author.Tests.{eqb-true, lt-ltb}
 use Rattle.ascii.specs.Choice.{pick, or}
 use Rattle.lent.specs.Sources.{Part}
-use Rattle.places.specs.Cells.{Cell, bytesOf, firstOf, pastOf}
+use Rattle.places.specs.Cells.{Cell, bytesOf, pastOf}
 use Rattle.places.specs.Scans.{Mode, plain, escaped, stayed, afterCr, margin, Act, pass, keep, turn, spellBy, scan, spell}
 use Rattle.places.specs.Tables.{Rule, Joined, Word, Quoted, staysNext, plainQuote, marginQuote, quotingBy, act, alone}
 use Rattle.places.specs.Sites.{cellsOf, textOf, readAlone, behind, siteIn, siteOf}
-use Rattle.places.proofs.SiteLaws.{bytes-scan, bytes-length, cells-length, Loose, Tight, tight, site-bounds}
+use Rattle.places.proofs.SiteLaws.{bytes-scan, cells-length, Loose, Tight, tight, site-bounds}
 use Rattle.places.proofs.SourceLaws.{from, upto, from-cells, from-first, upto-past, upto-is}
 use Rattle.places.proofs.AgainLaws.{Prior, prior-first, again, steady, quote-head}
 

@@ -20,7 +20,7 @@ use Rattle.places.specs.Scans.{Mode, plain, Act, pass, keep, turn, scanB
 use Rattle.places.specs.Tables.{Rule, Joined, Word, Quoted, joining, wording, quotingBy, act}
 use Rattle.places.specs.Sites.{cellsOf, behind, siteIn}
 use Rattle.places.specs.Moves.{Site}
-use Rattle.places.specs.Steps.{Step, Pass, Keep, Turn, Stand, Sited, stepOf, begun, Stands, Paid, Plain, Onward, Moved, Reached, Sites, wanted}
+use Rattle.places.specs.Steps.{Step, Pass, Keep, Turn, Stand, stepOf, begun, Stands, Paid, Plain, Onward, Moved, Reached, Sites, wanted}
 
 -- ---- a list of cells at a place
 

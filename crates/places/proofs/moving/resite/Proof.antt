@@ -1,7 +1,4 @@
 -- By the gate: nothing is touched, or all is as the loop leaves it.
-use denote.Ref.{now}
-use mathlib.Core.Path.{_∙_, ap}
-use lib.ListN.{length}
 use Rattle.places.proofs.MoveLaws.{resite-long, resite-past, resite-none, resite-done}
 use borrow.Author.Needs.{needs}
 use Rattle.places.proofs.moving.resite.Statement.{statement}

@@ -2,7 +2,6 @@
 use mathlib.Core.Path.{_∙_}
 use Prim.Native.Nat.{_≤_}
 use native.Mathlib.Omega.{arith}
-use denote.Ref.{now}
 use Rattle.lent.specs.Sizes.{limit}
 use Rattle.places.proofs.MoveLaws.{halves-low, sited-bounds, word-is}
 use borrow.Author.Needs.{needs}

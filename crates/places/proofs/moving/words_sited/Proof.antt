@@ -1,9 +1,8 @@
 -- The loop keeps `Resiting`: what is still to be done of the records gives the whole.
 use mathlib.Core.Path.{refl, sym, subst}
-use Prim.Native.Nat.{ℕ, _-_}
+use Prim.Native.Nat.{_-_}
 use native.Mathlib.Omega.{arith}
 use denote.Ref.{now}
-use lib.ListN.{length, length-set}
 use Rattle.places.specs.Steps.{Stand, Stands, Paid}
 use Rattle.places.proofs.WalkLaws.{begun-stands}
 use Rattle.places.proofs.MoveLaws.{Resiting, resiting-none, resited-on, resited-short, resited-all}

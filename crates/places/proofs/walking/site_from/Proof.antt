@@ -1,9 +1,9 @@
 -- Two walks, to the part's first byte and to its last.
-use mathlib.Core.Path.{_∙_, sym, subst, ap}
-use Prim.Native.Nat.{ℕ, _≤_}
+use mathlib.Core.Path.{sym, subst}
+use Prim.Native.Nat.{_≤_}
 use native.Mathlib.Omega.{arith}
 use denote.Ref.{now}
-use Rattle.places.specs.Steps.{Stand, Stands, Paid, wanted}
+use Rattle.places.specs.Steps.{Stand, Stands, Paid}
 use Rattle.places.proofs.WalkLaws.{resumed-stands, wanted-fits, sites-full, sites-none, sites-empty}
 use borrow.Author.Needs.{needs}
 use Rattle.places.proofs.walking.site_from.Statement.{statement}
