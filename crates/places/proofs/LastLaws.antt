@@ -7,8 +7,9 @@ use native.Mathlib.Omega.{arith}
 use lib.ListN.{length, take, drop, getD, set, length-append, length-set, List·getD-append}
 use lib.Seq.{length-take-le, set-at, getD-at, set-append-left, take-set-lt, drop-set-lt, getD-take}
 use lib.Dec.{leb}
-use borrow.Author.Tests.{leb-true, leb-false}
-use Rattle.lent.specs.Sizes.{spanBase}
+use borrow.Author.Tests.{le-leb, leb-true, leb-false}
+use Rattle.ascii.specs.Choice.{pick}
+use Rattle.lent.specs.Sizes.{limit, spanBase}
 use Rattle.lent.specs.Buffers.{placed, stored, storedEach}
 use Rattle.lent.specs.Layout.{recordsOf}
 use Rattle.lent.specs.Sources.{Part, part, partWord, Sourced, sourcedText, sourcedRecord, sitedAll}
@@ -16,7 +17,8 @@ use Rattle.lent.proofs.BufferLaws.{stored-fits, stored-short, stored-length, ea
 use Rattle.lent.proofs.SpanLaws.{span-offset, span-length}
 use Rattle.places.specs.Tables.{Rule}
 use Rattle.places.specs.Sites.{wordPart, siteOf, siteWord}
-use Rattle.places.specs.Moves.{changed, lastChanged}
+use Rattle.places.specs.Moves.{changed, lastChanged, within, Resite}
+use Rattle.places.proofs.SiteLaws.{site-bounds}
 use Rattle.places.proofs.MoveLaws.{changed-past, changed-one, set-changed}
 
 -- a record with its last word changed
@@ -25,7 +27,7 @@ lastBy f [] = []
 lastBy f (w ∷ []) = f w ∷ []
 lastBy f (w ∷ v ∷ r) = w ∷ lastBy f (v ∷ r)
 
--- records of so many words, and one at least
+-- records of so many words
 abbrev pub Wide : ℕ → List (List ℕ) → Type 0
 Wide width [] = Unit {0}
 Wide width (r ∷ rs) = (length r ≡ width) × Wide width rs
@@ -200,10 +202,19 @@ pub site-word : (rule : Rule) (k : ℕ) (r : List ℕ) (x : Part) → Narrow x �
 unfolding siteWord
 site-word rule k r x n = ap (λ (y : Part). partWord (siteOf rule k r y)) (word-back x n)
 
+-- a site within the limit
+pub site-narrow : (rule : Rule) (k : ℕ) (r : List ℕ) (x : Part) → k + length r ≤ limit → Narrow (siteOf rule k r x)
+site-narrow rule k r x h = let b = site-bounds rule k r x in (b .order, omega (arith, b .high, h))
+
 module _ {A : Type 0} where
   abbrev pub AllNarrow : List (Sourced A) → Type 0
   AllNarrow [] = Unit {0}
   AllNarrow (x ∷ xs) = Narrow (x .source) × AllNarrow xs
+
+  -- so that sources may be put in their place once more
+  pub sited-narrow : (rule : Rule) (k : ℕ) (r : List ℕ) (xs : List (Sourced A)) → k + length r ≤ limit → AllNarrow (sitedAll (siteOf rule k r) xs)
+  sited-narrow rule k r [] h = tt
+  sited-narrow rule k r (x ∷ xs) h = (site-narrow rule k r (x .source) h, sited-narrow rule k r xs h)
 
   module _ (words : ℕ → A → List ℕ) (text : A → List ℕ) (width : ℕ) (wide : (o : ℕ) (x : A) → length (words o x) + 1 ≡ width) where
     pub records-wide : (o : ℕ) (xs : List (Sourced A)) → Wide width (recordsOf (sourcedRecord words) (sourcedText text) o xs)
@@ -242,3 +253,12 @@ module _ {A : Type 0} where
               ap (λ (m : ℕ). lastChanged (wordBy f) width m i (storedEach old i rs)) (sym (records-count o xs))
               ∙ each-last (wordBy f) width p old i rs (records-wide o xs)
               ∙ ap (storedEach old i) (records-sited o xs n)
+
+    -- The same from the promise of `resite`.
+    pub resite-sources : (rule : Rule) (k : ℕ) (s old : List ℕ) (i o : ℕ) (xs : List (Sourced A)) {records records′ : List ℕ}
+        → length s ≤ limit → k ≤ length s → 0 < width → AllNarrow xs → records ≡ storedEach old i (recordsOf (sourcedRecord words) (sourcedText text) o xs)
+        → Resite s k rule (length xs) width i records records′ → records′ ≡ storedEach old i (recordsOf (sourcedRecord words) (sourcedText text) o (sitedAll (siteOf rule k (drop k s)) xs))
+    resite-sources rule k s old i o xs {records} {records′} h l p n e x =
+        let g : within s k width ≡ true = rw (le-leb (length s) limit h, le-leb k (length s) l, le-leb 1 width p) in
+        x .words ∙ ap (λ (t : Bool). pick t (lastChanged (siteWord rule k (drop k s)) width (length xs) i records) records) g
+        ∙ ap (lastChanged (siteWord rule k (drop k s)) width (length xs) i) e ∙ sources-sited rule k (drop k s) old i o xs n
