@@ -11,7 +11,7 @@ use Rattle.lent.specs.Sources.{Part, partWord, Sourced, sitedAll}
 use Rattle.lent.specs.Table.{Outcome, refuses, reads}
 use Rattle.places.specs.declared.Rule.the-variants.{Joined}
 use Rattle.places.specs.Moves.{SiteWord, Resite}
-use Rattle.places.proofs.LastLaws.{Narrow, AllNarrow, changed-by, site-word, sources-sited}
+use Rattle.places.proofs.LastLaws.{Narrow, AllNarrow, site-word, resite-sources}
 use Rattle.records.specs.Actions.{Action, actionText}
 use Rattle.actions.specs.Normal.{normalised}
 use Rattle.actions.specs.Lists.{listed, normalSite}
@@ -48,9 +48,7 @@ module _ (s : List ℕ) (l : length s ≤ limit) where
   -- all records
   pub records-sited : {text text′ records records₁ records₂ : List ℕ} {count used : ℕ} (x : ReadAll (normalised s) 0 0 text text′ records records₁ count used)
       → Resite s 0 Joined count actionWords 0 records₁ records₂ → records₂ ≡ storedEach records 0 (recordsFrom 0 (sitedAll (normalSite s) (x .actions)))
-  records-sited {records = records} x m =
-      m .words
-      ∙ rw (le-leb (length s) limit l, le-leb 0 (length s) (omega arith), x .laid .recorded, x .laid .counted)
-      (changed-by Joined 0 s actionWords (length (x .actions)) 0 (storedEach records 0 (recordsFrom 0 (x .actions)))
-      ∙ sources-sited actionRecord actionText actionWords record-wide (normalSite s) records 0 0 (x .actions)
-      (listed-narrow (normalised s) (omega (arith, normalised-length s)) (x .actions) (x .all)))
+  records-sited {records = records} {records₁} {records₂} x m =
+      resite-sources actionRecord actionText actionWords record-wide Joined 0 s records 0 0 (x .actions) l (omega arith) (omega arith)
+      (listed-narrow (normalised s) (omega (arith, normalised-length s)) (x .actions) (x .all)) (x .laid .recorded)
+      (subst (λ (n : ℕ). Resite s 0 Joined n actionWords 0 records₁ records₂) (x .laid .counted) m)

@@ -261,4 +261,6 @@ module _ {A : Type 0} where
     resite-sources rule k s old i o xs {records} {records′} h l p n e x =
         let g : within s k width ≡ true = rw (le-leb (length s) limit h, le-leb k (length s) l, le-leb 1 width p) in
         x .words ∙ ap (λ (t : Bool). pick t (lastChanged (siteWord rule k (drop k s)) width (length xs) i records) records) g
-        ∙ ap (lastChanged (siteWord rule k (drop k s)) width (length xs) i) e ∙ sources-sited rule k (drop k s) old i o xs n
+        ∙ ap (lastChanged (siteWord rule k (drop k s)) width (length xs) i) e
+        ∙ changed-by rule k (drop k s) width (length xs) i (storedEach old i (recordsOf (sourcedRecord words) (sourcedText text) o xs))
+        ∙ sources-sited (siteOf rule k (drop k s)) old i o xs n
