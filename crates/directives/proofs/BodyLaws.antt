@@ -9,6 +9,7 @@ use denote.Enum.Declared.{tagOf}
 use Rattle.ascii.specs.Choice.{pick, bit}
 use Rattle.lent.specs.Sizes.{spanWord, variableWords, actionWords}
 use Rattle.lent.specs.Buffers.{padded, zeros, stored, storedEach}
+use Rattle.lent.specs.Sources.{Sourced}
 use Rattle.lent.specs.Layout.{textsOf, recordsOf}
 use Rattle.lent.specs.Table.{Outcome, refuses, reads}
 use Rattle.variables.specs.Layout as Targets
@@ -20,7 +21,7 @@ use Rattle.directives.specs.Directives.{Listed, Body, rule, act, marker,
 use Rattle.directives.specs.Layout.{bodyText}
 use Rattle.directives.specs.Table.{faultName}
 use Rattle.directives.specs.Promises.{naming}
-use Rattle.directives.specs.Steps.{Laid, reachedBy, entryOf, listedEach, actedEach, emptyEntry, withName, withVariables, withOperator, withActions, Grew, Faulted, Fell, AddsVariables, AddsOperator, AddsActions, Wrote, Bodied}
+use Rattle.directives.specs.Steps.{Laid, shrunkBy, reachedBy, entryOf, listedEach, actedEach, emptyEntry, withName, withVariables, withOperator, withActions, Grew, Faulted, Fell, AddsVariables, AddsOperator, AddsActions, Wrote, Bodied}
 use Rattle.directives.specs.declared.Fault.{Fault as Told}
 use Rattle.directives.specs.declared.parts.Tally.{Tally}
 use Rattle.directives.specs.declared.parts.Entry.{Entry}
@@ -81,7 +82,7 @@ module _ (e : Entry) (line place : ℕ) (s text text′ records records′ : Lis
 -- ---- a rule
 
 -- what the three parts leave together
-module _ (t : Tally) (l : Listed) (k : Spec) (xs : List Action) where
+module _ (t : Tally) (l : Listed) (k : Spec) (xs : List (Sourced Action)) (shrunk : ℕ) where
   abbrev listed : List ℕ
   listed = Targets.texts (l .variables) (l .exclusions)
 
@@ -94,8 +95,8 @@ module _ (t : Tally) (l : Listed) (k : Spec) (xs : List Action) where
   abbrev whole : Body
   whole = rule l k xs
 
-  entry-is : withActions (withOperator (withVariables (emptyEntry 1 (t .text)) (length (l .variables) + length (l .exclusions)) one) (bit (k .negated)) (k .name) (spanWord one (length (k .argument))) two) (length xs) (two + length (Acts.texts xs))
-      ≡ entryOf (reachedBy t) whole
+  entry-is : withActions (withOperator (withVariables (emptyEntry 1 (t .text)) (length (l .variables) + length (l .exclusions)) one) (bit (k .negated)) (k .name) (spanWord one (length (k .argument))) two) (length xs) (two + length (Acts.texts xs)) shrunk
+      ≡ entryOf (reachedBy t) shrunk whole
   unfolding bodyText
   entry-is =
       let n : t .text + 0 ≡ t .text = add-zero (t .text) in
@@ -108,8 +109,8 @@ module _ (t : Tally) (l : Listed) (k : Spec) (xs : List Action) where
         → e ≡ withVariables (emptyEntry 1 (t .text)) (length (l .variables) + length (l .exclusions)) one
         → Grew (withOperator e (bit (k .negated)) (k .name) (spanWord (e .text) (length (k .argument))) (e .text + length (k .argument))) (e .text) (k .argument) text₁ text₂ [] [] (Judged.Good d)
         → d ≡ withOperator e (bit (k .negated)) (k .name) (spanWord (e .text) (length (k .argument))) (e .text + length (k .argument))
-        → Grew (withActions d (length xs) (d .text + length (Acts.texts xs))) (d .text) (Acts.texts xs) text₂ text₃ (storedEach actions (t .actions * actionWords) (Acts.recordsFrom (d .text) xs)) actions₁ r
-        → Wrote whole t text text₃ variables variables₁ actions actions₁ r
+        → Grew (withActions d (length xs) (d .text + length (Acts.texts xs)) shrunk) (d .text) (Acts.texts xs) text₂ text₃ (storedEach actions (t .actions * actionWords) (Acts.recordsFrom (d .text) xs)) actions₁ r
+        → Wrote whole shrunk t text text₃ variables variables₁ actions actions₁ r
     unfolding bodyText
     rule-wrote y v p z q w =
         let n : t .text + 0 ≡ t .text = add-zero (t .text) in
@@ -120,7 +121,7 @@ module _ (t : Tally) (l : Listed) (k : Spec) (xs : List Action) where
         let f : d ≡ withOperator (withVariables (emptyEntry 1 (t .text)) (length (l .variables) + length (l .exclusions)) one) (bit (k .negated)) (k .name) (spanWord one (length (k .argument))) two =
         q ∙ ap (λ (i : Entry). withOperator i (bit (k .negated)) (k .name) (spanWord (i .text) (length (k .argument))) (i .text + length (k .argument))) p in
         record {
-          is = w .is ∙ ap (λ (i : Entry). Judged.Good (withActions i (length xs) (i .text + length (Acts.texts xs)))) f ∙ ap (λ (i : Entry). Judged.Good i) entry-is;
+          is = w .is ∙ ap (λ (i : Entry). Judged.Good (withActions i (length xs) (i .text + length (Acts.texts xs)) shrunk)) f ∙ ap (λ (i : Entry). Judged.Good i) entry-is;
           laid = laid-more y (laid-more m o);
           listed = v ∙ rw n;
           acted = w .records-are ∙ rw (n, b);
@@ -131,14 +132,14 @@ module _ (line : ℕ) (v o x : List ℕ) (t : Tally) (text variables actions : L
   start = emptyEntry 1 (t .text)
 
   abbrev RuleTo : List ℕ → List ℕ → List ℕ → Judged → Type 0
-  RuleTo text′ variables′ actions′ r = Bodied (told line (ruleBy (variablesRead v) (operatorRead o) (actionsRead x))) t text text′ variables variables′ actions actions′ r
+  RuleTo text′ variables′ actions′ r = Bodied (told line (ruleBy (variablesRead v) (operatorRead o) (actionsRead x))) (shrunkBy x) t text text′ variables variables′ actions actions′ r
 
   module _ (text₁ variables₁ : List ℕ) where
     pub rule-variables : (f : Told) → AddsVariables start line (t .variables) text text₁ variables variables₁ (variablesRead v) (Judged.Bad f) → RuleTo text₁ variables₁ actions (Judged.Bad f)
     rule-variables f = go (variablesRead v)
       where
         go : (l : Outcome Listed) → AddsVariables start line (t .variables) text text₁ variables variables₁ l (Judged.Bad f)
-            → Bodied (told line (ruleBy l (operatorRead o) (actionsRead x))) t text text₁ variables variables₁ actions actions (Judged.Bad f)
+            → Bodied (told line (ruleBy l (operatorRead o) (actionsRead x))) (shrunkBy x) t text text₁ variables variables₁ actions actions (Judged.Bad f)
         go (reads l) y = absurd (never (sym (y .is)))
         go (refuses g) y = y
 
@@ -147,37 +148,37 @@ module _ (line : ℕ) (v o x : List ℕ) (t : Tally) (text variables actions : L
       rule-operator f = go (variablesRead v) y (operatorRead o)
         where
           go : (l : Outcome Listed) → AddsVariables start line (t .variables) text text₁ variables variables₁ l (Judged.Good e) → (k : Outcome Spec) → AddsOperator e line text₁ text₂ k (Judged.Bad f)
-              → Bodied (told line (ruleBy l k (actionsRead x))) t text text₂ variables variables₁ actions actions (Judged.Bad f)
+              → Bodied (told line (ruleBy l k (actionsRead x))) (shrunkBy x) t text text₂ variables variables₁ actions actions (Judged.Bad f)
           go (refuses g) y k z = absurd (never (y .is))
           go (reads l) y (reads k) z = absurd (never (sym (z .is)))
           go (reads l) y (refuses g) z = fell-later (y .laid .long) z
 
       pub rule-done : (d : Entry) → AddsOperator e line text₁ text₂ (operatorRead o) (Judged.Good d) → (text₃ actions₁ : List ℕ) (r : Judged)
-          → AddsActions d line (t .actions) text₂ text₃ actions actions₁ (actionsRead x) r → RuleTo text₃ variables₁ actions₁ r
+          → AddsActions d line (t .actions) text₂ text₃ actions actions₁ (actionsRead x) (shrunkBy x) r → RuleTo text₃ variables₁ actions₁ r
       rule-done d z text₃ actions₁ r = go (variablesRead v) y (operatorRead o) z (actionsRead x)
         where
           go : (l : Outcome Listed) → AddsVariables start line (t .variables) text text₁ variables variables₁ l (Judged.Good e) → (k : Outcome Spec) → AddsOperator e line text₁ text₂ k (Judged.Good d)
-              → (m : Outcome (List Action)) → AddsActions d line (t .actions) text₂ text₃ actions actions₁ m r
-              → Bodied (told line (ruleBy l k m)) t text text₃ variables variables₁ actions actions₁ r
+              → (m : Outcome (List (Sourced Action))) → AddsActions d line (t .actions) text₂ text₃ actions actions₁ m (shrunkBy x) r
+              → Bodied (told line (ruleBy l k m)) (shrunkBy x) t text text₃ variables variables₁ actions actions₁ r
           go (refuses g) y k z m w = absurd (never (y .is))
           go (reads l) y (refuses g) z m w = absurd (never (z .is))
           go (reads l) y (reads k) z (refuses g) w = fell-later (z .laid .long ∙ y .laid .long) w
-          go (reads l) y (reads k) z (reads xs) w = rule-wrote t l k xs (y .laid) (y .records-are) (same-entry (y .is)) z (same-entry (z .is)) w
+          go (reads l) y (reads k) z (reads xs) w = rule-wrote t l k xs (shrunkBy x) (y .laid) (y .records-are) (same-entry (y .is)) z (same-entry (z .is)) w
 
 -- ---- an action list alone
 
-module _ (line kind : ℕ) (make : List Action → Body) (a : List ℕ) (t : Tally) (text text′ variables actions actions′ : List ℕ) (r : Judged)
-    (entry : (xs : List Action) → withActions (emptyEntry kind (t .text)) (length xs) (t .text + length (Acts.texts xs)) ≡ entryOf (reachedBy t) (make xs))
-    (laid : (xs : List Action) → Acts.texts xs ≡ bodyText (make xs))
-    (none : (xs : List Action) → listedEach (t .text) (make xs) ≡ [])
-    (each : (xs : List Action) → Acts.recordsFrom (t .text) xs ≡ actedEach (t .text) (make xs)) where
-  acts-done : AddsActions (emptyEntry kind (t .text)) line (t .actions) text text′ actions actions′ (actionsRead a) r
-      → Bodied (told line (actBy make (actionsRead a))) t text text′ variables variables actions actions′ r
+module _ (line kind : ℕ) (make : List (Sourced Action) → Body) (a : List ℕ) (t : Tally) (text text′ variables actions actions′ : List ℕ) (r : Judged)
+    (entry : (xs : List (Sourced Action)) → withActions (emptyEntry kind (t .text)) (length xs) (t .text + length (Acts.texts xs)) (shrunkBy a) ≡ entryOf (reachedBy t) (shrunkBy a) (make xs))
+    (laid : (xs : List (Sourced Action)) → Acts.texts xs ≡ bodyText (make xs))
+    (none : (xs : List (Sourced Action)) → listedEach (t .text) (make xs) ≡ [])
+    (each : (xs : List (Sourced Action)) → Acts.recordsFrom (t .text) xs ≡ actedEach (t .text) (make xs)) where
+  acts-done : AddsActions (emptyEntry kind (t .text)) line (t .actions) text text′ actions actions′ (actionsRead a) (shrunkBy a) r
+      → Bodied (told line (actBy make (actionsRead a))) (shrunkBy a) t text text′ variables variables actions actions′ r
   unfolding storedEach
   acts-done = go (actionsRead a)
     where
-      go : (o : Outcome (List Action)) → AddsActions (emptyEntry kind (t .text)) line (t .actions) text text′ actions actions′ o r
-          → Bodied (told line (actBy make o)) t text text′ variables variables actions actions′ r
+      go : (o : Outcome (List (Sourced Action))) → AddsActions (emptyEntry kind (t .text)) line (t .actions) text text′ actions actions′ o (shrunkBy a) r
+          → Bodied (told line (actBy make o)) (shrunkBy a) t text text′ variables variables actions actions′ r
       go (refuses f) y = y
       go (reads xs) y = record {
         is = y .is ∙ ap (λ (i : Entry). Judged.Good i) (entry xs);
@@ -190,24 +191,24 @@ module _ (line : ℕ) (a : List ℕ) (t : Tally) (text text′ variables actions
   n : t .text + 0 ≡ t .text
   n = add-zero (t .text)
 
-  pub action-done : AddsActions (emptyEntry 2 (t .text)) line (t .actions) text text′ actions actions′ (actionsRead a) r
-      → Bodied (told line (actBy act (actionsRead a))) t text text′ variables variables actions actions′ r
+  pub action-done : AddsActions (emptyEntry 2 (t .text)) line (t .actions) text text′ actions actions′ (actionsRead a) (shrunkBy a) r
+      → Bodied (told line (actBy act (actionsRead a))) (shrunkBy a) t text text′ variables variables actions actions′ r
   unfolding bodyText recordsOf textsOf
   action-done = acts-done line 2 act a t text text′ variables actions actions′ r (λ xs. refl) (λ xs. refl) (λ xs. refl) (λ xs. rw (n, n, n))
 
-  pub defaults-done : AddsActions (emptyEntry 4 (t .text)) line (t .actions) text text′ actions actions′ (actionsRead a) r
-      → Bodied (told line (actBy defaults (actionsRead a))) t text text′ variables variables actions actions′ r
+  pub defaults-done : AddsActions (emptyEntry 4 (t .text)) line (t .actions) text text′ actions actions′ (actionsRead a) (shrunkBy a) r
+      → Bodied (told line (actBy defaults (actionsRead a))) (shrunkBy a) t text text′ variables variables actions actions′ r
   unfolding bodyText recordsOf textsOf
   defaults-done = acts-done line 4 defaults a t text text′ variables actions actions′ r (λ xs. refl) (λ xs. refl) (λ xs. refl) (λ xs. rw (n, n, n))
 
 -- ---- a name alone
 
-module _ (kind : ℕ) (name : List ℕ) (t : Tally) (text variables actions : List ℕ) (room : t .text + length name ≤ length text) where
+module _ (kind : ℕ) (name : List ℕ) (t : Tally) (text variables actions : List ℕ) (room : t .text + length name ≤ length text) (shrunk : ℕ) where
   abbrev kept : Judged
   kept = Judged.Good (withName (emptyEntry kind (t .text)) (spanWord (t .text) (length name)) (t .text + length name))
 
-  named-done : (x : Body) → kept ≡ Judged.Good (entryOf (reachedBy t) x) → name ≡ bodyText x → listedEach (t .text) x ≡ [] → actedEach (t .text) x ≡ []
-      → Bodied (good x) t text (stored text (t .text) name) variables variables actions actions kept
+  named-done : (x : Body) → kept ≡ Judged.Good (entryOf (reachedBy t) shrunk x) → name ≡ bodyText x → listedEach (t .text) x ≡ [] → actedEach (t .text) x ≡ []
+      → Bodied (good x) shrunk t text (stored text (t .text) name) variables variables actions actions kept
   unfolding storedEach
   named-done x e b l a = record {
     is = e;
@@ -216,14 +217,14 @@ module _ (kind : ℕ) (name : List ℕ) (t : Tally) (text variables actions : Li
     acted = sym (ap (storedEach actions (t .actions * actionWords)) a);
   }
 
-module _ (name : List ℕ) (t : Tally) (text variables actions : List ℕ) (room : t .text + length name ≤ length text) where
+module _ (name : List ℕ) (t : Tally) (text variables actions : List ℕ) (room : t .text + length name ≤ length text) (shrunk : ℕ) where
   long : t .text + length (name ++ []) ≡ t .text + length name
   long = ap (λ (l : List ℕ). t .text + length l) (append-nil name)
 
-  pub marker-done : Bodied (good (marker name)) t text (stored text (t .text) name) variables variables actions actions (kept 3 name t text variables actions room)
+  pub marker-done : Bodied (good (marker name)) shrunk t text (stored text (t .text) name) variables variables actions actions (kept 3 name t text variables actions room shrunk)
   unfolding bodyText recordsOf textsOf
-  marker-done = named-done 3 name t text variables actions room (marker name) (rw long) (sym (append-nil name)) refl refl
+  marker-done = named-done 3 name t text variables actions room shrunk (marker name) (rw long) (sym (append-nil name)) refl refl
 
-  pub unknown-done : Bodied (good (unknown name)) t text (stored text (t .text) name) variables variables actions actions (kept 5 name t text variables actions room)
+  pub unknown-done : Bodied (good (unknown name)) shrunk t text (stored text (t .text) name) variables variables actions actions (kept 5 name t text variables actions room shrunk)
   unfolding bodyText recordsOf textsOf
-  unknown-done = named-done 5 name t text variables actions room (unknown name) (rw long) (sym (append-nil name)) refl refl
+  unknown-done = named-done 5 name t text variables actions room shrunk (unknown name) (rw long) (sym (append-nil name)) refl refl

@@ -10,8 +10,7 @@ use Rattle.lent.specs.Buffers.{stored, storedEach, joined}
 use Rattle.lent.proofs.LayoutLaws.{records-joined}
 use Rattle.lent.proofs.BufferLaws.{joined-append}
 use Rattle.variables.specs.Layout as Targets
-use Rattle.records.specs.Layout.{actionRecord}
-use Rattle.records.specs.Actions.{actionText}
+use Rattle.records.specs.Layout.{fullRecord, fullText}
 use Rattle.directives.specs.Directives.{Body, Directive}
 use Rattle.directives.specs.Layout.{Reached, pastBody, nameEnd, argumentEnd, listedIn, actionsIn, directiveText, directiveRecord, variableRecords, actionRecords, texts, listedCounts, actionCounts, directivesFrom, variablesFrom, actionsFrom}
 use Rattle.directives.specs.Steps.{directiveEach, eachFrom, listedEach, actedEach, entryRecord}
@@ -74,11 +73,11 @@ listed-joined o d =
     let vs = listedIn (d .body) .variables in
     let es = listedIn (d .body) .exclusions in
     let k = n + length (Targets.selectionTexts vs) in
-    joined-append (recordsOf Targets.variableRecord Targets.chosenText n vs) (recordsOf Targets.exclusionRecord Targets.itself k es)
-    ∙ ap₂ (λ (a b : List ℕ). a ++ b) (records-joined Targets.chosenText Targets.variableRecord n vs) (records-joined Targets.itself Targets.exclusionRecord k es)
+    joined-append (recordsOf Targets.variableWhole Targets.variableText n vs) (recordsOf Targets.exclusionWhole Targets.exclusionText k es)
+    ∙ ap₂ (λ (a b : List ℕ). a ++ b) (records-joined Targets.variableText Targets.variableWhole n vs) (records-joined Targets.exclusionText Targets.exclusionWhole k es)
 
 acted-joined : (o : ℕ) (d : Directive) → joined (actedEach o (d .body)) ≡ actionRecords o d
-acted-joined o d = records-joined actionText actionRecord (argumentEnd o (d .body)) (actionsIn (d .body))
+acted-joined o d = records-joined fullText fullRecord (argumentEnd o (d .body)) (actionsIn (d .body))
 
 pub variables-joined : (o : ℕ) (ds : List Directive) → joined (eachFrom listedEach o ds) ≡ variablesFrom o ds
 variables-joined = each-joined listedEach variableRecords listed-joined

@@ -9,6 +9,7 @@ use lib.Dec.{eqb}
 use Rattle.ascii.specs.Choice.{pick}
 use Rattle.ascii.proofs.OneAnswer.{one-answer}
 use Rattle.lent.specs.Gates.{gateOf}
+use Rattle.lent.specs.Sources.{partWord}
 use Rattle.lent.specs.Table.{Given, flawOf, tooLong, notAscii, shortBuffer, noRoom, named, noAction, noArgument, noVariable, unknownOperator, badCursor}
 use Rattle.lent.specs.declared.refusing.Flaw.the-variants as Flaw
 use Rattle.lent.specs.declared.gating.Gate.{Gate}
@@ -34,13 +35,13 @@ answerFrom g =
     (pick (eqb (g .number) 2) (Answer.NotAscii (v 0))
     (pick (eqb (g .number) 3) Answer.Short
     (pick (eqb (g .number) 4) (Answer.NoRoom (v 0) (v 1) (v 2))
-    (pick (eqb (g .number) 5) (Answer.Refused (Fault.Argument UnknownAction (v 0) (v 1) (v 2)))
-    (pick (eqb (g .number) 7) (Answer.Refused (Fault.Argument UnknownVariable (v 0) (v 1) (v 2)))
-    (pick (eqb (g .number) 8) (Answer.Refused (Fault.Argument UnknownOperator (v 0) (v 1) (v 2)))
+    (pick (eqb (g .number) 5) (Answer.Refused (Fault.Argument UnknownAction (v 0) (v 1) (v 2) (v 3)))
+    (pick (eqb (g .number) 7) (Answer.Refused (Fault.Argument UnknownVariable (v 0) (v 1) (v 2) (v 3)))
+    (pick (eqb (g .number) 8) (Answer.Refused (Fault.Argument UnknownOperator (v 0) (v 1) (v 2) (v 3)))
     (pick (eqb (g .number) 13) (Answer.Refused (Fault.Line WrongCount (v 0)))
     (pick (eqb (g .number) 14) (Answer.Refused (Fault.Line Untaken (v 0)))
     (pick (eqb (g .number) 15) (Answer.Refused (Fault.Line Stopped (v 0)))
-    (Answer.Refused (Fault.Argument (BadArgument (flawOf (g .number))) (v 0) (v 1) (v 2)))))))))))))
+    (Answer.Refused (Fault.Argument (BadArgument (flawOf (g .number))) (v 0) (v 1) (v 2) (v 3)))))))))))))
 
 answer-back : (r : Answer) → answerFrom (answerGiven r) ≡ r
 unfolding answerFrom
@@ -51,12 +52,12 @@ answer-back Answer.Short = refl
 answer-back (Answer.Refused (Fault.Line WrongCount line)) = refl
 answer-back (Answer.Refused (Fault.Line Untaken line)) = refl
 answer-back (Answer.Refused (Fault.Line Stopped line)) = refl
-answer-back (Answer.Refused (Fault.Argument UnknownVariable line piece name)) = refl
-answer-back (Answer.Refused (Fault.Argument UnknownAction line piece name)) = refl
-answer-back (Answer.Refused (Fault.Argument (BadArgument Flaw.Absent) line piece name)) = refl
-answer-back (Answer.Refused (Fault.Argument (BadArgument Flaw.Unreadable) line piece name)) = refl
-answer-back (Answer.Refused (Fault.Argument (BadArgument Flaw.TooLarge) line piece name)) = refl
-answer-back (Answer.Refused (Fault.Argument UnknownOperator line place len)) = refl
+answer-back (Answer.Refused (Fault.Argument UnknownVariable line piece name span)) = refl
+answer-back (Answer.Refused (Fault.Argument UnknownAction line piece name span)) = refl
+answer-back (Answer.Refused (Fault.Argument (BadArgument Flaw.Absent) line piece name span)) = refl
+answer-back (Answer.Refused (Fault.Argument (BadArgument Flaw.Unreadable) line piece name span)) = refl
+answer-back (Answer.Refused (Fault.Argument (BadArgument Flaw.TooLarge) line piece name span)) = refl
+answer-back (Answer.Refused (Fault.Argument UnknownOperator line place len span)) = refl
 answer-back (Answer.NoRoom d v a) = refl
 
 -- Two answers that give the same back are the same.
@@ -95,10 +96,10 @@ pub fault-told : (f : Fault) → KnownFault f → Told (faultGiven f)
 fault-told (wrongCount l) h = record { reply = Answer.Refused (Fault.Line WrongCount l); is = refl }
 fault-told (untaken l) h = record { reply = Answer.Refused (Fault.Line Untaken l); is = refl }
 fault-told (stopped l) h = record { reply = Answer.Refused (Fault.Line Stopped l); is = refl }
-fault-told (within l (named noAction p name)) h = record { reply = Answer.Refused (Fault.Argument UnknownAction l p (length name)); is = refl }
-fault-told (within l (named (noArgument flaw) p name)) h = record { reply = Answer.Refused (Fault.Argument (BadArgument flaw) l p (length name)); is = refl }
-fault-told (within l (named noVariable p name)) h = record { reply = Answer.Refused (Fault.Argument UnknownVariable l p (length name)); is = refl }
-fault-told (within l (unknownOperator p n)) h = record { reply = Answer.Refused (Fault.Argument UnknownOperator l p n); is = refl }
+fault-told (within l (named noAction p name x)) h = record { reply = Answer.Refused (Fault.Argument UnknownAction l p (length name) (partWord x)); is = refl }
+fault-told (within l (named (noArgument flaw) p name x)) h = record { reply = Answer.Refused (Fault.Argument (BadArgument flaw) l p (length name) (partWord x)); is = refl }
+fault-told (within l (named noVariable p name x)) h = record { reply = Answer.Refused (Fault.Argument UnknownVariable l p (length name) (partWord x)); is = refl }
+fault-told (within l (unknownOperator p n x)) h = record { reply = Answer.Refused (Fault.Argument UnknownOperator l p n (partWord x)); is = refl }
 fault-told (within l tooLong) h = absurd h
 fault-told (within l (notAscii p)) h = absurd h
 fault-told (within l shortBuffer) h = absurd h

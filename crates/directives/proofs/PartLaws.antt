@@ -28,6 +28,7 @@ use Rattle.variables.specs.declared.Reached.{Reached as TargetsReached}
 use Rattle.variables.specs.declared.Reached.the-variants as T
 use Rattle.variables.proofs.Reached as targetsReached
 use Rattle.variables.proofs.FitLaws.{Within, targets-within}
+use Rattle.variables.proofs.SourceLaws.{Inside, EachIn, targets-inside}
 use Rattle.lexer.specs.Steps.{part}
 use Rattle.operators.specs.Operators.{Spec, Reading, accepted, unknown, operator}
 use Rattle.operators.specs.Places.{isNamed, namePlace, argumentPlace}
@@ -37,6 +38,7 @@ use Rattle.operators.specs.declared.Answer.the-variants as O
 use Rattle.operators.proofs.Answer.{the-type as operatorType}
 use Rattle.operators.proofs.PlaceLaws.{argumentText, argument-ends, argument-at}
 use Rattle.operators.proofs.AnswerLaws.{Argued, gate-argued}
+use Rattle.operators.proofs.PromiseLaws.{refused-inside}
 use Rattle.directives.specs.Directives.{variablesRead, listedBy, operatorRead}
 use Rattle.directives.specs.Steps.{withVariables, withOperator, AddsVariables, AddsOperator}
 use Rattle.directives.specs.declared.ArgumentFault.the-variants.{UnknownOperator, UnknownVariable}
@@ -58,7 +60,7 @@ module _ (e : Entry) (line place : ℕ) (s text text′ records records′ : Lis
     where
       go : (ts : Targets) → T.Unfit ≡ reachedBy (e .text) ts → ⊥
       go (targets vs es) p = let z : _≡_ {A = ℕ} 2 0 = ap (tagOf targetsReached.the-type) p in omega arith
-      go (refused i name) p = let z : _≡_ {A = ℕ} 2 1 = ap (tagOf targetsReached.the-type) p in omega arith
+      go (refused i name y) p = let z : _≡_ {A = ℕ} 2 1 = ap (tagOf targetsReached.the-type) p in omega arith
 
   pub variables-read : (count offset : ℕ) → r ≡ T.Read count offset → AddsVariables e line place text text′ records records′ (variablesRead s) (Judged.Good (withVariables e count offset))
   variables-read count offset q = go (targetsOf AsWritten s) refl (sym q ∙ variables-are) (targets-within AsWritten s)
@@ -69,28 +71,43 @@ module _ (e : Entry) (line place : ℕ) (s text text′ records records′ : Lis
           let m : count ≡ length vs + length es = cc in
           let n : offset ≡ e .text + length (Listed.texts vs es) = cc in
           let k : e .text + length (Listed.texts vs es) ≤ length text =
-          omega (arith, w .0, starts-is (length s) (length text) (e .text) place .0 h .room, length-append (Listed.selectionTexts vs) (textsOf Listed.itself es)) in
+          omega (arith, w .0, starts-is (length s) (length text) (e .text) place .0 h .room, length-append (Listed.selectionTexts vs) (textsOf Listed.exclusionText es)) in
           record {
             is = rw (m, n);
             laid = rw (x .texts, h, z) (laid-stored text (e .text) (Listed.texts vs es) k);
             records-are = x .words ∙ rw (h, z);
           }
-      go (refused i name) z p w = let y : _≡_ {A = ℕ} 0 1 = ap (tagOf targetsReached.the-type) p in absurd (omega arith)
+      go (refused i name y′) z p w = let y : _≡_ {A = ℕ} 0 1 = ap (tagOf targetsReached.the-type) p in absurd (omega arith)
 
-  pub variables-unknown : (piece name : ℕ) → r ≡ T.Unknown piece name → AddsVariables e line place text text′ records records′ (variablesRead s) (Judged.Bad (Fault.Argument UnknownVariable line piece name))
-  variables-unknown piece name q = go (targetsOf AsWritten s) refl (sym q ∙ variables-are)
-    where
-      go : (ts : Targets) → targetsOf AsWritten s ≡ ts → T.Unknown piece name ≡ reachedBy (e .text) ts
-          → AddsVariables e line place text text′ records records′ (listedBy ts) (Judged.Bad (Fault.Argument UnknownVariable line piece name))
-      go (targets vs es) z p = let y : _≡_ {A = ℕ} 1 0 = ap (tagOf targetsReached.the-type) p in absurd (omega arith)
-      go (refused i written) z p =
-          let m : piece ≡ i = cc in
-          let n : name ≡ length written = cc in
-          record {
-            told = Fault.Argument UnknownVariable line piece name;
-            is = refl;
-            faulted = record { given = rw (m, n); left = x .texts ∙ rw (h, z) };
-          }
+  module _ (piece name first past : ℕ) (q : r ≡ T.Unknown piece name first past) where
+    -- the piece stands in the list
+    pub unknown-inside : (first ≤ past) × (past ≤ length s)
+    unknown-inside = go (targetsOf AsWritten s) (sym q ∙ variables-are) (targets-inside AsWritten s)
+      where
+        go : (ts : Targets) → T.Unknown piece name first past ≡ reachedBy (e .text) ts → EachIn (Inside (length s)) ts → (first ≤ past) × (past ≤ length s)
+        go (targets vs es) p w = let y : _≡_ {A = ℕ} 1 0 = ap (tagOf targetsReached.the-type) p in absurd (omega arith)
+        go (refused i written y) p w =
+            let a : first ≡ y .first = cc in
+            let b : past ≡ y .past = cc in
+            (omega (arith, w .some, a, b), omega (arith, w .within, b))
+
+    pub variables-unknown : (span : ℕ) → span ≡ spanWord first (past - first)
+        → AddsVariables e line place text text′ records records′ (variablesRead s) (Judged.Bad (Fault.Argument UnknownVariable line piece name span))
+    variables-unknown span k = go (targetsOf AsWritten s) refl (sym q ∙ variables-are)
+      where
+        go : (ts : Targets) → targetsOf AsWritten s ≡ ts → T.Unknown piece name first past ≡ reachedBy (e .text) ts
+            → AddsVariables e line place text text′ records records′ (listedBy ts) (Judged.Bad (Fault.Argument UnknownVariable line piece name span))
+        go (targets vs es) z p = let y : _≡_ {A = ℕ} 1 0 = ap (tagOf targetsReached.the-type) p in absurd (omega arith)
+        go (refused i written y) z p =
+            let m : piece ≡ i = cc in
+            let n : name ≡ length written = cc in
+            let a : first ≡ y .first = cc in
+            let b : past ≡ y .past = cc in
+            record {
+              told = Fault.Argument UnknownVariable line piece name span;
+              is = refl;
+              faulted = record { given = rw (m, n, k, a, b); left = x .texts ∙ rw (h, z) };
+            }
 
 -- ---- the operator
 
@@ -151,19 +168,34 @@ module _ (e : Entry) (line : ℕ) (s text : List ℕ) (r : OperatorAnswer) (x : 
               records-are = refl;
             }
 
-  pub operator-unknown : (place len : ℕ) → r ≡ O.Unknown place len → AddsOperator e line text text (operatorRead s) (Judged.Bad (Fault.Argument UnknownOperator line place len))
-  operator-unknown place len q = go (operator s) (sym (ap answerGiven q) ∙ x .answer)
-    where
-      go : (o : Reading) → given 8 (place ∷ len ∷ []) ≡ givenBy s (outcomeOf s o) → AddsOperator e line text text (outcomeOf s o) (Judged.Bad (Fault.Argument UnknownOperator line place len))
-      go (accepted f) p = let z : _≡_ {A = ℕ} 8 0 = ap number p in absurd (omega arith)
-      go (unknown name) p =
-          let a : place ≡ namePlace s = ap (value 0) p in
-          let b : len ≡ length name = ap (value 1) p in
-          record {
-            told = Fault.Argument UnknownOperator line place len;
-            is = refl;
-            faulted = record { given = rw (a, b); left = sym (padded-none (length text)) };
-          }
+  module _ (place len : ℕ) (q : r ≡ O.Unknown place len) where
+    -- the name stands in the text
+    pub name-inside : place + len ≤ length s
+    name-inside = go (operator s) refl (sym (ap answerGiven q) ∙ x .answer)
+      where
+        go : (o : Reading) → operator s ≡ o → given 8 (place ∷ len ∷ spanWord place (place + len - place) ∷ []) ≡ givenBy s (outcomeOf s o) → place + len ≤ length s
+        go (accepted f) z p = let y : _≡_ {A = ℕ} 8 0 = ap number p in absurd (omega arith)
+        go (unknown name) z p =
+            let a : place ≡ namePlace s = ap (value 0) p in
+            let b : len ≡ length name = ap (value 1) p in
+            omega (arith, a, b, refused-inside s name z)
+
+    pub operator-unknown : (span : ℕ) → span ≡ spanWord place len → AddsOperator e line text text (operatorRead s) (Judged.Bad (Fault.Argument UnknownOperator line place len span))
+    operator-unknown span k = go (operator s) (sym (ap answerGiven q) ∙ x .answer)
+      where
+        go : (o : Reading) → given 8 (place ∷ len ∷ spanWord place (place + len - place) ∷ []) ≡ givenBy s (outcomeOf s o)
+            → AddsOperator e line text text (outcomeOf s o) (Judged.Bad (Fault.Argument UnknownOperator line place len span))
+        go (accepted f) p = let z : _≡_ {A = ℕ} 8 0 = ap number p in absurd (omega arith)
+        go (unknown name) p =
+            let a : place ≡ namePlace s = ap (value 0) p in
+            let b : len ≡ length name = ap (value 1) p in
+            let c : span ≡ spanWord (namePlace s) (namePlace s + length name - namePlace s) =
+            k ∙ ap (λ (n : ℕ). spanWord place n) (let z : len ≡ place + len - place = omega arith in z) ∙ ap (value 2) p in
+            record {
+              told = Fault.Argument UnknownOperator line place len span;
+              is = refl;
+              faulted = record { given = rw (a, b, c); left = sym (padded-none (length text)) };
+            }
 
   -- no other answer comes without the gate
   pub operator-never : OneOf (1 ∷ 2 ∷ []) (tagOf operatorType r) → ⊥

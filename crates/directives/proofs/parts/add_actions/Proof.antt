@@ -8,13 +8,13 @@ use Rattle.directives.proofs.parts.add_actions.Statement.{statement}
 use Rattle.directives.proofs.parts.add_actions.Tie as tie
 
 returns : tie.Need-returns
-returns c = let a = c .before .before .before .before .before .before .before .before .before .before .before .before .before .before .before .before .args in actions-judged (a .e) (a .line) (a .place) (part (now (a .scratch)) (a .first) (a .past)) (now (a .text)) _ (now (a .records)) _ _ (c .before .before .before .before .before .before .before .before .before .read-list .ensures) _ (c .before .count .given .1)
+returns c = let a = c .before .before .before .before .before .before .before .before .before .before .before .before .before .before .before .before .args in actions-judged (a .e) (a .line) (a .place) (part (now (a .scratch)) (a .first) (a .past)) (now (a .text)) _ (now (a .records)) _ _ (c .before .before .before .before .before .before .before .before .before .read-list .ensures) _ (c .before .reached .given .1)
 
 returns-2 : tie.Need-returns-2
-returns-2 c = let a = c .before .before .before .before .before .before .before .before .before .before .before .before .before .before .before .before .before .args in rw (c .in-argument .ensures) (actions-judged (a .e) (a .line) (a .place) (part (now (a .scratch)) (a .first) (a .past)) (now (a .text)) _ (now (a .records)) _ _ (c .before .before .before .before .before .before .before .before .before .before .read-list .ensures) _ (c .before .before .piece .given .1))
+returns-2 c = let a = c .before .before .before .before .before .before .before .before .before .before .before .before .before .before .before .before .before .args in rw (c .in-argument .ensures) (actions-judged (a .e) (a .line) (a .place) (part (now (a .scratch)) (a .first) (a .past)) (now (a .text)) _ (now (a .records)) _ _ (c .before .before .before .before .before .before .before .before .before .before .read-list .ensures) _ (c .before .before .reached2 .given .1))
 
 returns-3 : tie.Need-returns-3
-returns-3 c = let a = c .before .before .before .before .before .before .before .before .before .before .before .before .before .before .before .before .before .args in rw (c .in-argument2 .ensures) (actions-judged (a .e) (a .line) (a .place) (part (now (a .scratch)) (a .first) (a .past)) (now (a .text)) _ (now (a .records)) _ _ (c .before .before .before .before .before .before .before .before .before .before .read-list .ensures) _ (c .before .before .flaw .given .1))
+returns-3 c = let a = c .before .before .before .before .before .before .before .before .before .before .before .before .before .before .before .before .before .args in rw (c .in-argument2 .ensures) (actions-judged (a .e) (a .line) (a .place) (part (now (a .scratch)) (a .first) (a .past)) (now (a .text)) _ (now (a .records)) _ _ (c .before .before .before .before .before .before .before .before .before .before .read-list .ensures) _ (c .before .before .reached3 .given .1))
 
 returns-4 : tie.Need-returns-4
 returns-4 c = let a = c .before .before .before .before .before .before .before .before .before .before .before .before .before .before .before .args in actions-judged (a .e) (a .line) (a .place) (part (now (a .scratch)) (a .first) (a .past)) (now (a .text)) _ (now (a .records)) _ _ (c .before .before .before .before .before .before .before .before .read-list .ensures) _ (c .enum-told .given .1)

@@ -3,7 +3,7 @@ use denote.Ref.{now}
 use borrow.Author.Needs.{needs}
 use native.Mathlib.Omega.{arith}
 use mathlib.Core.Path.{refl}
-use Rattle.directives.proofs.PartLaws.{operator-in-text, operator-read, operator-unknown, operator-never}
+use Rattle.directives.proofs.PartLaws.{operator-in-text, operator-read, name-inside, operator-unknown, operator-never}
 use Rattle.directives.proofs.parts.add_operator.Statement.{statement}
 use Rattle.directives.proofs.parts.add_operator.Tie as tie
 
@@ -16,14 +16,20 @@ part-store-bytes-end c = let a = c .before .before .before .before .before .befo
 cast-span-2 : tie.Need-cast-span-2
 cast-span-2 c = let a = c .before .before .before .before .before .before .before .before .before .before .before .before .args in omega (arith, operator-in-text (a .e) (a .line) (now (a .s)) (now (a .text)) _ (c .before .before .before .before .before .before .before .before .before .operator-in .ensures) (c .before .before .before .before .before .before .before .negated .given .1))
 
-add-t19 : tie.Need-add-t19
-add-t19 c = let a = c .before .before .before .before .before .before .before .before .before .before .before .before .before .args in omega (arith, operator-in-text (a .e) (a .line) (now (a .s)) (now (a .text)) _ (c .before .before .before .before .before .before .before .before .before .before .operator-in .ensures) (c .before .before .before .before .before .before .before .before .negated .given .1))
+add-t20 : tie.Need-add-t20
+add-t20 c = let a = c .before .before .before .before .before .before .before .before .before .before .before .before .before .args in omega (arith, operator-in-text (a .e) (a .line) (now (a .s)) (now (a .text)) _ (c .before .before .before .before .before .before .before .before .before .before .operator-in .ensures) (c .before .before .before .before .before .before .before .before .negated .given .1))
+
+cast-span-3 : tie.Need-cast-span-3
+cast-span-3 c = let a = c .before .before .before .before .before .before .args in omega (arith, name-inside (a .e) (a .line) (now (a .s)) (now (a .text)) _ (c .before .before .before .operator-in .ensures) _ _ (c .before .place .given .1), c .before .before .before .before .before .before .pre)
+
+cast-span-4 : tie.Need-cast-span-4
+cast-span-4 c = let a = c .before .before .before .before .before .before .args in omega (arith, name-inside (a .e) (a .line) (now (a .s)) (now (a .text)) _ (c .before .before .before .operator-in .ensures) _ _ (c .before .place .given .1), c .before .before .before .before .before .before .pre)
 
 returns : tie.Need-returns
 returns c = let a = c .before .before .before .before .before .before .before .before .before .before .before .before .before .args in operator-read (a .e) (a .line) (now (a .s)) (now (a .text)) _ (c .before .before .before .before .before .before .before .before .before .before .operator-in .ensures) (c .before .before .before .before .before .before .before .before .negated .given .1) _ _ _ (c .before .flag .ensures) (c .span .ensures) refl (c .before .before .before .before .before .before .before .before .before .before .before .before .before .pre .0) (c .before .before .before .before .store-bytes .ensures)
 
 returns-2 : tie.Need-returns-2
-returns-2 c = let a = c .before .before .before .before .before .before .before .args in rw (c .in-argument .ensures) (operator-unknown (a .e) (a .line) (now (a .s)) (now (a .text)) _ (c .before .before .before .before .operator-in .ensures) _ _ (c .before .before .place .given .1))
+returns-2 c = let a = c .before .before .before .before .before .before .before .before .args in rw (c .in-argument .ensures) (operator-unknown (a .e) (a .line) (now (a .s)) (now (a .text)) _ (c .before .before .before .before .before .operator-in .ensures) _ _ (c .before .before .before .place .given .1) _ (c .before .span2 .ensures))
 
 returns-3 : tie.Need-returns-3
 returns-3 c = let a = c .before .before .before .before .args in absurd (operator-never (a .e) (a .line) (now (a .s)) (now (a .text)) _ (c .before .operator-in .ensures) (c .match .keys3))
@@ -43,8 +49,11 @@ add-operator-spec =
     (λ c. search needs)
     cast-span-2
     (λ c κs. search needs)
-    add-t19
+    add-t20
     (λ c. search needs)
+    cast-span-3
+    cast-span-4
+    (λ c κs. search needs)
     (λ c κs. search needs)
     (λ c. search needs)
     returns
