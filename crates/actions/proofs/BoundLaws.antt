@@ -17,7 +17,7 @@ use Rattle.single_action.specs.Actions.{Action, Single, done, bad, unknown, sin
 use Rattle.single_action.proofs.WidthLaws.{Wide, wide}
 use Rattle.actions.specs.Normal.{normalised}
 use Rattle.actions.specs.Pieces.{Nest, outside, nestAfter, cuts, cutBy, partsFrom, Piece, placeOf, keep, piecesOf, piecesFrom, pieces}
-use Rattle.actions.specs.Lists.{actionThen, singleThen, actionsFrom, normalSite, actionsOf}
+use Rattle.actions.specs.Lists.{actionThen, singleThen, actionsFrom, listed, normalSite, actionsOf}
 use Rattle.actions.specs.Promises.{answerGiven, ParseActions}
 use Rattle.actions.specs.declared.Answer.{Answer}
 use Rattle.actions.proofs.NormalLaws.{normalised-length}
@@ -84,7 +84,13 @@ sited-few : (f : Part → Part) (k : ℕ) (o : Outcome (List (Sourced Action))) 
 sited-few f k (reads xs) h = omega (arith, h, length-map xs (sitedBy f))
 sited-few f k (refuses r) h = tt
 
--- The bound: a list of n bytes that is read has at most (n + 1) / 3 actions.
+-- The bound: a list of n bytes that is read has at most (n + 1) / 3 actions, wherever they stand.
+pub listed-most : (s : List ℕ) (xs : List (Sourced Action)) → listed s ≡ reads xs → 3 * length xs ≤ length s + 1
+listed-most s xs e =
+    let ps = pieces s in
+    let h : 3 * length xs ≤ taken ps + length ps = subst (Few (taken ps + length ps)) e (from-few 0 ps) in
+    omega (arith, h, pieces-spread s)
+
 pub actions-most : (s : List ℕ) (xs : List (Sourced Action)) → actionsOf s ≡ reads xs → 3 * length xs ≤ length s + 1
 unfolding actionsOf
 actions-most s xs e =

@@ -83,11 +83,12 @@ sited-fits f (refuses (unknownOperator p l x′)) n h = h
 sited-fits f (refuses badCursor) n h = h
 
 -- the texts of an accepted list, or the name of a refused one, are no longer than the normalised text
+pub listed-fits : (s : List ℕ) → Fits (length s) (listed s)
+listed-fits s = fits-more (listed s) (taken (pieces s)) (length s) (pieces-taken s) (from-fits 0 (pieces s))
+
 pub actions-fit : (s : List ℕ) → Fits (length (normalised s)) (actionsOf s)
 unfolding actionsOf
-actions-fit s =
-    sited-fits (normalSite s) (listed (normalised s)) (length (normalised s))
-    (fits-more (listed (normalised s)) (taken (pieces (normalised s))) (length (normalised s)) (pieces-taken (normalised s)) (from-fits 0 (pieces (normalised s))))
+actions-fit s = sited-fits (normalSite s) (listed (normalised s)) (length (normalised s)) (listed-fits (normalised s))
 
 -- the texts of a setvar alone
 pub alone-fits : (s : List ℕ) → length (texts (setvarAlone s)) ≤ length s + 3

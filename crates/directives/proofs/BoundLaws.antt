@@ -13,6 +13,7 @@ use Rattle.ascii.specs.Text.{bytes}
 use Rattle.ascii.specs.Fold.{lowered, lower, same}
 use Rattle.ascii.proofs.SameLaws.{and-right, same-true}
 use Rattle.lent.specs.Sizes.{variableWords, actionWords, directiveWords, roomFor}
+use Rattle.lent.specs.Sources.{Sourced}
 use Rattle.lent.specs.Table.{Outcome, refuses, reads}
 use Rattle.lent.proofs.SpanLaws.{room-is}
 use Rattle.lexer.specs.Bytes.{class}
@@ -36,15 +37,18 @@ use Rattle.variables.specs.Steps.{targetsOf}
 use Rattle.variables.specs.declared.singles.Exclusions.the-variants.{AsWritten}
 use Rattle.variables.proofs.BoundLaws as Listing
 use Rattle.records.specs.Actions.{Action}
+use Rattle.actions.specs.Normal.{normalised}
+use Rattle.actions.proofs.NormalLaws.{normalised-length}
 use Rattle.actions.proofs.BoundLaws as Acting
 use Rattle.operators.specs.Operators.{Spec}
 use Rattle.directives.specs.Groups.{Item, joined, stray, itemBy, items}
-use Rattle.directives.specs.Directives.{Listed, listedBy, Body, act, defaults, Directive, Result, bad, good, stopped, variablesRead, operatorRead, actionsRead, Shape, ofRule, ofAction, ofMarker, ofDefaults, ofOther, shapeOf, ruleBy, actBy, told, bodyBy, lastPast, placed, directiveOf, itemRead, before, ending, endOf, directives}
+use Rattle.directives.specs.Directives.{Listed, listedBy, Body, act, defaults, Directive, Result, bad, good, stopped, variablesRead, operatorRead, actionsRead, Shape, ofRule, ofAction, ofMarker, ofDefaults, ofOther, shapeOf, ruleBy, actBy, told, bodyBy, sited, lastPast, placed, directiveOf, itemRead, before, ending, endOf, directives}
 use Rattle.directives.specs.Layout.{listedCount, actionCount, listedCounts, actionCounts}
 use Rattle.directives.specs.Promises.{Lent, answerGiven, Directives}
 use Rattle.directives.specs.declared.Answer.{Answer}
 use Rattle.directives.proofs.OrderLaws.{text-good, end-good}
 use Rattle.directives.proofs.PromiseLaws.{directives-numbers}
+use Rattle.directives.proofs.SitedLaws.{sited-same}
 use Rattle.directives.proofs.FitLaws.{all, itemTotal, itemsTotal, items-total, texts-total}
 
 -- ---- one body
@@ -58,30 +62,30 @@ listed-few v = go (targetsOf AsWritten v) refl
   where
     go : (ts : Targets) → targetsOf AsWritten v ≡ ts → ListedFew (length v) (listedBy ts)
     go (targets vs es) e = Listing.variables-most v vs es e
-    go (refused i name) e = tt
+    go (refused i name x) e = tt
 
-abbrev ActedFew : ℕ → Outcome (List Action) → Type 0
+abbrev ActedFew : ℕ → Outcome (List (Sourced Action)) → Type 0
 ActedFew n (reads xs) = 3 * length xs ≤ n
 ActedFew n (refuses f) = Unit {0}
 
 acted-few : (a : List ℕ) → ActedFew (length a + 1) (actionsRead a)
 acted-few a = go (actionsRead a) refl
   where
-    go : (o : Outcome (List Action)) → actionsRead a ≡ o → ActedFew (length a + 1) o
-    go (reads xs) e = Acting.actions-most a xs e
+    go : (o : Outcome (List (Sourced Action))) → actionsRead a ≡ o → ActedFew (length a + 1) o
+    go (reads xs) e = omega (arith, Acting.listed-most (normalised a) xs e, normalised-length a)
     go (refuses f) e = tt
 
 abbrev BodyFew : ℕ → Result Body → Type 0
 BodyFew n (good x) = (2 * listedCount x ≤ n) × (3 * actionCount x ≤ n)
 BodyFew n (bad f) = Unit {0}
 
-rule-few : (l n i j : ℕ) (v : Outcome Listed) (o : Outcome Spec) (a : Outcome (List Action)) → ListedFew i v → ActedFew j a → i ≤ n → j ≤ n → BodyFew n (told l (ruleBy v o a))
+rule-few : (l n i j : ℕ) (v : Outcome Listed) (o : Outcome Spec) (a : Outcome (List (Sourced Action))) → ListedFew i v → ActedFew j a → i ≤ n → j ≤ n → BodyFew n (told l (ruleBy v o a))
 rule-few l n i j (refuses f) o a h k p q = tt
 rule-few l n i j (reads v) (refuses f) a h k p q = tt
 rule-few l n i j (reads v) (reads o) (refuses f) h k p q = tt
 rule-few l n i j (reads v) (reads o) (reads xs) h k p q = (omega arith, omega arith)
 
-acts-few : (l n j : ℕ) (make : List Action → Body) (a : Outcome (List Action)) → ((xs : List Action) → (listedCount (make xs) ≡ 0) × (actionCount (make xs) ≡ length xs)) → ActedFew j a → j ≤ n
+acts-few : (l n j : ℕ) (make : List (Sourced Action) → Body) (a : Outcome (List (Sourced Action))) → ((xs : List (Sourced Action)) → (listedCount (make xs) ≡ 0) × (actionCount (make xs) ≡ length xs)) → ActedFew j a → j ≤ n
     → BodyFew n (told l (actBy make a))
 acts-few l n j make (refuses f) e k q = tt
 acts-few l n j make (reads xs) e k q = (omega (arith, e xs .0), omega (arith, e xs .1))
@@ -192,13 +196,20 @@ placed-few : (n l first past : ℕ) (x : Result Body) → 3 ≤ n → BodyFew n 
 placed-few n l first past (good x) h k = (h, k .0, k .1)
 placed-few n l first past (bad f) h k = tt
 
-item-few : (x : Item) → Long x → OneFew (itemTotal x) (itemRead x)
+-- wherever it was read from
+sited-few : (n : ℕ) (s : List ℕ) (shape : Shape) (args : List Token) (x : Result Body) → BodyFew n x → BodyFew n (sited s shape args x)
+sited-few n s shape args (bad f) h = tt
+sited-few n s shape args (good x) (h, k) = let e = sited-same s args x in (omega (arith, h, e .listed), omega (arith, k, e .acted))
+
+item-few : (s : List ℕ) (x : Item) → Long x → OneFew (itemTotal x) (itemRead s x)
 unfolding itemRead directiveOf
-item-few (stray t) h = tt
-item-few (joined t args) h =
+item-few s (stray t) h = tt
+item-few s (joined t args) h =
+    let shape = shapeOf (t .text) in
+    let body = bodyBy shape (t .line .0) (t .text) (map textOf args) in
     rw (sym (texts-total args))
-    (placed-few (length (t .text) + all (map textOf args)) (t .line .0) (t .first) (lastPast (t .past) args) (bodyBy (shapeOf (t .text)) (t .line .0) (t .text) (map textOf args)) (omega arith)
-    (body-few (t .line .0) (t .text) (omega arith) (shapeOf (t .text)) (map textOf args)))
+    (placed-few (length (t .text) + all (map textOf args)) (t .line .0) (t .first) (lastPast (t .past) args) (sited s shape args body) (omega arith)
+    (sited-few (length (t .text) + all (map textOf args)) s shape args body (body-few (t .line .0) (t .text) (omega arith) shape (map textOf args))))
 
 before-few : (m n : ℕ) (x : Result Directive) (o : Result (List Directive)) → OneFew m x → Few n o → Few (m + n) (before x o)
 unfolding listedCounts actionCounts
@@ -206,10 +217,10 @@ before-few m n (bad f) o h k = tt
 before-few m n (good d) (bad f) h k = tt
 before-few m n (good d) (good ds) (a, b, c) (i, j, k) = (omega arith, omega arith, omega arith)
 
-ending-few : (o : Result (List Directive)) (xs : List Item) → Few 0 o → AllLong xs → Few (itemsTotal xs) (ending o xs)
+ending-few : (s : List ℕ) (o : Result (List Directive)) (xs : List Item) → Few 0 o → AllLong xs → Few (itemsTotal xs) (ending s o xs)
 unfolding ending itemsTotal
-ending-few o [] h l = h
-ending-few o (x ∷ xs) h l = before-few (itemTotal x) (itemsTotal xs) (itemRead x) (ending o xs) (item-few x (l .0)) (ending-few o xs h (l .1))
+ending-few s o [] h l = h
+ending-few s o (x ∷ xs) h l = before-few (itemTotal x) (itemsTotal xs) (itemRead s x) (ending s o xs) (item-few s x (l .0)) (ending-few s o xs h (l .1))
 
 end-few : (n : ℕ) (c : Cursor) → Few 0 (endOf n c)
 unfolding endOf listedCounts actionCounts
@@ -228,9 +239,9 @@ pub directives-most : (s : List ℕ) (ds : List Directive) → directives s ≡ 
 unfolding directives
 directives-most s ds e =
     subst (Few (length s)) e
-    (more-few (itemsTotal (items false (reading s .tokens))) (length s) (ending (endOf (length s) (reading s .stop)) (items false (reading s .tokens)))
+    (more-few (itemsTotal (items false (reading s .tokens))) (length s) (ending s (endOf (length s) (reading s .stop)) (items false (reading s .tokens)))
     (omega (arith, items-total (reading s .tokens) .1, texts-fit s))
-    (ending-few (endOf (length s) (reading s .stop)) (items false (reading s .tokens)) (end-few (length s) (reading s .stop)) (items-long false (reading s .tokens) (all-named s))))
+    (ending-few s (endOf (length s) (reading s .stop)) (items false (reading s .tokens)) (end-few (length s) (reading s .stop)) (items-long false (reading s .tokens) (all-named s))))
 
 -- With room for so many, 4 is never given.
 pub directives-fit : {s : List ℕ} {m m′ : Lent} {r : Answer} → Directives s m m′ r

@@ -38,7 +38,7 @@ module _ (s : List ℕ) (m : Lent) where
   -- the text is read: each item is good, and reading came to the end
   pub record Read (ds : List Directive) : Type 0 where
     pub opened : Opened s (least m) (length s)
-    pub each : AllGood (itemsOf s) ds
+    pub each : AllGood s (itemsOf s) ds
     pub whole : length s ≤ reading s .stop .place
 
   pub data Fate : Outcome → Type 0 where
@@ -47,7 +47,7 @@ module _ (s : List ℕ) (m : Lent) where
     high : (p : ℕ) → length s ≤ limit → FirstAt s p → Fate (shut (notAscii p))
     short : Shortened s (least m) (length s) → Fate (shut shortBuffer)
     -- 5, 7, 8 and 10 to 15: the first in text order
-    fault : (f : Fault) → Opened s (least m) (length s) → Faulty (endIn s) (itemsOf s) f → Fate (faulty f)
+    fault : (f : Fault) → Opened s (least m) (length s) → Faulty s (endIn s) (itemsOf s) f → Fate (faulty f)
     -- 4
     crowded : (ds : List Directive) → Read ds → Crowded m ds → Fate (overfull (length ds) (listedCounts ds) (actionCounts ds))
     -- 0

@@ -17,6 +17,7 @@ use Rattle.names.specs.declared.Lookup.{Lookup}
 use Rattle.names.specs.declared.Lookup.the-variants.{Code, Unknown}
 use Rattle.names.specs.Variables.{variableCode}
 use Rattle.names.specs.Operators.{operatorCode}
+use Rattle.lent.specs.Sources.{Part, Sourced}
 use Rattle.lent.specs.Buffers as Lent
 use Rattle.lent.specs.Table.{tooLong, notAscii, shortBuffer, noRoom, named, noAction, noArgument, noVariable, unknownOperator, badCursor, Outcome, refuses, reads}
 use Rattle.lent.specs.Layout.{textsOf}
@@ -28,14 +29,14 @@ use Rattle.lexer.specs.Layout.{textOf}
 use Rattle.lexer.specs.Layout as Lexed
 use Rattle.lexer.specs.Places.{total}
 use Rattle.lexer.proofs.PlaceLaws.{texts-fit}
-use Rattle.variables.specs.Parts.{pieces}
+use Rattle.variables.specs.Parts.{Piece, pieceTexts, pieces}
 use Rattle.variables.specs.Variables as One
 use Rattle.variables.specs.Variables.{Selection, Single, variable, unknown, splitSingle, atColon, single, Targets, targets, refused, withVariable, withExclusion, asWritten, piece, readAll}
-use Rattle.variables.specs.Layout.{selectionTexts, itself}
+use Rattle.variables.specs.Layout.{selectionTexts, exclusionText}
 use Rattle.variables.specs.Layout as Targets
 use Rattle.variables.specs.Steps.{hanging, targetsOf}
 use Rattle.variables.specs.declared.singles.Exclusions.the-variants.{AsWritten}
-use Rattle.variables.proofs.FitLaws.{Within, targets-within, pieces-total}
+use Rattle.variables.proofs.FitLaws.{total as totalText, Within, targets-within, pieces-total}
 use Rattle.operators.specs.Operators as Op
 use Rattle.operators.specs.Operators.{Spec, operator}
 use Rattle.operators.specs.Places.{afterAt, isNamed}
@@ -45,14 +46,14 @@ use Rattle.records.specs.Actions.{Action}
 use Rattle.records.specs.Layout as Acts
 use Rattle.actions.specs.Normal.{normalised}
 use Rattle.actions.specs.Pieces as Pieces
-use Rattle.actions.specs.Lists.{actionsOf}
 use Rattle.actions.proofs.LengthLaws as Actions
 use Rattle.actions.proofs.NormalLaws.{normalised-length}
-use Rattle.actions.proofs.CountLaws.{Counted, actions-counted, pieces-count}
+use Rattle.actions.proofs.CountLaws.{Counted, from-counted, pieces-count}
 use Rattle.directives.specs.Groups.{Item, joined, stray, argumentBy, argumentsOf, itemBy, items}
-use Rattle.directives.specs.Directives.{Listed, Body, act, defaults, Directive as Entry, stopped, Result, bad, good, listedBy, variablesRead, operatorRead, actionsRead, Shape, ofRule, ofAction, ofMarker, ofDefaults, ofOther, shapeOf, ruleBy, actBy, told, bodyBy, lastPast, placed, directiveOf, itemRead, before, ending, endOf, directives}
+use Rattle.directives.specs.Directives.{Listed, Body, act, defaults, Directive as Entry, stopped, Result, bad, good, listedBy, variablesRead, operatorRead, actionsRead, Shape, ofRule, ofAction, ofMarker, ofDefaults, ofOther, shapeOf, ruleBy, actBy, told, bodyBy, sited, lastPast, placed, directiveOf, itemRead, before, ending, endOf, directives}
 use Rattle.directives.specs.Layout.{bodyText, listedCount, actionCount, directiveText, texts, listedCounts, actionCounts}
 use Rattle.directives.specs.Table.{nameLeft, faultName}
+use Rattle.directives.proofs.SitedLaws.{sited-same, fault-name}
 
 -- ---- lists of lists
 
@@ -85,42 +86,42 @@ single-short (b ∷ r) = go (eqb b 38)
 
 abbrev NoneShort : ℕ → Targets → Type 0
 NoneShort k (targets vs es) = Unit {0}
-NoneShort k (refused i name) = length name ≤ k
+NoneShort k (refused i name x) = length name ≤ k
 
-variable-none : (j k : ℕ) (x : Single) (ts : Targets) → NameShort j x → NoneShort k ts → NoneShort (j + k) (withVariable x ts)
-variable-none j k (variable v) (targets vs es) h w = tt
-variable-none j k (variable v) (refused i name) h w = omega arith
-variable-none j k (unknown name) (targets vs es) h w = omega arith
-variable-none j k (unknown name) (refused i other) h w = omega arith
+variable-none : (j k : ℕ) (x : Part) (y : Single) (ts : Targets) → NameShort j y → NoneShort k ts → NoneShort (j + k) (withVariable x y ts)
+variable-none j k x (variable v) (targets vs es) h w = tt
+variable-none j k x (variable v) (refused i name z) h w = omega arith
+variable-none j k x (unknown name) (targets vs es) h w = omega arith
+variable-none j k x (unknown name) (refused i other z) h w = omega arith
 
-exclusion-none : (k : ℕ) (e : List ℕ) (ts : Targets) → NoneShort k ts → NoneShort (suc (length e) + k) (withExclusion e ts)
-exclusion-none k e (targets vs es) w = tt
-exclusion-none k e (refused i name) w = omega arith
+exclusion-none : (k : ℕ) (x : Part) (e : List ℕ) (ts : Targets) → NoneShort k ts → NoneShort (suc (length e) + k) (withExclusion x e ts)
+exclusion-none k x e (targets vs es) w = tt
+exclusion-none k x e (refused i name z) w = omega arith
 
-piece-none : (k : ℕ) (p : List ℕ) (ts : Targets) → NoneShort k ts → NoneShort (length p + k) (piece asWritten p ts)
-piece-none k [] ts w = variable-none 0 k (single []) ts (single-short []) w
-piece-none k (b ∷ r) ts w = go (eqb b 33)
+piece-none : (k : ℕ) (x : Part) (p : List ℕ) (ts : Targets) → NoneShort k ts → NoneShort (length p + k) (piece asWritten x p ts)
+piece-none k x [] ts w = variable-none 0 k x (single []) ts (single-short []) w
+piece-none k x (b ∷ r) ts w = go (eqb b 33)
   where
-    go : (t : Bool) → NoneShort (suc (length r) + k) (pick t (withExclusion r ts) (withVariable (single (b ∷ r)) ts))
-    go true = exclusion-none k r ts w
-    go false = variable-none (suc (length r)) k (single (b ∷ r)) ts (single-short (b ∷ r)) w
+    go : (t : Bool) → NoneShort (suc (length r) + k) (pick t (withExclusion x r ts) (withVariable x (single (b ∷ r)) ts))
+    go true = exclusion-none k x r ts w
+    go false = variable-none (suc (length r)) k x (single (b ∷ r)) ts (single-short (b ∷ r)) w
 
-read-none : (ps : List (List ℕ)) → NoneShort (length (Lent.joined ps)) (readAll asWritten ps)
+read-none : (ps : List Piece) → NoneShort (totalText ps) (readAll asWritten ps)
 unfolding readAll Lent.joined
 read-none [] = tt
 read-none (p ∷ ps) =
-    subst (λ (k : ℕ). NoneShort k (piece asWritten p (readAll asWritten ps))) (sym (length-append p (Lent.joined ps)))
-    (piece-none (length (Lent.joined ps)) p (readAll asWritten ps) (read-none ps))
+    subst (λ (k : ℕ). NoneShort k (piece asWritten (p .place) (p .text) (readAll asWritten ps))) (sym (length-append (p .text) (Lent.joined (pieceTexts ps))))
+    (piece-none (totalText ps) (p .place) (p .text) (readAll asWritten ps) (read-none ps))
 
 hanging-none : (j k : ℕ) (ts : Targets) → j ≤ k → NoneShort j ts → NoneShort k (hanging AsWritten ts)
 hanging-none j k (targets [] es) h w = tt
 hanging-none j k (targets (v ∷ vs) es) h w = tt
-hanging-none j k (refused i name) h w = omega arith
+hanging-none j k (refused i name x) h w = omega arith
 
 -- the name that is none is no longer than the list
 none-short : (s : List ℕ) → NoneShort (length s) (targetsOf AsWritten s)
 unfolding targetsOf
-none-short s = hanging-none (length (Lent.joined (pieces s))) (length s) (readAll asWritten (pieces s)) (pieces-total s) (read-none (pieces s))
+none-short s = hanging-none (totalText (pieces s)) (length s) (readAll asWritten (pieces s)) (pieces-total s) (read-none (pieces s))
 
 -- what an argument of variables writes and how many records, or the name that it leaves
 abbrev pub ListedFits : ℕ → Outcome Listed → Type 0
@@ -128,8 +129,8 @@ ListedFits n (reads x) = (length (Targets.texts (x .variables) (x .exclusions)) 
 ListedFits n (refuses f) = length (nameLeft f) ≤ n
 
 listed-fits : (n : ℕ) (ts : Targets) → Within n n ts → NoneShort n ts → ListedFits n (listedBy ts)
-listed-fits n (targets vs es) (h, k) w = (omega (arith, length-append (selectionTexts vs) (textsOf itself es)), k)
-listed-fits n (refused i name) h w = w
+listed-fits n (targets vs es) (h, k) w = (omega (arith, length-append (selectionTexts vs) (textsOf exclusionText es)), k)
+listed-fits n (refused i name x) h w = w
 
 pub variables-fit : (s : List ℕ) → ListedFits (length s) (variablesRead s)
 variables-fit s = listed-fits (length s) (targetsOf AsWritten s) (targets-within AsWritten s) (none-short s)
@@ -156,26 +157,27 @@ operator-fits s = go (isNamed s) (omega (arith, argument-ends s, ends-fit white 
 -- ---- actions
 
 -- what an argument of actions writes and how many records, or the name that it leaves
-abbrev pub ActionsFit : ℕ → Outcome (List Action) → Type 0
+abbrev pub ActionsFit : ℕ → Outcome (List (Sourced Action)) → Type 0
 ActionsFit n (reads xs) = (length (Acts.texts xs) ≤ n) × (length xs ≤ n)
 ActionsFit n (refuses f) = length (nameLeft f) ≤ n
 
-weaker : (m n c : ℕ) (o : Outcome (List Action)) → m ≤ n → c ≤ n → Actions.Fits m o → Counted 0 c o → ActionsFit n o
+weaker : (m n c : ℕ) (o : Outcome (List (Sourced Action))) → m ≤ n → c ≤ n → Actions.Fits m o → Counted 0 c o → ActionsFit n o
 weaker m n c (reads xs) h l k r = (omega arith, omega arith)
-weaker m n c (refuses (named noAction p name)) h l k r = omega arith
-weaker m n c (refuses (named (noArgument flaw) p name)) h l k r = omega arith
-weaker m n c (refuses (named noVariable p name)) h l k r = absurd r
+weaker m n c (refuses (named noAction p name x)) h l k r = omega arith
+weaker m n c (refuses (named (noArgument flaw) p name x)) h l k r = omega arith
+weaker m n c (refuses (named noVariable p name x)) h l k r = absurd r
 weaker m n c (refuses tooLong) h l k r = absurd r
 weaker m n c (refuses (notAscii p)) h l k r = absurd r
 weaker m n c (refuses shortBuffer) h l k r = absurd r
 weaker m n c (refuses (noRoom p)) h l k r = absurd r
-weaker m n c (refuses (unknownOperator p q)) h l k r = absurd r
+weaker m n c (refuses (unknownOperator p q x)) h l k r = absurd r
 weaker m n c (refuses badCursor) h l k r = absurd r
 
 pub actions-fit : (s : List ℕ) → ActionsFit (length s) (actionsRead s)
 actions-fit s =
     let n = length (Pieces.pieces (normalised s)) in
-    weaker (length (normalised s)) (length s) n (actionsOf s) (normalised-length s) (omega (arith, pieces-count (normalised s), normalised-length s)) (Actions.actions-fit s) (actions-counted s)
+    weaker (length (normalised s)) (length s) n (actionsRead s) (normalised-length s) (omega (arith, pieces-count (normalised s), normalised-length s)) (Actions.listed-fits (normalised s))
+    (from-counted 0 (Pieces.pieces (normalised s)))
 
 -- ---- one directive
 
@@ -192,7 +194,7 @@ told-fits : (n l : ℕ) (o : Outcome Body) → ReadFits n o → BodyFits n (told
 told-fits n l (refuses f) h = h
 told-fits n l (reads x) h = h
 
-rule-fits : (a b c : ℕ) (v : Outcome Listed) (o : Outcome Spec) (x : Outcome (List Action)) → ListedFits a v → OperatorFits b o → ActionsFit c x → ReadFits (a + (b + c)) (ruleBy v o x)
+rule-fits : (a b c : ℕ) (v : Outcome Listed) (o : Outcome Spec) (x : Outcome (List (Sourced Action))) → ListedFits a v → OperatorFits b o → ActionsFit c x → ReadFits (a + (b + c)) (ruleBy v o x)
 unfolding bodyText
 rule-fits a b c (refuses f) o x h i j = omega arith
 rule-fits a b c (reads v) (refuses f) x h i j = rw i (omega arith)
@@ -201,10 +203,10 @@ rule-fits a b c (reads v) (reads o) (reads xs) (h, g) i (j, k) =
     (omega (arith, length-append (Targets.texts (v .variables) (v .exclusions)) (o .argument ++ Acts.texts xs), length-append (o .argument) (Acts.texts xs)), omega arith)
 
 -- a body that has actions alone
-abbrev Acting : (List Action → Body) → Type 0
-Acting make = (xs : List Action) → (bodyText (make xs) ≡ Acts.texts xs) × (listedCount (make xs) + actionCount (make xs) ≡ length xs)
+abbrev Acting : (List (Sourced Action) → Body) → Type 0
+Acting make = (xs : List (Sourced Action)) → (bodyText (make xs) ≡ Acts.texts xs) × (listedCount (make xs) + actionCount (make xs) ≡ length xs)
 
-act-fits : (n : ℕ) (make : List Action → Body) (o : Outcome (List Action)) → Acting make → ActionsFit n o → ReadFits n (actBy make o)
+act-fits : (n : ℕ) (make : List (Sourced Action) → Body) (o : Outcome (List (Sourced Action))) → Acting make → ActionsFit n o → ReadFits n (actBy make o)
 act-fits n make (refuses f) e h = h
 act-fits n make (reads xs) e (h, k) = rw (e xs .0, e xs .1) (h, k)
 
@@ -213,12 +215,12 @@ body-more m n (good x) h (j, k) = (omega arith, omega arith)
 body-more m n (bad f) h k = omega arith
 
 module _ (l : ℕ) (name : List ℕ) where
-  rule-told : (v o : List ℕ) (c : ℕ) (x : Outcome (List Action)) → ActionsFit c x → BodyFits (length v + (length o + c)) (told l (ruleBy (variablesRead v) (operatorRead o) x))
+  rule-told : (v o : List ℕ) (c : ℕ) (x : Outcome (List (Sourced Action))) → ActionsFit c x → BodyFits (length v + (length o + c)) (told l (ruleBy (variablesRead v) (operatorRead o) x))
   rule-told v o c x h =
       told-fits (length v + (length o + c)) l (ruleBy (variablesRead v) (operatorRead o) x)
       (rule-fits (length v) (length o) c (variablesRead v) (operatorRead o) x (variables-fit v) (operator-fits o) h)
 
-  act-told : (make : List Action → Body) (a : List ℕ) → Acting make → BodyFits (length a) (told l (actBy make (actionsRead a)))
+  act-told : (make : List (Sourced Action) → Body) (a : List ℕ) → Acting make → BodyFits (length a) (told l (actBy make (actionsRead a)))
   act-told make a e = told-fits (length a) l (actBy make (actionsRead a)) (act-fits (length a) make (actionsRead a) e (actions-fit a))
 
   -- a directive's texts are no longer than its name and its arguments together, and its records no more
@@ -293,13 +295,20 @@ placed-fits : (n l first past : ℕ) (x : Result Body) → BodyFits n x → OneF
 placed-fits n l first past (bad f) h = h
 placed-fits n l first past (good x) h = h
 
-item-fits : (x : Item) → OneFits (itemTotal x) (itemRead x)
+-- wherever it was read from
+sited-fits : (n : ℕ) (s : List ℕ) (shape : Shape) (args : List Token) (x : Result Body) → BodyFits n x → BodyFits n (sited s shape args x)
+sited-fits n s shape args (bad f) h = rw (fault-name s shape args f) h
+sited-fits n s shape args (good x) (h, k) = let e = sited-same s args x in (omega (arith, h, ap length (e .text)), omega (arith, k, e .listed, e .acted))
+
+item-fits : (s : List ℕ) (x : Item) → OneFits (itemTotal x) (itemRead s x)
 unfolding itemRead directiveOf
-item-fits (stray t) = omega arith
-item-fits (joined t args) =
+item-fits s (stray t) = omega arith
+item-fits s (joined t args) =
+    let shape = shapeOf (t .text) in
+    let body = bodyBy shape (t .line .0) (t .text) (map textOf args) in
     rw (sym (texts-total args))
-    (placed-fits (length (t .text) + all (map textOf args)) (t .line .0) (t .first) (lastPast (t .past) args) (bodyBy (shapeOf (t .text)) (t .line .0) (t .text) (map textOf args))
-    (body-fits (t .line .0) (t .text) (shapeOf (t .text)) (map textOf args)))
+    (placed-fits (length (t .text) + all (map textOf args)) (t .line .0) (t .first) (lastPast (t .past) args) (sited s shape args body)
+    (sited-fits (length (t .text) + all (map textOf args)) s shape args body (body-fits (t .line .0) (t .text) shape (map textOf args))))
 
 before-fits : (m n : ℕ) (x : Result Entry) (o : Result (List Entry)) → OneFits m x → ResultFits n o → ResultFits (m + n) (before x o)
 unfolding textsOf listedCounts actionCounts
@@ -307,10 +316,10 @@ before-fits m n (bad f) o h k = omega arith
 before-fits m n (good d) (bad f) h k = omega arith
 before-fits m n (good d) (good ds) (h, i) (j, k) = (omega (arith, length-append (directiveText d) (texts ds)), omega arith)
 
-ending-fits : (o : Result (List Entry)) (xs : List Item) → ResultFits 0 o → ResultFits (itemsTotal xs) (ending o xs)
+ending-fits : (s : List ℕ) (o : Result (List Entry)) (xs : List Item) → ResultFits 0 o → ResultFits (itemsTotal xs) (ending s o xs)
 unfolding ending itemsTotal
-ending-fits o [] h = h
-ending-fits o (x ∷ xs) h = before-fits (itemTotal x) (itemsTotal xs) (itemRead x) (ending o xs) (item-fits x) (ending-fits o xs h)
+ending-fits s o [] h = h
+ending-fits s o (x ∷ xs) h = before-fits (itemTotal x) (itemsTotal xs) (itemRead s x) (ending s o xs) (item-fits s x) (ending-fits s o xs h)
 
 end-fits : (n : ℕ) (c : Cursor) → ResultFits 0 (endOf n c)
 unfolding endOf textsOf listedCounts actionCounts
@@ -328,6 +337,6 @@ result-more m n (bad f) h k = omega arith
 pub directives-fit : (s : List ℕ) → ResultFits (length s) (directives s)
 unfolding directives
 directives-fit s =
-    result-more (itemsTotal (items false (reading s .tokens))) (length s) (ending (endOf (length s) (reading s .stop)) (items false (reading s .tokens)))
+    result-more (itemsTotal (items false (reading s .tokens))) (length s) (ending s (endOf (length s) (reading s .stop)) (items false (reading s .tokens)))
     (omega (arith, items-total (reading s .tokens) .1, texts-fit s))
-    (ending-fits (endOf (length s) (reading s .stop)) (items false (reading s .tokens)) (end-fits (length s) (reading s .stop)))
+    (ending-fits s (endOf (length s) (reading s .stop)) (items false (reading s .tokens)) (end-fits (length s) (reading s .stop)))

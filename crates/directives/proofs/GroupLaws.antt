@@ -87,7 +87,7 @@ module _ (d l : ℕ) where
 
 -- ---- items one after another
 
-pub ending-append : (o : Result (List Entry)) (xs ys : List Item) → ending o (xs ++ ys) ≡ ending (ending o ys) xs
+pub ending-append : (s : List ℕ) (o : Result (List Entry)) (xs ys : List Item) → ending s o (xs ++ ys) ≡ ending s (ending s o ys) xs
 unfolding ending
-ending-append o [] ys = refl
-ending-append o (x ∷ xs) ys = ap (before (itemRead x)) (ending-append o xs ys)
+ending-append s o [] ys = refl
+ending-append s o (x ∷ xs) ys = ap (before (itemRead s x)) (ending-append s o xs ys)

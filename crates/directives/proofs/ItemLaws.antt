@@ -4,14 +4,24 @@ use mathlib.Core.Logic.{_↔_}
 use Prim.Native.Nat.{ℕ, _≤_}
 use native.Mathlib.Omega.{arith}
 use mathlib.Core.List.{List, [], _∷_, map}
-use lib.ListN.{length, length-map}
-use Rattle.lent.specs.Table.{Refusal, Outcome, refuses, reads}
+use lib.ListN.{length}
+use Rattle.lent.specs.Sources.{Part, Sourced}
+use Rattle.lent.specs.Table.{Refusal, tooLong, notAscii, shortBuffer, noRoom, named, noAction, noArgument, noVariable, unknownOperator, badCursor, resited, Outcome, refuses, reads}
 use Rattle.lexer.specs.Tokens.{Token}
 use Rattle.lexer.specs.Layout.{textOf}
+use Rattle.variables.specs.Variables.{Targets, targets, refused as unlisted}
+use Rattle.variables.specs.Steps.{targetsOf}
+use Rattle.variables.specs.declared.singles.Exclusions.the-variants.{AsWritten}
 use Rattle.operators.specs.Operators.{Spec}
+use Rattle.operators.specs.Operators as Op
+use Rattle.operators.specs.Promises.{outcomeOf}
 use Rattle.records.specs.Actions.{Action}
+use Rattle.actions.specs.Normal.{normalised}
+use Rattle.actions.specs.Pieces as Pieces
+use Rattle.actions.specs.Lists.{normalSite}
+use Rattle.actions.proofs.CountLaws.{Counted, from-counted}
 use Rattle.directives.specs.Groups.{Item, joined, stray}
-use Rattle.directives.specs.Directives.{Listed, Body, act, defaults, Directive, Fault, wrongCount, untaken, stopped, within, Result, bad, good, variablesRead, operatorRead, actionsRead, Shape, ofRule, ofAction, ofMarker, ofDefaults, ofOther, shapeOf, ruleBy, actBy, told, bodyBy, lastPast, placed, directiveOf, itemRead}
+use Rattle.directives.specs.Directives.{Listed, Body, act, defaults, Directive, Fault, wrongCount, untaken, stopped, within, Result, bad, good, listedBy, variablesRead, operatorRead, actionsRead, Shape, ofRule, ofAction, ofMarker, ofDefaults, ofOther, shapeOf, ruleBy, actBy, told, bodyBy, siteAt, standing, argumentSite, listSite, listNumber, refusalSite, sited, lastPast, placed, directiveOf, itemRead}
 
 -- ---- the words
 
@@ -23,88 +33,237 @@ RightCount ofMarker n = n ≡ 1
 RightCount ofDefaults n = n ≡ 1
 RightCount ofOther n = Unit {0}
 
--- The first argument that is refused: variables; with these read the operator; with both read the actions.
-pub data FirstRefused (f : Refusal) : Shape → List (List ℕ) → Type 0 where
-  variables : (v o : List ℕ) (third : List (List ℕ)) → length third ≤ 1 → variablesRead v ≡ refuses f → FirstRefused f ofRule (v ∷ o ∷ third)
-  operator : (v o : List ℕ) (third : List (List ℕ)) (x : Listed) → length third ≤ 1 → variablesRead v ≡ reads x → operatorRead o ≡ refuses f → FirstRefused f ofRule (v ∷ o ∷ third)
-  actions : (v o a : List ℕ) (x : Listed) (y : Spec) → variablesRead v ≡ reads x → operatorRead o ≡ reads y → actionsRead a ≡ refuses f → FirstRefused f ofRule (v ∷ o ∷ a ∷ [])
-  alone : (a : List ℕ) → actionsRead a ≡ refuses f → FirstRefused f ofAction (a ∷ [])
-  preset : (a : List ℕ) → actionsRead a ≡ refuses f → FirstRefused f ofDefaults (a ∷ [])
+-- Where a part of an argument's text stands in the package s; and one of a list of actions, which is read without its line continuations.
+abbrev pub textSite : List ℕ → Token → Part → Part
+textSite s t x = siteAt s (standing t) x
 
--- A fault of an item, with the line of its token.
-pub data Amiss : Item → Fault → Type 0 where
-  untaken-token : (t : Token) → Amiss (stray t) (untaken (t .line .0))
-  miscounted : (t : Token) (args : List Token) → (RightCount (shapeOf (t .text)) (length args) → ⊥) → Amiss (joined t args) (wrongCount (t .line .0))
-  refused : (t : Token) (args : List Token) (f : Refusal) → FirstRefused f (shapeOf (t .text)) (map textOf args) → Amiss (joined t args) (within (t .line .0) f)
+abbrev pub actionSite : List ℕ → Token → Part → Part
+actionSite s t x = siteAt s (standing t) (normalSite (t .text) x)
+
+-- The first argument that is refused, with the refused piece's place in the package: variables; with these read the operator;
+-- with both read the actions.
+pub data FirstRefused (s : List ℕ) : Shape → List Token → Refusal → Type 0 where
+  variables : (v o : Token) (third : List Token) (f : Refusal) → length third ≤ 1 → variablesRead (v .text) ≡ refuses f
+      → FirstRefused s ofRule (v ∷ o ∷ third) (resited (textSite s v) f)
+  operator : (v o : Token) (third : List Token) (f : Refusal) (x : Listed) → length third ≤ 1 → variablesRead (v .text) ≡ reads x → operatorRead (o .text) ≡ refuses f
+      → FirstRefused s ofRule (v ∷ o ∷ third) (resited (textSite s o) f)
+  actions : (v o a : Token) (f : Refusal) (x : Listed) (y : Spec) → variablesRead (v .text) ≡ reads x → operatorRead (o .text) ≡ reads y → actionsRead (a .text) ≡ refuses f
+      → FirstRefused s ofRule (v ∷ o ∷ a ∷ []) (resited (actionSite s a) f)
+  alone : (a : Token) (f : Refusal) → actionsRead (a .text) ≡ refuses f → FirstRefused s ofAction (a ∷ []) (resited (actionSite s a) f)
+  preset : (a : Token) (f : Refusal) → actionsRead (a .text) ≡ refuses f → FirstRefused s ofDefaults (a ∷ []) (resited (actionSite s a) f)
+
+-- A fault of an item of the package s, with the line of its token.
+pub data Amiss (s : List ℕ) : Item → Fault → Type 0 where
+  untaken-token : (t : Token) → Amiss s (stray t) (untaken (t .line .0))
+  miscounted : (t : Token) (args : List Token) → (RightCount (shapeOf (t .text)) (length args) → ⊥) → Amiss s (joined t args) (wrongCount (t .line .0))
+  refused : (t : Token) (args : List Token) (f : Refusal) → FirstRefused s (shapeOf (t .text)) args f → Amiss s (joined t args) (within (t .line .0) f)
+
+-- ---- what each argument is refused for, and where that stands
+
+abbrev OfVariable : Refusal → Type 0
+OfVariable tooLong = ⊥
+OfVariable (notAscii p) = ⊥
+OfVariable shortBuffer = ⊥
+OfVariable (noRoom n) = ⊥
+OfVariable (named noAction p name x) = ⊥
+OfVariable (named (noArgument flaw) p name x) = ⊥
+OfVariable (named noVariable p name x) = Unit {0}
+OfVariable (unknownOperator p n x) = ⊥
+OfVariable badCursor = ⊥
+
+abbrev OfOperator : Refusal → Type 0
+OfOperator tooLong = ⊥
+OfOperator (notAscii p) = ⊥
+OfOperator shortBuffer = ⊥
+OfOperator (noRoom n) = ⊥
+OfOperator (named why p name x) = ⊥
+OfOperator (unknownOperator p n x) = Unit {0}
+OfOperator badCursor = ⊥
+
+abbrev OfAction : Refusal → Type 0
+OfAction tooLong = ⊥
+OfAction (notAscii p) = ⊥
+OfAction shortBuffer = ⊥
+OfAction (noRoom n) = ⊥
+OfAction (named noAction p name x) = Unit {0}
+OfAction (named (noArgument flaw) p name x) = Unit {0}
+OfAction (named noVariable p name x) = ⊥
+OfAction (unknownOperator p n x) = ⊥
+OfAction badCursor = ⊥
+
+abbrev Only : {A : Type 0} → (Refusal → Type 0) → Outcome A → Type 0
+Only P (refuses f) = P f
+Only P (reads x) = Unit {0}
+
+variable-only : (v : List ℕ) → Only OfVariable (variablesRead v)
+variable-only v = go (targetsOf AsWritten v)
+  where
+    go : (ts : Targets) → Only OfVariable (listedBy ts)
+    go (targets vs es) = tt
+    go (unlisted i name x) = tt
+
+operator-only : (o : List ℕ) → Only OfOperator (operatorRead o)
+operator-only o = go (Op.operator o)
+  where
+    go : (x : Op.Reading) → Only OfOperator (outcomeOf o x)
+    go (Op.accepted x) = tt
+    go (Op.unknown name) = tt
+
+action-only : (a : List ℕ) → Only OfAction (actionsRead a)
+action-only a = go (actionsRead a) (from-counted 0 (Pieces.pieces (normalised a)))
+  where
+    go : (o : Outcome (List (Sourced Action))) → Counted 0 (length (Pieces.pieces (normalised a))) o → Only OfAction o
+    go (reads xs) h = tt
+    go (refuses tooLong) h = h
+    go (refuses (notAscii p)) h = h
+    go (refuses shortBuffer) h = h
+    go (refuses (noRoom p)) h = h
+    go (refuses (named noAction p name x)) h = tt
+    go (refuses (named (noArgument flaw) p name x)) h = tt
+    go (refuses (named noVariable p name x)) h = h
+    go (refuses (unknownOperator p l x)) h = h
+    go (refuses badCursor) h = h
+
+only-so : {A : Type 0} (P : Refusal → Type 0) {o : Outcome A} {f : Refusal} → o ≡ refuses f → Only P o → P f
+only-so {A} P e h = subst (Only {A = A} P) e h
+
+module _ (s : List ℕ) (shape : Shape) (args : List Token) where
+  abbrev there-in : Refusal → Refusal
+  there-in f = resited (refusalSite s shape args f) f
+
+  variable-there : (f : Refusal) → OfVariable f → there-in f ≡ resited (argumentSite s 0 args) f
+  variable-there tooLong h = absurd h
+  variable-there (notAscii p) h = absurd h
+  variable-there shortBuffer h = absurd h
+  variable-there (noRoom n) h = absurd h
+  variable-there (named noAction p name x) h = absurd h
+  variable-there (named (noArgument flaw) p name x) h = absurd h
+  variable-there (named noVariable p name x) h = refl
+  variable-there (unknownOperator p n x) h = absurd h
+  variable-there badCursor h = absurd h
+
+  operator-there : (f : Refusal) → OfOperator f → there-in f ≡ resited (argumentSite s 1 args) f
+  operator-there tooLong h = absurd h
+  operator-there (notAscii p) h = absurd h
+  operator-there shortBuffer h = absurd h
+  operator-there (noRoom n) h = absurd h
+  operator-there (named why p name x) h = absurd h
+  operator-there (unknownOperator p n x) h = refl
+  operator-there badCursor h = absurd h
+
+  action-there : (f : Refusal) → OfAction f → there-in f ≡ resited (listSite s (listNumber shape) args) f
+  action-there tooLong h = absurd h
+  action-there (notAscii p) h = absurd h
+  action-there shortBuffer h = absurd h
+  action-there (noRoom n) h = absurd h
+  action-there (named noAction p name x) h = refl
+  action-there (named (noArgument flaw) p name x) h = refl
+  action-there (named noVariable p name x) h = absurd h
+  action-there (unknownOperator p n x) h = absurd h
+  action-there badCursor h = absurd h
 
 -- ---- what a body comes to
 
-abbrev Comes : ℕ → Shape → List (List ℕ) → Result Body → Type 0
-Comes l k args (good x) = RightCount k (length args)
-Comes l k args (bad (wrongCount n)) = (n ≡ l) × (RightCount k (length args) → ⊥)
-Comes l k args (bad (untaken n)) = ⊥
-Comes l k args (bad (stopped n)) = ⊥
-Comes l k args (bad (within n f)) = (n ≡ l) × FirstRefused f k args
+abbrev Comes : List ℕ → ℕ → Shape → List Token → Result Body → Type 0
+Comes s l k args (good x) = RightCount k (length args)
+Comes s l k args (bad (wrongCount n)) = (n ≡ l) × (RightCount k (length args) → ⊥)
+Comes s l k args (bad (untaken n)) = ⊥
+Comes s l k args (bad (stopped n)) = ⊥
+Comes s l k args (bad (within n f)) = (n ≡ l) × FirstRefused s k args f
 
-module _ (l : ℕ) (name : List ℕ) where
-  act-comes : (k : Shape) (make : List Action → Body) (a : List ℕ) → RightCount k 1 → ((f : Refusal) → actionsRead a ≡ refuses f → FirstRefused f k (a ∷ []))
-      → Comes l k (a ∷ []) (told l (actBy make (actionsRead a)))
-  act-comes k make a c h = go (actionsRead a) refl
+module _ (s : List ℕ) (l : ℕ) (name : List ℕ) where
+  -- the sites of the three arguments, by their tokens
+  variable-in : (v o : Token) (third : List Token) (f : Refusal) → length third ≤ 1 → variablesRead (v .text) ≡ refuses f → FirstRefused s ofRule (v ∷ o ∷ third) (there-in s ofRule (v ∷ o ∷ third) f)
+  unfolding argumentSite
+  variable-in v o third f n e =
+      subst (FirstRefused s ofRule (v ∷ o ∷ third)) (sym (variable-there s ofRule (v ∷ o ∷ third) f (only-so OfVariable e (variable-only (v .text))))) (variables v o third f n e)
+
+  operator-in : (v o : Token) (third : List Token) (f : Refusal) (x : Listed) → length third ≤ 1 → variablesRead (v .text) ≡ reads x → operatorRead (o .text) ≡ refuses f
+      → FirstRefused s ofRule (v ∷ o ∷ third) (there-in s ofRule (v ∷ o ∷ third) f)
+  unfolding argumentSite
+  operator-in v o third f x n p e =
+      subst (FirstRefused s ofRule (v ∷ o ∷ third)) (sym (operator-there s ofRule (v ∷ o ∷ third) f (only-so OfOperator e (operator-only (o .text))))) (operator v o third f x n p e)
+
+  actions-in : (v o a : Token) (f : Refusal) (x : Listed) (y : Spec) → variablesRead (v .text) ≡ reads x → operatorRead (o .text) ≡ reads y → actionsRead (a .text) ≡ refuses f
+      → FirstRefused s ofRule (v ∷ o ∷ a ∷ []) (there-in s ofRule (v ∷ o ∷ a ∷ []) f)
+  unfolding listSite
+  actions-in v o a f x y p q e =
+      subst (FirstRefused s ofRule (v ∷ o ∷ a ∷ [])) (sym (action-there s ofRule (v ∷ o ∷ a ∷ []) f (only-so OfAction e (action-only (a .text))))) (actions v o a f x y p q e)
+
+  alone-in : (a : Token) (f : Refusal) → actionsRead (a .text) ≡ refuses f → FirstRefused s ofAction (a ∷ []) (there-in s ofAction (a ∷ []) f)
+  unfolding listSite
+  alone-in a f e = subst (FirstRefused s ofAction (a ∷ [])) (sym (action-there s ofAction (a ∷ []) f (only-so OfAction e (action-only (a .text))))) (alone a f e)
+
+  preset-in : (a : Token) (f : Refusal) → actionsRead (a .text) ≡ refuses f → FirstRefused s ofDefaults (a ∷ []) (there-in s ofDefaults (a ∷ []) f)
+  unfolding listSite
+  preset-in a f e = subst (FirstRefused s ofDefaults (a ∷ [])) (sym (action-there s ofDefaults (a ∷ []) f (only-so OfAction e (action-only (a .text))))) (preset a f e)
+
+  act-comes : (k : Shape) (make : List (Sourced Action) → Body) (a : Token) → RightCount k 1 → ((f : Refusal) → actionsRead (a .text) ≡ refuses f → FirstRefused s k (a ∷ []) (there-in s k (a ∷ []) f))
+      → Comes s l k (a ∷ []) (sited s k (a ∷ []) (told l (actBy make (actionsRead (a .text)))))
+  act-comes k make a c h = go (actionsRead (a .text)) refl
     where
-      go : (o : Outcome (List Action)) → actionsRead a ≡ o → Comes l k (a ∷ []) (told l (actBy make o))
+      go : (o : Outcome (List (Sourced Action))) → actionsRead (a .text) ≡ o → Comes s l k (a ∷ []) (sited s k (a ∷ []) (told l (actBy make o)))
       go (refuses f) e = (refl, h f e)
       go (reads xs) e = c
 
-  rule-comes : (v o : List ℕ) (third : List (List ℕ)) (x : Outcome (List Action)) → length third ≤ 1 → RightCount ofRule (length (v ∷ o ∷ third))
-      → ((f : Refusal) (y : Listed) (z : Spec) → variablesRead v ≡ reads y → operatorRead o ≡ reads z → x ≡ refuses f → FirstRefused f ofRule (v ∷ o ∷ third))
-      → Comes l ofRule (v ∷ o ∷ third) (told l (ruleBy (variablesRead v) (operatorRead o) x))
-  rule-comes v o third x n c h = go (variablesRead v) refl (operatorRead o) refl x refl
+  rule-comes : (v o : Token) (third : List Token) (x : Outcome (List (Sourced Action))) → length third ≤ 1 → RightCount ofRule (length (v ∷ o ∷ third))
+      → ((f : Refusal) (y : Listed) (z : Spec) → variablesRead (v .text) ≡ reads y → operatorRead (o .text) ≡ reads z → x ≡ refuses f
+      → FirstRefused s ofRule (v ∷ o ∷ third) (there-in s ofRule (v ∷ o ∷ third) f))
+      → Comes s l ofRule (v ∷ o ∷ third) (sited s ofRule (v ∷ o ∷ third) (told l (ruleBy (variablesRead (v .text)) (operatorRead (o .text)) x)))
+  rule-comes v o third x n c h = go (variablesRead (v .text)) refl (operatorRead (o .text)) refl x refl
     where
-      go : (vs : Outcome Listed) → variablesRead v ≡ vs → (op : Outcome Spec) → operatorRead o ≡ op → (ac : Outcome (List Action)) → x ≡ ac
-          → Comes l ofRule (v ∷ o ∷ third) (told l (ruleBy vs op ac))
-      go (refuses f) p op q ac r = (refl, variables v o third n p)
-      go (reads y) p (refuses f) q ac r = (refl, operator v o third y n p q)
+      go : (vs : Outcome Listed) → variablesRead (v .text) ≡ vs → (op : Outcome Spec) → operatorRead (o .text) ≡ op → (ac : Outcome (List (Sourced Action))) → x ≡ ac
+          → Comes s l ofRule (v ∷ o ∷ third) (sited s ofRule (v ∷ o ∷ third) (told l (ruleBy vs op ac)))
+      go (refuses f) p op q ac r = (refl, variable-in v o third f n p)
+      go (reads y) p (refuses f) q ac r = (refl, operator-in v o third f y n p q)
       go (reads y) p (reads z) q (refuses f) r = (refl, h f y z p q r)
       go (reads y) p (reads z) q (reads w) r = c
 
-  body-comes : (k : Shape) (args : List (List ℕ)) → Comes l k args (bodyBy k l name args)
+  body-comes : (k : Shape) (args : List Token) → Comes s l k args (sited s k args (bodyBy k l name (map textOf args)))
   body-comes ofRule [] = (refl, λ h. absurd (omega (arith, h .0, h .1)))
   body-comes ofRule (v ∷ []) = (refl, λ h. absurd (omega (arith, h .0, h .1)))
   body-comes ofRule (v ∷ o ∷ []) = rule-comes v o [] (reads []) (omega arith) (omega arith, omega arith) (λ f y z p q r. absurd (apart r))
     where
-      apart : {f : Refusal} → _≡_ {A = Outcome (List Action)} (reads []) (refuses f) → ⊥
+      apart : {f : Refusal} → _≡_ {A = Outcome (List (Sourced Action))} (reads []) (refuses f) → ⊥
       apart e = let z : _≡_ {A = ℕ} 0 1 = cc in absurd (omega arith)
-  body-comes ofRule (v ∷ o ∷ a ∷ []) = rule-comes v o (a ∷ []) (actionsRead a) (omega arith) (omega arith, omega arith) (λ f y z p q r. actions v o a y z p q r)
+  body-comes ofRule (v ∷ o ∷ a ∷ []) = rule-comes v o (a ∷ []) (actionsRead (a .text)) (omega arith) (omega arith, omega arith) (λ f y z p q r. actions-in v o a f y z p q r)
   body-comes ofRule (v ∷ o ∷ a ∷ x ∷ xs) = (refl, λ h. absurd (omega (arith, h .0, h .1)))
   body-comes ofAction [] = (refl, λ h. absurd (omega arith))
-  body-comes ofAction (a ∷ []) = act-comes ofAction act a refl (λ f e. alone a e)
+  body-comes ofAction (a ∷ []) = act-comes ofAction act a refl (λ f e. alone-in a f e)
   body-comes ofAction (a ∷ x ∷ xs) = (refl, λ h. absurd (omega arith))
   body-comes ofMarker [] = (refl, λ h. absurd (omega arith))
   body-comes ofMarker (m ∷ []) = refl
   body-comes ofMarker (m ∷ x ∷ xs) = (refl, λ h. absurd (omega arith))
   body-comes ofDefaults [] = (refl, λ h. absurd (omega arith))
-  body-comes ofDefaults (a ∷ []) = act-comes ofDefaults defaults a refl (λ f e. preset a e)
+  body-comes ofDefaults (a ∷ []) = act-comes ofDefaults defaults a refl (λ f e. preset-in a f e)
   body-comes ofDefaults (a ∷ x ∷ xs) = (refl, λ h. absurd (omega arith))
   body-comes ofOther xs = tt
 
   -- and back
-  refused-body : {f : Refusal} (k : Shape) (args : List (List ℕ)) → FirstRefused f k args → bodyBy k l name args ≡ bad (within l f)
-  refused-body ofRule _ (variables v o [] n e) = rw e
-  refused-body ofRule _ (variables v o (a ∷ []) n e) = rw e
-  refused-body ofRule _ (variables v o (a ∷ x ∷ xs) n e) = absurd (omega arith)
-  refused-body ofRule _ (operator v o [] y n p e) = rw (p, e)
-  refused-body ofRule _ (operator v o (a ∷ []) y n p e) = rw (p, e)
-  refused-body ofRule _ (operator v o (a ∷ x ∷ xs) y n p e) = absurd (omega arith)
-  refused-body ofRule _ (actions v o a y z p q e) = rw (p, q, e)
-  refused-body ofAction _ (alone a e) = rw e
-  refused-body ofDefaults _ (preset a e) = rw e
+  abbrev Says : Shape → List Token → Refusal → Type 0
+  Says k args f = sited s k args (bodyBy k l name (map textOf args)) ≡ bad (within l f)
 
-refused-right : {f : Refusal} (k : Shape) (args : List (List ℕ)) → FirstRefused f k args → RightCount k (length args)
-refused-right ofRule _ (variables v o third n e) = (omega arith, omega arith)
-refused-right ofRule _ (operator v o third y n p e) = (omega arith, omega arith)
-refused-right ofRule _ (actions v o a y z p q e) = (omega arith, omega arith)
-refused-right ofAction _ (alone a e) = refl
-refused-right ofDefaults _ (preset a e) = refl
+  as-told : (f g : Refusal) → f ≡ g → _≡_ {A = Result Body} (bad (within l f)) (bad (within l g))
+  as-told f g e = ap (λ (h : Refusal). bad (within l h)) e
+
+  refused-body : {f : Refusal} (k : Shape) (args : List Token) → FirstRefused s k args f → Says k args f
+  unfolding argumentSite listSite
+  refused-body ofRule _ (variables v o [] f n e) = rw e (as-told _ _ (variable-there s ofRule (v ∷ o ∷ []) f (only-so OfVariable e (variable-only (v .text)))))
+  refused-body ofRule _ (variables v o (a ∷ []) f n e) = rw e (as-told _ _ (variable-there s ofRule (v ∷ o ∷ a ∷ []) f (only-so OfVariable e (variable-only (v .text)))))
+  refused-body ofRule _ (variables v o (a ∷ x ∷ xs) f n e) = absurd (omega arith)
+  refused-body ofRule _ (operator v o [] f y n p e) = rw (p, e) (as-told _ _ (operator-there s ofRule (v ∷ o ∷ []) f (only-so OfOperator e (operator-only (o .text)))))
+  refused-body ofRule _ (operator v o (a ∷ []) f y n p e) = rw (p, e) (as-told _ _ (operator-there s ofRule (v ∷ o ∷ a ∷ []) f (only-so OfOperator e (operator-only (o .text)))))
+  refused-body ofRule _ (operator v o (a ∷ x ∷ xs) f y n p e) = absurd (omega arith)
+  refused-body ofRule _ (actions v o a f y z p q e) = rw (p, q, e) (as-told _ _ (action-there s ofRule (v ∷ o ∷ a ∷ []) f (only-so OfAction e (action-only (a .text)))))
+  refused-body ofAction _ (alone a f e) = rw e (as-told _ _ (action-there s ofAction (a ∷ []) f (only-so OfAction e (action-only (a .text)))))
+  refused-body ofDefaults _ (preset a f e) = rw e (as-told _ _ (action-there s ofDefaults (a ∷ []) f (only-so OfAction e (action-only (a .text)))))
+
+refused-right : {s : List ℕ} {f : Refusal} (k : Shape) (args : List Token) → FirstRefused s k args f → RightCount k (length args)
+refused-right ofRule _ (variables v o third f n e) = (omega arith, omega arith)
+refused-right ofRule _ (operator v o third f y n p e) = (omega arith, omega arith)
+refused-right ofRule _ (actions v o a f y z p q e) = (omega arith, omega arith)
+refused-right ofAction _ (alone a f e) = refl
+refused-right ofDefaults _ (preset a f e) = refl
 
 -- ---- an item
 
@@ -116,51 +275,47 @@ abbrev isGood : Result Directive → ℕ
 isGood (bad f) = 0
 isGood (good d) = 1
 
-module _ (t : Token) (args : List Token) where
-  abbrev Counted : Type 0
-  Counted = RightCount (shapeOf (t .text)) (length args)
-
-  -- as many texts as tokens
-  right : RightCount (shapeOf (t .text)) (length (map textOf args)) → Counted
-  right h = subst (RightCount (shapeOf (t .text))) (length-map args textOf) h
+module _ (s : List ℕ) (t : Token) (args : List Token) where
+  abbrev Counts : Type 0
+  Counts = RightCount (shapeOf (t .text)) (length args)
 
   abbrev read : Result Body
-  read = bodyBy (shapeOf (t .text)) (t .line .0) (t .text) (map textOf args)
+  read = sited s (shapeOf (t .text)) args (bodyBy (shapeOf (t .text)) (t .line .0) (t .text) (map textOf args))
 
-  joined-there : (f : Fault) (r : Result Body) → Comes (t .line .0) (shapeOf (t .text)) (map textOf args) r
-      → placed (t .line .0) (t .first) (lastPast (t .past) args) r ≡ bad f → Amiss (joined t args) f
+  joined-there : (f : Fault) (r : Result Body) → Comes s (t .line .0) (shapeOf (t .text)) args r
+      → placed (t .line .0) (t .first) (lastPast (t .past) args) r ≡ bad f → Amiss s (joined t args) f
   joined-there f (good x) h e = absurd (omega (arith, ap isGood e))
-  joined-there f (bad (wrongCount n)) (p, w) e =
-      subst (Amiss (joined t args)) (ap wrongCount (sym p) ∙ ap faultIn e) (miscounted t args (λ h. w (subst (RightCount (shapeOf (t .text))) (sym (length-map args textOf)) h)))
+  joined-there f (bad (wrongCount n)) (p, w) e = subst (Amiss s (joined t args)) (ap wrongCount (sym p) ∙ ap faultIn e) (miscounted t args w)
   joined-there f (bad (untaken n)) h e = absurd h
   joined-there f (bad (stopped n)) h e = absurd h
-  joined-there f (bad (within n g)) (p, w) e = subst (Amiss (joined t args)) (ap (λ (n : ℕ). within n g) (sym p) ∙ ap faultIn e) (refused t args g w)
+  joined-there f (bad (within n g)) (p, w) e = subst (Amiss s (joined t args)) (ap (λ (n : ℕ). within n g) (sym p) ∙ ap faultIn e) (refused t args g w)
 
-  miscounted-back : (Counted → ⊥) → (r : Result Body) → Comes (t .line .0) (shapeOf (t .text)) (map textOf args) r → r ≡ bad (wrongCount (t .line .0))
-  miscounted-back w (good x) h = absurd (w (right h))
+  miscounted-back : (Counts → ⊥) → (r : Result Body) → Comes s (t .line .0) (shapeOf (t .text)) args r → r ≡ bad (wrongCount (t .line .0))
+  miscounted-back w (good x) h = absurd (w h)
   miscounted-back w (bad (wrongCount n)) (p, v) = ap (λ (n : ℕ). bad (wrongCount n)) p
   miscounted-back w (bad (untaken n)) h = absurd h
   miscounted-back w (bad (stopped n)) h = absurd h
-  miscounted-back w (bad (within n g)) (p, v) = absurd (w (right (refused-right (shapeOf (t .text)) (map textOf args) v)))
+  miscounted-back w (bad (within n g)) (p, v) = absurd (w (refused-right (shapeOf (t .text)) args v))
 
-there : (x : Item) (f : Fault) → itemRead x ≡ bad f → Amiss x f
+there : (s : List ℕ) (x : Item) (f : Fault) → itemRead s x ≡ bad f → Amiss s x f
 unfolding itemRead directiveOf
-there (stray t) f e = subst (Amiss (stray t)) (ap faultIn e) (untaken-token t)
-there (joined t args) f e = joined-there t args f (read t args) (body-comes (t .line .0) (t .text) (shapeOf (t .text)) (map textOf args)) e
+there s (stray t) f e = subst (Amiss s (stray t)) (ap faultIn e) (untaken-token t)
+there s (joined t args) f e = joined-there s t args f (read s t args) (body-comes s (t .line .0) (t .text) (shapeOf (t .text)) args) e
 
-back : (x : Item) (f : Fault) → Amiss x f → itemRead x ≡ bad f
+back : (s : List ℕ) (x : Item) (f : Fault) → Amiss s x f → itemRead s x ≡ bad f
 unfolding itemRead directiveOf
-back (stray _) _ (untaken-token t) = refl
-back (joined _ _) _ (miscounted t args w) = rw (miscounted-back t args w (read t args) (body-comes (t .line .0) (t .text) (shapeOf (t .text)) (map textOf args)))
-back (joined _ _) _ (refused t args f w) = rw (refused-body (t .line .0) (t .text) (shapeOf (t .text)) (map textOf args) w)
+back s (stray _) _ (untaken-token t) = refl
+back s (joined _ _) _ (miscounted t args w) =
+    ap (placed (t .line .0) (t .first) (lastPast (t .past) args)) (miscounted-back s t args w (read s t args) (body-comes s (t .line .0) (t .text) (shapeOf (t .text)) args))
+back s (joined _ _) _ (refused t args f w) = ap (placed (t .line .0) (t .first) (lastPast (t .past) args)) (refused-body s (t .line .0) (t .text) (shapeOf (t .text)) args w)
 
 -- an item's fault, exactly when
-pub amiss-is : (x : Item) (f : Fault) → (itemRead x ≡ bad f) ↔ Amiss x f
-amiss-is x f = (there x f, back x f)
+pub amiss-is : (s : List ℕ) (x : Item) (f : Fault) → (itemRead s x ≡ bad f) ↔ Amiss s x f
+amiss-is s x f = (there s x f, back s x f)
 
 -- and never the stop
-pub not-stopped : (x : Item) (l : ℕ) → itemRead x ≡ bad (stopped l) → ⊥
-not-stopped x l e = go x (stopped l) (there x (stopped l) e) refl
+pub not-stopped : (s : List ℕ) (x : Item) (l : ℕ) → itemRead s x ≡ bad (stopped l) → ⊥
+not-stopped s x l e = go x (stopped l) (there s x (stopped l) e) refl
   where
     kind : Fault → ℕ
     kind (wrongCount n) = 0
@@ -168,7 +323,7 @@ not-stopped x l e = go x (stopped l) (there x (stopped l) e) refl
     kind (stopped n) = 1
     kind (within n f) = 0
 
-    go : (i : Item) (f : Fault) → Amiss i f → f ≡ stopped l → ⊥
+    go : (i : Item) (f : Fault) → Amiss s i f → f ≡ stopped l → ⊥
     go (stray _) _ (untaken-token t) e = absurd (omega (arith, ap kind e))
     go (joined _ _) _ (miscounted t args w) e = absurd (omega (arith, ap kind e))
     go (joined _ _) _ (refused t args f w) e = absurd (omega (arith, ap kind e))

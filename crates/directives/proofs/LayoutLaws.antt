@@ -9,8 +9,7 @@ use Rattle.lent.specs.Layout.{textsOf, wordsOf}
 use Rattle.lent.specs.Sizes.{variableWords, actionWords, directiveWords}
 use Rattle.lent.proofs.LayoutLaws as Lent
 use Rattle.variables.specs.Layout as Targets
-use Rattle.records.specs.Layout.{actionRecord}
-use Rattle.records.specs.Actions.{actionText}
+use Rattle.records.specs.Layout.{actionRecord, fullRecord, fullText}
 use Rattle.directives.specs.Directives.{Directive}
 use Rattle.directives.specs.Layout.{Reached, reached, pastBody, nameEnd, listedIn, actionsIn, argumentEnd, directiveText, directiveRecord, variableRecords, actionRecords, texts, listedCount, actionCount, listedCounts, actionCounts, directivesFrom, variablesFrom, actionsFrom}
 
@@ -71,12 +70,12 @@ variable-long o d =
     let vs = listedIn (d .body) .variables in
     let es = listedIn (d .body) .exclusions in
     let n = nameEnd o (d .body) in
-    length-append (wordsOf Targets.variableRecord Targets.chosenText n vs) (wordsOf Targets.exclusionRecord Targets.itself (n + length (Targets.selectionTexts vs)) es)
-    ∙ omega (arith, Lent.words-length Targets.chosenText Targets.variableRecord variableWords (λ o v. refl) n vs, Lent.words-length Targets.itself Targets.exclusionRecord variableWords (λ o e. refl) (n + length (Targets.selectionTexts vs)) es)
+    length-append (wordsOf Targets.variableWhole Targets.variableText n vs) (wordsOf Targets.exclusionWhole Targets.exclusionText (n + length (Targets.selectionTexts vs)) es)
+    ∙ omega (arith, Lent.words-length Targets.variableText Targets.variableWhole variableWords (λ o v. refl) n vs, Lent.words-length Targets.exclusionText Targets.exclusionWhole variableWords (λ o e. refl) (n + length (Targets.selectionTexts vs)) es)
 
 action-long : (o : ℕ) (d : Directive) → length (actionRecords o d) ≡ actionCount (d .body) * actionWords
 unfolding actionRecord
-action-long o d = Lent.words-length actionText actionRecord actionWords (λ o x. refl) (argumentEnd o (d .body)) (actionsIn (d .body))
+action-long o d = Lent.words-length fullText fullRecord actionWords (λ o x. refl) (argumentEnd o (d .body)) (actionsIn (d .body))
 
 pub variables-long : (o : ℕ) (ds : List Directive) → length (variablesFrom o ds) ≡ listedCounts ds * variableWords
 unfolding wordsOf listedCounts

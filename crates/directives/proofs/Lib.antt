@@ -1,3 +1,4 @@
+pub mod SitedLaws
 pub mod LayoutLaws
 pub mod RoomLaws
 pub mod OrderLaws

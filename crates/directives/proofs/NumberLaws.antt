@@ -8,10 +8,11 @@ use mathlib.Core.List.{List, [], _∷_, map}
 use lib.ListN.{length}
 use lib.Dec.{ltb}
 use Rattle.ascii.specs.Choice.{pick}
-use Rattle.lent.specs.Table.{Refusal, tooLong, notAscii, shortBuffer, noRoom, named, noAction, noArgument, noVariable, unknownOperator, badCursor, Outcome, refuses, reads}
+use Rattle.lent.specs.Sources.{Part, Sourced}
+use Rattle.lent.specs.Table.{Refusal, tooLong, notAscii, shortBuffer, noRoom, named, noAction, noArgument, noVariable, unknownOperator, badCursor, resited, Outcome, refuses, reads}
 use Rattle.lent.specs.declared.refusing.Flaw.the-variants as Flaw
 use Rattle.lexer.specs.declared.Cursor.{Cursor}
-use Rattle.lexer.specs.Tokens.{reading}
+use Rattle.lexer.specs.Tokens.{Token, reading}
 use Rattle.lexer.specs.Layout.{textOf}
 use Rattle.variables.specs.Variables.{Targets, targets, refused}
 use Rattle.variables.specs.Steps.{targetsOf}
@@ -21,10 +22,9 @@ use Rattle.operators.specs.Promises.{outcomeOf}
 use Rattle.records.specs.Actions.{Action}
 use Rattle.actions.specs.Normal.{normalised}
 use Rattle.actions.specs.Pieces as Pieces
-use Rattle.actions.specs.Lists.{actionsOf}
-use Rattle.actions.proofs.CountLaws.{Counted, actions-counted}
+use Rattle.actions.proofs.CountLaws.{Counted, from-counted}
 use Rattle.directives.specs.Groups.{Item, joined, stray, items}
-use Rattle.directives.specs.Directives.{Listed, Body, act, defaults, Directive, Fault, wrongCount, untaken, stopped, within, Result, bad, good, listedBy, variablesRead, operatorRead, actionsRead, Shape, ofRule, ofAction, ofMarker, ofDefaults, ofOther, shapeOf, ruleBy, actBy, told, bodyBy, lastPast, placed, directiveOf, itemRead, before, ending, endOf, directives}
+use Rattle.directives.specs.Directives.{Listed, Body, act, defaults, Directive, Fault, wrongCount, untaken, stopped, within, Result, bad, good, listedBy, variablesRead, operatorRead, actionsRead, Shape, ofRule, ofAction, ofMarker, ofDefaults, ofOther, shapeOf, ruleBy, actBy, told, bodyBy, refusalSite, sited, lastPast, placed, directiveOf, itemRead, before, ending, endOf, directives}
 use Rattle.directives.specs.Table.{faultGiven}
 
 -- ---- an argument
@@ -35,8 +35,8 @@ Known tooLong = ⊥
 Known (notAscii p) = ⊥
 Known shortBuffer = ⊥
 Known (noRoom n) = ⊥
-Known (named why p name) = Unit {0}
-Known (unknownOperator p n) = Unit {0}
+Known (named why p name x) = Unit {0}
+Known (unknownOperator p n x) = Unit {0}
 Known badCursor = ⊥
 
 abbrev KnownIn : {A : Type 0} → Outcome A → Type 0
@@ -45,24 +45,24 @@ KnownIn (reads x) = Unit {0}
 
 listed-known : (ts : Targets) → KnownIn (listedBy ts)
 listed-known (targets vs es) = tt
-listed-known (refused i name) = tt
+listed-known (refused i name x) = tt
 
 operator-known : (s : List ℕ) (x : Op.Reading) → KnownIn (outcomeOf s x)
 operator-known s (Op.accepted x) = tt
 operator-known s (Op.unknown name) = tt
 
-counted-known : (n : ℕ) (o : Outcome (List Action)) → Counted 0 n o → KnownIn o
+counted-known : (n : ℕ) (o : Outcome (List (Sourced Action))) → Counted 0 n o → KnownIn o
 counted-known n (reads xs) h = tt
-counted-known n (refuses (named why p name)) h = tt
+counted-known n (refuses (named why p name x)) h = tt
 counted-known n (refuses tooLong) h = h
 counted-known n (refuses (notAscii p)) h = h
 counted-known n (refuses shortBuffer) h = h
 counted-known n (refuses (noRoom p)) h = h
-counted-known n (refuses (unknownOperator p l)) h = absurd h
+counted-known n (refuses (unknownOperator p l x)) h = absurd h
 counted-known n (refuses badCursor) h = h
 
 actions-known : (s : List ℕ) → KnownIn (actionsRead s)
-actions-known s = counted-known (length (Pieces.pieces (normalised s))) (actionsOf s) (actions-counted s)
+actions-known s = counted-known (length (Pieces.pieces (normalised s))) (actionsRead s) (from-counted 0 (Pieces.pieces (normalised s)))
 
 -- ---- a directive
 
@@ -80,13 +80,13 @@ told-known : (l : ℕ) (o : Outcome Body) → KnownIn o → KnownResult (told l 
 told-known l (refuses f) h = h
 told-known l (reads x) h = tt
 
-rule-known : (l : ℕ) (v : Outcome Listed) (o : Outcome Op.Spec) (a : Outcome (List Action)) → KnownIn v → KnownIn o → KnownIn a → KnownResult (told l (ruleBy v o a))
+rule-known : (l : ℕ) (v : Outcome Listed) (o : Outcome Op.Spec) (a : Outcome (List (Sourced Action))) → KnownIn v → KnownIn o → KnownIn a → KnownResult (told l (ruleBy v o a))
 rule-known l (refuses f) o a h i j = h
 rule-known l (reads v) (refuses f) a h i j = i
 rule-known l (reads v) (reads o) (refuses f) h i j = j
 rule-known l (reads v) (reads o) (reads a) h i j = tt
 
-act-known : (l : ℕ) (make : List Action → Body) (o : Outcome (List Action)) → KnownIn o → KnownResult (told l (actBy make o))
+act-known : (l : ℕ) (make : List (Sourced Action) → Body) (o : Outcome (List (Sourced Action))) → KnownIn o → KnownResult (told l (actBy make o))
 act-known l make (refuses f) h = h
 act-known l make (reads xs) h = tt
 
@@ -111,12 +111,30 @@ placed-known : (l first past : ℕ) (x : Result Body) → KnownResult x → Know
 placed-known l first past (bad f) h = h
 placed-known l first past (good x) h = tt
 
-item-known : (x : Item) → KnownResult (itemRead x)
+-- wherever it stands
+resited-known : (f : Part → Part) (r : Refusal) → Known r → Known (resited f r)
+resited-known f tooLong h = h
+resited-known f (notAscii p) h = h
+resited-known f shortBuffer h = h
+resited-known f (noRoom n) h = h
+resited-known f (named why p name x) h = tt
+resited-known f (unknownOperator p n x) h = tt
+resited-known f badCursor h = h
+
+sited-known : (s : List ℕ) (shape : Shape) (args : List Token) (x : Result Body) → KnownResult x → KnownResult (sited s shape args x)
+sited-known s shape args (bad (wrongCount l)) h = tt
+sited-known s shape args (bad (untaken l)) h = tt
+sited-known s shape args (bad (stopped l)) h = tt
+sited-known s shape args (bad (within l f)) h = resited-known (refusalSite s shape args f) f h
+sited-known s shape args (good x) h = tt
+
+item-known : (s : List ℕ) (x : Item) → KnownResult (itemRead s x)
 unfolding itemRead directiveOf
-item-known (stray t) = tt
-item-known (joined t args) =
-    placed-known (t .line .0) (t .first) (lastPast (t .past) args) (bodyBy (shapeOf (t .text)) (t .line .0) (t .text) (map textOf args))
-    (body-known (t .line .0) (t .text) (shapeOf (t .text)) (map textOf args))
+item-known s (stray t) = tt
+item-known s (joined t args) =
+    let shape = shapeOf (t .text) in
+    let body = bodyBy shape (t .line .0) (t .text) (map textOf args) in
+    placed-known (t .line .0) (t .first) (lastPast (t .past) args) (sited s shape args body) (sited-known s shape args body (body-known (t .line .0) (t .text) shape (map textOf args)))
 
 -- ---- a whole text
 
@@ -125,10 +143,10 @@ before-known (bad f) o h k = h
 before-known (good d) (bad f) h k = k
 before-known (good d) (good ds) h k = tt
 
-ending-known : (o : Result (List Directive)) (xs : List Item) → KnownResult o → KnownResult (ending o xs)
+ending-known : (s : List ℕ) (o : Result (List Directive)) (xs : List Item) → KnownResult o → KnownResult (ending s o xs)
 unfolding ending
-ending-known o [] h = h
-ending-known o (x ∷ xs) h = before-known (itemRead x) (ending o xs) (item-known x) (ending-known o xs h)
+ending-known s o [] h = h
+ending-known s o (x ∷ xs) h = before-known (itemRead s x) (ending s o xs) (item-known s x) (ending-known s o xs h)
 
 end-known : (n : ℕ) (c : Cursor) → KnownResult (endOf n c)
 unfolding endOf
@@ -141,7 +159,7 @@ end-known n c = go (ltb (c .place) n)
 pub directives-known : (s : List ℕ) (f : Fault) → directives s ≡ bad f → KnownFault f
 unfolding directives
 directives-known s f e =
-    subst (KnownResult {A = List Directive}) e (ending-known (endOf (length s) (reading s .stop)) (items false (reading s .tokens)) (end-known (length s) (reading s .stop)))
+    subst (KnownResult {A = List Directive}) e (ending-known s (endOf (length s) (reading s .stop)) (items false (reading s .tokens)) (end-known (length s) (reading s .stop)))
 
 -- ---- the number
 
@@ -153,10 +171,10 @@ fault-number (within l tooLong) h = absurd h
 fault-number (within l (notAscii p)) h = absurd h
 fault-number (within l shortBuffer) h = absurd h
 fault-number (within l (noRoom n)) h = absurd h
-fault-number (within l (named noAction p name)) h = inl (omega arith)
-fault-number (within l (named (noArgument Flaw.Absent) p name)) h = inr (omega arith, omega arith)
-fault-number (within l (named (noArgument Flaw.Unreadable) p name)) h = inr (omega arith, omega arith)
-fault-number (within l (named (noArgument Flaw.TooLarge) p name)) h = inr (omega arith, omega arith)
-fault-number (within l (named noVariable p name)) h = inr (omega arith, omega arith)
-fault-number (within l (unknownOperator p n)) h = inr (omega arith, omega arith)
+fault-number (within l (named noAction p name x)) h = inl (omega arith)
+fault-number (within l (named (noArgument Flaw.Absent) p name x)) h = inr (omega arith, omega arith)
+fault-number (within l (named (noArgument Flaw.Unreadable) p name x)) h = inr (omega arith, omega arith)
+fault-number (within l (named (noArgument Flaw.TooLarge) p name x)) h = inr (omega arith, omega arith)
+fault-number (within l (named noVariable p name x)) h = inr (omega arith, omega arith)
+fault-number (within l (unknownOperator p n x)) h = inr (omega arith, omega arith)
 fault-number (within l badCursor) h = absurd h

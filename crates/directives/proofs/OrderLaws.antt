@@ -103,55 +103,55 @@ abbrev told-kind : Result (List Entry) → ℕ
 told-kind (bad f) = 0
 told-kind (good ds) = 1
 
-module _ (end : Result (List Entry)) where
-  all-good : {xs : List Item} {ds : List Entry} → AllGood xs ds → (es : List Entry) → end ≡ good es → ending end xs ≡ good (ds ++ es)
+module _ (s : List ℕ) (end : Result (List Entry)) where
+  all-good : {xs : List Item} {ds : List Entry} → AllGood s xs ds → (es : List Entry) → end ≡ good es → ending s end xs ≡ good (ds ++ es)
   unfolding ending
   all-good none es q = q
   all-good (also p a) es q = rw (p, all-good a es q)
 
-  all-bad : {xs : List Item} {ds : List Entry} (f : Fault) → AllGood xs ds → end ≡ bad f → ending end xs ≡ bad f
+  all-bad : {xs : List Item} {ds : List Entry} (f : Fault) → AllGood s xs ds → end ≡ bad f → ending s end xs ≡ bad f
   unfolding ending
   all-bad f none q = q
   all-bad f (also p a) q = rw (p, all-bad f a q)
 
-  first-bad : (passed : List Item) (this : Item) (after : List Item) (ds : List Entry) (f : Fault) → AllGood passed ds → itemRead this ≡ bad f → ending end (passed ++ this ∷ after) ≡ bad f
+  first-bad : (passed : List Item) (this : Item) (after : List Item) (ds : List Entry) (f : Fault) → AllGood s passed ds → itemRead s this ≡ bad f → ending s end (passed ++ this ∷ after) ≡ bad f
   unfolding ending
   first-bad [] this after [] f none q = rw q
   first-bad (x ∷ passed) this after (d ∷ ds) f (also p a) q = rw (p, first-bad passed this after ds f a q)
 
   -- what the items come to
   data Comes (xs : List Item) : Result (List Entry) → Type 0 where
-    fails : {f : Fault} → Faulty end xs f → Comes xs (bad f)
-    holds : (ds es : List Entry) → AllGood xs ds → end ≡ good es → Comes xs (good (ds ++ es))
+    fails : {f : Fault} → Faulty s end xs f → Comes xs (bad f)
+    holds : (ds es : List Entry) → AllGood s xs ds → end ≡ good es → Comes xs (good (ds ++ es))
 
-  later : (x : Item) (xs : List Item) (d : Entry) → itemRead x ≡ good d → {o : Result (List Entry)} → Comes xs o → Comes (x ∷ xs) (before (good d) o)
+  later : (x : Item) (xs : List Item) (d : Entry) → itemRead s x ≡ good d → {o : Result (List Entry)} → Comes xs o → Comes (x ∷ xs) (before (good d) o)
   later x xs d p (fails (in-item h)) =
       fails (in-item (record { passed = x ∷ h .passed; this = h .this; after = h .after; entries = d ∷ h .entries; list = ap (λ (l : List Item). x ∷ l) (h .list); good-before = also p (h .good-before); fault = h .fault }))
   later x xs d p (fails (at-end ds a q)) = fails (at-end (d ∷ ds) (also p a) q)
   later x xs d p (holds ds es a q) = holds (d ∷ ds) es (also p a) q
 
-  comes : (xs : List Item) → Comes xs (ending end xs)
+  comes : (xs : List Item) → Comes xs (ending s end xs)
   unfolding ending
   comes [] = go end refl
     where
       go : (o : Result (List Entry)) → end ≡ o → Comes [] o
       go (bad f) q = fails (at-end [] none q)
       go (good es) q = holds [] es none q
-  comes (x ∷ xs) = go (itemRead x) refl (comes xs)
+  comes (x ∷ xs) = go (itemRead s x) refl (comes xs)
     where
-      go : (r : Result Entry) → itemRead x ≡ r → Comes xs (ending end xs) → Comes (x ∷ xs) (before r (ending end xs))
+      go : (r : Result Entry) → itemRead s x ≡ r → Comes xs (ending s end xs) → Comes (x ∷ xs) (before r (ending s end xs))
       go (bad f) p k = fails (in-item (record { passed = []; this = x; after = xs; entries = []; list = refl; good-before = none; fault = p }))
       go (good d) p k = later x xs d p k
 
   -- a fault is the answer exactly when it is the first bad item's; or with all items good, the end's
-  pub fault-is : (xs : List Item) (f : Fault) → (ending end xs ≡ bad f) ↔ Faulty end xs f
-  fault-is xs f = (λ e. go (ending end xs) (comes xs) e, back)
+  pub fault-is : (xs : List Item) (f : Fault) → (ending s end xs ≡ bad f) ↔ Faulty s end xs f
+  fault-is xs f = (λ e. go (ending s end xs) (comes xs) e, back)
     where
-      go : (o : Result (List Entry)) → Comes xs o → o ≡ bad f → Faulty end xs f
-      go (bad g) (fails h) e = subst (Faulty end xs) (ap told-fault e) h
+      go : (o : Result (List Entry)) → Comes xs o → o ≡ bad f → Faulty s end xs f
+      go (bad g) (fails h) e = subst (Faulty s end xs) (ap told-fault e) h
       go (good ds) (holds _ _ a q) e = absurd (never (sym (ap told-kind e)))
 
-      back : Faulty end xs f → ending end xs ≡ bad f
+      back : Faulty s end xs f → ending s end xs ≡ bad f
       back (in-item h) = rw (h .list) (first-bad (h .passed) (h .this) (h .after) (h .entries) f (h .good-before) (h .fault))
       back (at-end ds a q) = all-bad f a q
 
@@ -159,12 +159,12 @@ module _ (end : Result (List Entry)) where
   record Holds (xs : List Item) (ds : List Entry) : Type 0 where
     front : List Entry
     back : List Entry
-    each : AllGood xs front
+    each : AllGood s xs front
     last : end ≡ good back
     list : front ++ back ≡ ds
 
-  holds-is : (xs : List Item) (ds : List Entry) → ending end xs ≡ good ds → Holds xs ds
-  holds-is xs ds e = go (ending end xs) (comes xs) e
+  holds-is : (xs : List Item) (ds : List Entry) → ending s end xs ≡ good ds → Holds xs ds
+  holds-is xs ds e = go (ending s end xs) (comes xs) e
     where
       go : (o : Result (List Entry)) → Comes xs o → o ≡ good ds → Holds xs ds
       go (bad g) (fails h) e = absurd (never (ap told-kind e))
@@ -172,9 +172,9 @@ module _ (end : Result (List Entry)) where
 
 -- ---- a whole text
 
-pub text-faulty : (s : List ℕ) (f : Fault) → (directives s ≡ bad f) ↔ Faulty (endOf (length s) (reading s .stop)) (items false (reading s .tokens)) f
+pub text-faulty : (s : List ℕ) (f : Fault) → (directives s ≡ bad f) ↔ Faulty s (endOf (length s) (reading s .stop)) (items false (reading s .tokens)) f
 unfolding directives
-text-faulty s f = fault-is (endOf (length s) (reading s .stop)) (items false (reading s .tokens)) f
+text-faulty s f = fault-is s (endOf (length s) (reading s .stop)) (items false (reading s .tokens)) f
 
 -- the end, by whether reading came to it
 abbrev endBy : Cursor → Bool → Result (List Entry)
@@ -206,9 +206,9 @@ end-none n c bs e = go (ltb (c .place) n) e
     go false e = sym (ap told-entries e)
 
 -- number 0, 4 aside: each item is good, and reading came to the end
-pub text-good : (s : List ℕ) (ds : List Entry) → (directives s ≡ good ds) ↔ (AllGood (items false (reading s .tokens)) ds × (endOf (length s) (reading s .stop) ≡ good []))
+pub text-good : (s : List ℕ) (ds : List Entry) → (directives s ≡ good ds) ↔ (AllGood s (items false (reading s .tokens)) ds × (endOf (length s) (reading s .stop) ≡ good []))
 unfolding directives
-text-good s ds = (there, λ h. all-good end (h .0) [] (h .1) ∙ ap (λ (l : List Entry). good l) (append-nil ds))
+text-good s ds = (there, λ h. all-good s end (h .0) [] (h .1) ∙ ap (λ (l : List Entry). good l) (append-nil ds))
   where
     end : Result (List Entry)
     end = endOf (length s) (reading s .stop)
@@ -216,8 +216,8 @@ text-good s ds = (there, λ h. all-good end (h .0) [] (h .1) ∙ ap (λ (l : Lis
     xs : List Item
     xs = items false (reading s .tokens)
 
-    there : ending end xs ≡ good ds → AllGood xs ds × (end ≡ good [])
+    there : ending s end xs ≡ good ds → AllGood s xs ds × (end ≡ good [])
     there e =
-        let h : Holds end xs ds = holds-is end xs ds e in
+        let h : Holds s end xs ds = holds-is s end xs ds e in
         let z : h .back ≡ [] = end-none (length s) (reading s .stop) (h .back) (h .last) in
-        (subst (AllGood xs) (sym (append-nil (h .front)) ∙ ap (λ (l : List Entry). h .front ++ l) (sym z) ∙ h .list) (h .each), h .last ∙ ap (λ (l : List Entry). good l) z)
+        (subst (AllGood s xs) (sym (append-nil (h .front)) ∙ ap (λ (l : List Entry). h .front ++ l) (sym z) ∙ h .list) (h .each), h .last ∙ ap (λ (l : List Entry). good l) z)

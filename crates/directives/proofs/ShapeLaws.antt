@@ -11,6 +11,7 @@ use borrow.Author.Tests.{eqb-true, le-leb, lt-leb}
 use Rattle.ascii.specs.Choice.{bit}
 use Rattle.lent.specs.Sizes.{limit}
 use Rattle.lent.specs.Endings.{starts}
+use Rattle.lent.specs.Sources.{Sourced}
 use Rattle.lent.specs.Table.{Outcome, reads}
 use Rattle.lent.proofs.StartLaws.{starts-is}
 use Rattle.lent.proofs.BufferLaws.{padded-none}
@@ -18,8 +19,8 @@ use Rattle.lexer.specs.Steps.{part}
 use Rattle.records.specs.Actions.{Action}
 use Rattle.ascii.specs.Trim.{stripStart, stripEnd}
 use Rattle.actions.specs.Normal.{normalised, normalisedFrom, textHeld}
-use Rattle.actions.specs.Pieces.{pieces, partsFrom, piecesOf}
-use Rattle.actions.specs.Lists.{actionsFrom, actionsOf}
+use Rattle.actions.specs.Pieces.{piecesFrom, partsFrom, piecesOf}
+use Rattle.actions.specs.Lists.{actionsFrom}
 use Rattle.directives.specs.Directives.{Body, act, marker, defaults, unknown, wrongCount, within, Result, bad, good, variablesRead, operatorRead, actionsRead, Shape, ofRule, ofAction, ofMarker, ofDefaults, ofOther, ruleBy, actBy, told, shapeOf, bodyBy}
 use Rattle.directives.specs.Steps.{emptyEntry, Fell, AddsVariables, AddsOperator, Bodied, takes, heldBy, heldArguments, Ready}
 use Rattle.directives.specs.declared.Fault.{Fault as Told}
@@ -59,7 +60,7 @@ module _ (l : ℕ) (name v o x : List ℕ) where
   count-wrong ofOther n e = absurd (omega (arith, ap bit e))
 
   no-actions : actionsRead [] ≡ reads []
-  unfolding actionsOf normalised normalisedFrom textHeld pieces partsFrom piecesOf stripEnd stripStart actionsFrom
+  unfolding normalised normalisedFrom textHeld piecesFrom partsFrom piecesOf stripEnd stripStart actionsFrom
   no-actions = refl
 
   four-or-more : (i : ℕ) → takes ofRule (suc (suc (suc (suc i)))) ≡ false
@@ -69,7 +70,7 @@ module _ (l : ℕ) (name v o x : List ℕ) where
   pub count-rule : (n : ℕ) → takes ofRule n ≡ true → (n ≡ 2 → x ≡ []) → bodyBy ofRule l name (heldBy n v o x) ≡ told l (ruleBy (variablesRead v) (operatorRead o) (actionsRead x))
   count-rule zero e f = absurd (omega (arith, ap bit e))
   count-rule (suc zero) e f = absurd (omega (arith, ap bit e))
-  count-rule (suc (suc zero)) e f = ap (λ (m : Outcome (List Action)). told l (ruleBy (variablesRead v) (operatorRead o) m)) (sym no-actions ∙ ap actionsRead (sym (f refl)))
+  count-rule (suc (suc zero)) e f = ap (λ (m : Outcome (List (Sourced Action))). told l (ruleBy (variablesRead v) (operatorRead o) m)) (sym no-actions ∙ ap actionsRead (sym (f refl)))
   count-rule (suc (suc (suc zero))) e f = refl
   count-rule (suc (suc (suc (suc i)))) e f = absurd (omega (arith, ap bit (sym (four-or-more i) ∙ e)))
 
@@ -138,9 +139,9 @@ module _ {scratch text : List ℕ} {name : ℕ} {a : Arguments} {t : Tally} (x :
 
 -- ---- by shape
 
-pub as-body : (t : Tally) (text text′ variables variables′ actions actions′ : List ℕ) (r : Judged) {b d : Result Body} → b ≡ d
-    → Bodied d t text text′ variables variables′ actions actions′ r → Bodied b t text text′ variables variables′ actions actions′ r
-as-body t text text′ variables variables′ actions actions′ r e x = subst (λ (b : Result Body). Bodied b t text text′ variables variables′ actions actions′ r) (sym e) x
+pub as-body : (shrunk : ℕ) (t : Tally) (text text′ variables variables′ actions actions′ : List ℕ) (r : Judged) {b d : Result Body} → b ≡ d
+    → Bodied d shrunk t text text′ variables variables′ actions actions′ r → Bodied b shrunk t text text′ variables variables′ actions actions′ r
+as-body shrunk t text text′ variables variables′ actions actions′ r e x = subst (λ (b : Result Body). Bodied b shrunk t text text′ variables variables′ actions actions′ r) (sym e) x
 
 module _ (shape : Shape) (line : ℕ) (scratch : List ℕ) (name : ℕ) (a : Arguments) (is : shape ≡ shapeOf (take name scratch)) where
   abbrev first : List ℕ
