@@ -5,6 +5,7 @@ pub mod LayoutLaws
 pub mod GivenLaws
 pub mod PlaceLaws
 pub mod SourceLaws
+pub mod JoinLaws
 pub mod LoopLaws
 pub mod OutcomeLaws
 pub mod NormalLoop

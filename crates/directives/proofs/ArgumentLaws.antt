@@ -2,16 +2,17 @@
 use mathlib.Core.Path.{_≡_, refl, sym, ap, ap₂, _∙_, subst}
 use mathlib.Core.Bool.{Bool, true, false}
 use mathlib.Core.List.{List, [], _∷_, _++_, append-assoc, append-nil}
-use Prim.Native.Nat.{ℕ, _+_, _≤_}
+use Prim.Native.Nat.{ℕ, zero, suc, _+_, _≤_}
 use native.Mathlib.Omega.{arith}
 use native.Mathlib.Nat.{add-zero}
 use lib.ListN.{length, take, length-append}
 use lib.Seq.{take-all, take-append-le}
-use lib.Dec.{ltb}
+use lib.Dec.{ltb, eqb}
 use borrow.Author.Tests.{ltb-true, ltb-false}
 use Rattle.ascii.specs.Choice.{pick}
 use Rattle.lent.specs.Sizes.{limit}
 use Rattle.lent.specs.Layout.{textsOf}
+use Rattle.lent.specs.Sources.{Part, part}
 use Rattle.lent.proofs.LayoutLaws.{texts-more, count-more}
 use Rattle.lexer.specs.declared.Kind.{Kind}
 use Rattle.lexer.specs.declared.Kind.the-variants.{Directive as Leading, Word, QuotedString, Comment, Newline}
@@ -21,8 +22,8 @@ use Rattle.lexer.specs.Tokens.{Token, Reading}
 use Rattle.lexer.specs.Layout.{textOf, texts}
 use Rattle.lexer.specs.Calls.{Reached}
 use Rattle.directives.specs.Groups.{argumentBy, argumentsOf, itemBy, items, joined, stray}
-use Rattle.directives.specs.Directives.{lastPast}
-use Rattle.directives.specs.Steps.{Laid, roleOf, onward, Token-is, None-is, endsAt, argumentsAs, oneMore, takenFrom, Took}
+use Rattle.directives.specs.Directives.{lastPast, standing}
+use Rattle.directives.specs.Steps.{Laid, roleOf, onward, Token-is, None-is, endsAt, placeOf, argumentsAs, oneMore, takenFrom, Took}
 use Rattle.directives.specs.declared.tokens.Role.the-variants.{Opens, Argues, Closes}
 use Rattle.directives.specs.declared.arguments.Arguments.{Arguments}
 use Rattle.directives.proofs.tokens.Role.{the-type}
@@ -49,19 +50,30 @@ unfolding lastPast
 past-more p [] u = refl
 past-more p (t ∷ args) u = past-more (t .past) args u
 
-same-arguments : {c c′ a a′ b b′ d d′ e e′ p p′ : ℕ} → c ≡ c′ → a ≡ a′ → b ≡ b′ → d ≡ d′ → e ≡ e′ → p ≡ p′
-    → _≡_ {A = Arguments} (record { count = c; one = a; two = b; three = d; end = e; past = p }) (record { count = c′; one = a′; two = b′; three = d′; end = e′; past = p′ })
-same-arguments c a b d e p = rw (c, a, b, d, e, p)
+place-more : (n : ℕ) (args : List Token) (u : Token) → pick (eqb (length args) n) (standing u) (placeOf n args) ≡ placeOf n (args ++ u ∷ [])
+unfolding placeOf
+place-more zero [] u = refl
+place-more zero (t ∷ args) u = refl
+place-more (suc n) [] u = refl
+place-more (suc n) (t ∷ args) u = place-more n args u
 
-more-arguments : (held past : ℕ) (args : List Token) (u : Token) → oneMore (argumentsAs held past args) (length (u .text)) (u .past) ≡ argumentsAs held past (args ++ u ∷ [])
+same-arguments : {c c′ a a′ b b′ d d′ e e′ p p′ : ℕ} {f f′ g g′ h h′ : Part} → c ≡ c′ → a ≡ a′ → b ≡ b′ → d ≡ d′ → e ≡ e′ → p ≡ p′ → f ≡ f′ → g ≡ g′ → h ≡ h′
+    → _≡_ {A = Arguments} (record { count = c; one = a; two = b; three = d; end = e; past = p; first = f; second = g; third = h })
+    (record { count = c′; one = a′; two = b′; three = d′; end = e′; past = p′; first = f′; second = g′; third = h′ })
+same-arguments c a b d e p f g h = rw (c, a, b, d, e, p, f, g, h)
+
+more-arguments : (held past : ℕ) (args : List Token) (u : Token) → oneMore (argumentsAs held past args) (length (u .text)) (standing u) ≡ argumentsAs held past (args ++ u ∷ [])
 more-arguments held past args u =
     let n : held + length (texts args) + length (u .text) ≡ held + length (texts (args ++ u ∷ [])) =
     omega (arith, ap length (texts-more textOf args u), length-append (texts args) (u .text)) in
     same-arguments (sym (count-more args u)) (ends-more held 1 args u) (ends-more held 2 args u) (ends-more held 3 args u) n (sym (past-more past args u))
+    (place-more 0 args u) (place-more 1 args u) (place-more 2 args u)
 
-no-arguments : (held past : ℕ) → record { count = 0; one = held; two = held; three = held; end = held; past = past } ≡ argumentsAs held past []
-unfolding textsOf lastPast
-no-arguments held past = let e : held ≡ held + 0 = sym (add-zero held) in same-arguments refl e e e e refl
+-- none yet
+pub no-arguments : (held past : ℕ)
+    → record { count = 0; one = held; two = held; three = held; end = held; past = past; first = part 0 0; second = part 0 0; third = part 0 0 } ≡ argumentsAs held past []
+unfolding textsOf lastPast placeOf
+no-arguments held past = let e : held ≡ held + 0 = sym (add-zero held) in same-arguments refl e e e e refl refl refl refl
 
 -- ---- what a token is to them, by its role
 
@@ -116,20 +128,20 @@ pub record Going (s : List ℕ) (from : Cursor) (past held : ℕ) (scratch₀ sc
 
 module _ (s : List ℕ) (from : Cursor) (past held : ℕ) (scratch₀ : List ℕ) (within : length s ≤ limit) (room : length s ≤ length scratch₀)
     (held-low : held ≤ from .place) (past-low : past ≤ from .place) (arrived : Reached s from) where
-  pub begun : Going s from past held scratch₀ scratch₀ from (record { count = 0; one = held; two = held; three = held; end = held; past = past })
-  unfolding textsOf
-  begun = record {
+  pub begun : {a : Arguments} → a ≡ argumentsAs held past [] → Going s from past held scratch₀ scratch₀ from a
+  unfolding textsOf lastPast
+  begun {a} e = let p : a .past ≡ past = ap (λ (b : Arguments). b .past) e in record {
     done = [];
     taken-are = refl;
     rest = refl;
     stop = refl;
-    arguments-are = no-arguments held past;
+    arguments-are = e;
     laid = laid-none scratch₀ held (omega (arith, arrived .inside));
     arrived = arrived;
     short = omega arith;
     few = omega arith;
-    past-low = omega arith;
-    past-high = past-low;
+    past-low = omega (arith, p);
+    past-high = omega (arith, p, past-low);
   }
 
   module _ {scratch : List ℕ} {here : Cursor} {a : Arguments} (g : Going s from past held scratch₀ scratch here a) where
@@ -209,13 +221,14 @@ module _ (s : List ℕ) (from : Cursor) (past held : ℕ) (scratch₀ : List ℕ
           (omega (arith, count-is, g .few, g .arrived .inside), omega (arith, n, going-low .1, x .short, x .arrived .inside))
 
       -- one argument more
-      pub turned : roleOf (l .kind) ≡ Argues → {b : Arguments} → b ≡ oneMore a (l .len) (l .next .place) → Going s from past held scratch₀ scratch′ (l .next) b
+      pub turned : roleOf (l .kind) ≡ Argues → {b : Arguments} → b ≡ oneMore a (l .len) (part (l .first) (l .next .place)) → Going s from past held scratch₀ scratch′ (l .next) b
       turned e {b} f =
           let c = argues u ts (ap roleOf (sym kind-is) ∙ e) in
           let n : l .len ≡ length (u .text) = ap (λ (m : Lexeme). m .len) (x .is) in
           let d = g .done ++ u ∷ [] in
+          let stands : part (l .first) (l .next .place) ≡ standing u = ap₂ part (ap (λ (m : Lexeme). m .first) (x .is)) (sym (x .ends)) in
           let b-is : b ≡ argumentsAs held past d =
-          f ∙ ap₂ (oneMore a) n (sym (x .ends)) ∙ ap (λ (o : Arguments). oneMore o (length (u .text)) (u .past)) (g .arguments-are) ∙ more-arguments held past (g .done) u in
+          f ∙ ap₂ (oneMore a) n stands ∙ ap (λ (o : Arguments). oneMore o (length (u .text)) (standing u)) (g .arguments-are) ∙ more-arguments held past (g .done) u in
           let p : b .past ≡ l .next .place = ap (λ (o : Arguments). o .past) f in
           record {
             done = d;
