@@ -6,8 +6,11 @@ use Prim.Native.Nat.{ℕ}
 use lib.Dec.{eqb}
 use borrow.Author.Tests.{eqb-true}
 use Rattle.ascii.specs.Choice.{pick, and, or}
-use Rattle.places.specs.Scans.{Mode as Walking, plain, escaped, stayed, afterCr, margin, pass, keep, spellBy, spell}
-use Rattle.places.specs.Tables.{Joined, skipped, lineNext, plainJoin, marginJoin, joining}
+use Rattle.places.specs.declared.acting.Mode.{Mode as Walking}
+use Rattle.places.specs.declared.acting.Mode.the-variants.{Plain as plain, Escaped as escaped, Stayed as stayed, AfterCr as afterCr, Margin as margin}
+use Rattle.places.specs.declared.Rule.the-variants.{Joined}
+use Rattle.places.specs.Scans.{pass, keep, spellBy, spell}
+use Rattle.places.specs.Tables.{skipped, lineNext, plainJoin, marginJoin, joining}
 use Rattle.places.specs.Sites.{textOf}
 use Rattle.actions.specs.declared.normalising.Mode.{Mode}
 use Rattle.actions.specs.declared.normalising.Mode.the-variants.{Plain, Held, AfterCr, Margin}
