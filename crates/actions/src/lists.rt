@@ -52,7 +52,13 @@ fn refuse_row(
 }
 
 // And one whose name is no action's: the name in small letters, and zeros.
-fn refuse_name(name: &[u8], piece: usize, span: u64, text: &mut [u8], records: &mut [u64]) -> Reached
+fn refuse_name(
+    name: &[u8],
+    piece: usize,
+    span: u64,
+    text: &mut [u8],
+    records: &mut [u64],
+) -> Reached
     requires { ⌜ length (now name) ≤ length (now text) ⌝ }
     ensures { λ r. ⌜ now (text .exit) ≡ padded (length (now (text .entry))) (lowered (now (name .entry))) ⌝ }
     ensures { λ r. ⌜ now (records .exit) ≡ zeros (length (now (records .entry))) ⌝ }
@@ -193,7 +199,15 @@ pub fn parse_actions(
             span: places::site_word(input, 0, Rule::Joined, span),
         },
         Reached::Read { count, offset } => {
-            places::resite(input, 0, Rule::Joined, records, 0, count, lent::ACTION_WORDS);
+            places::resite(
+                input,
+                0,
+                Rule::Joined,
+                records,
+                0,
+                count,
+                lent::ACTION_WORDS,
+            );
             finish(text, offset, records, count)
         }
         // not past the gate

@@ -8,7 +8,7 @@ use native.Mathlib.Nat.{add-zero}
 use lib.ListN.{length, take, length-append}
 use lib.Seq.{take-all, take-append-le}
 use lib.Dec.{ltb, eqb}
-use borrow.Author.Tests.{ltb-true, ltb-false}
+use borrow.Author.Tests.{ltb-true, ltb-false, eqb-true, eqb-false}
 use Rattle.ascii.specs.Choice.{pick}
 use Rattle.lent.specs.Sizes.{limit}
 use Rattle.lent.specs.Layout.{textsOf}
@@ -50,12 +50,25 @@ unfolding lastPast
 past-more p [] u = refl
 past-more p (t ∷ args) u = past-more (t .past) args u
 
-place-more : (n : ℕ) (args : List Token) (u : Token) → pick (eqb (length args) n) (standing u) (placeOf n args) ≡ placeOf n (args ++ u ∷ [])
+-- the new one is the last, and the others stay where they were
+place-last : (args : List Token) (u : Token) → placeOf (length args) (args ++ u ∷ []) ≡ standing u
 unfolding placeOf
-place-more zero [] u = refl
-place-more zero (t ∷ args) u = refl
-place-more (suc n) [] u = refl
-place-more (suc n) (t ∷ args) u = place-more n args u
+place-last [] u = refl
+place-last (t ∷ args) u = place-last args u
+
+place-kept : (n : ℕ) (args : List Token) (u : Token) → (length args ≡ n → ⊥) → placeOf n (args ++ u ∷ []) ≡ placeOf n args
+unfolding placeOf
+place-kept zero [] u h = absurd (h refl)
+place-kept zero (t ∷ args) u h = refl
+place-kept (suc n) [] u h = refl
+place-kept (suc n) (t ∷ args) u h = place-kept n args u (λ e. h (ap suc e))
+
+place-more : (n : ℕ) (args : List Token) (u : Token) → pick (eqb (length args) n) (standing u) (placeOf n args) ≡ placeOf n (args ++ u ∷ [])
+place-more n args u = go (eqb (length args) n) refl
+  where
+    go : (t : Bool) → eqb (length args) n ≡ t → pick t (standing u) (placeOf n args) ≡ placeOf n (args ++ u ∷ [])
+    go true e = sym (place-last args u) ∙ ap (λ (m : ℕ). placeOf m (args ++ u ∷ [])) (eqb-true (length args) n e)
+    go false e = sym (place-kept n args u (eqb-false (length args) n e))
 
 same-arguments : {c c′ a a′ b b′ d d′ e e′ p p′ : ℕ} {f f′ g g′ h h′ : Part} → c ≡ c′ → a ≡ a′ → b ≡ b′ → d ≡ d′ → e ≡ e′ → p ≡ p′ → f ≡ f′ → g ≡ g′ → h ≡ h′
     → _≡_ {A = Arguments} (record { count = c; one = a; two = b; three = d; end = e; past = p; first = f; second = g; third = h })

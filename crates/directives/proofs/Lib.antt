@@ -21,6 +21,7 @@ pub mod StepLaws
 pub mod PartLaws
 pub mod ListLaws
 pub mod ArgumentLaws
+pub mod SettleLaws
 pub mod BodyLaws
 pub mod ShapeLaws
 pub mod EachLaws

@@ -64,7 +64,15 @@ fn settle_list(
         let first = list.first;
         let past = list.past;
         let text = &scratch[first..past];
-        places::resite(text, 0, Rule::Joined, records, at, count, lent::ACTION_WORDS);
+        places::resite(
+            text,
+            0,
+            Rule::Joined,
+            records,
+            at,
+            count,
+            lent::ACTION_WORDS,
+        );
     }
     site_records(s, token, records, at, count, lent::ACTION_WORDS);
 }
@@ -122,7 +130,17 @@ pub fn settle(
     }
     if has_list(count) {
         let list = list_of(a, name);
-        settle_list(s, from, name, list, e.shrunk, scratch, actions, t.actions, e.actions);
+        settle_list(
+            s,
+            from,
+            name,
+            list,
+            e.shrunk,
+            scratch,
+            actions,
+            t.actions,
+            e.actions,
+        );
     }
 }
 

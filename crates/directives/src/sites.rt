@@ -31,7 +31,15 @@ pub fn site_records(
     let first = token.first;
     let past = token.past;
     if is_mark(s[first]) {
-        places::resite(&s[..past], first + 1, Rule::Quoted, records, at, count, width);
+        places::resite(
+            &s[..past],
+            first + 1,
+            Rule::Quoted,
+            records,
+            at,
+            count,
+            width,
+        );
         return;
     }
     places::resite(&s[..past], first, Rule::Word, records, at, count, width);

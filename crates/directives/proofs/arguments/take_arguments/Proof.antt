@@ -16,28 +16,28 @@ abbrev μ-loop : tie.MeasureT-loop
 μ-loop s past scratch₀ held here₀ arguments₀ scratch here arguments = length s - here .place
 
 loop-holds : tie.Need-loop-holds Inv-loop μ-loop
-loop-holds c = begun (now (c .before .before .before .args .s)) (c .before .before .before .args .from) (c .before .before .before .args .past) (c .before .before .before .args .held) (now (c .before .before .before .args .scratch)) (c .before .before .before .pre .0) (c .before .before .before .pre .1 .1 .0) (c .before .before .before .pre .1 .1 .1 .0) (c .before .before .before .pre .1 .1 .1 .1) (c .before .before .before .pre .1 .0) (c .none-yet .ensures)
+loop-holds c = let a = c .before .before .before .args in let p = c .before .before .before .pre in begun (now (a .s)) (a .from) (a .past) (a .held) (now (a .scratch)) (p .0) (p .1 .1 .0) (p .1 .1 .1 .0) (p .1 .1 .1 .1) (p .1 .0) (c .none-yet .ensures)
 
 token-from-requires : tie.Need-token-from-requires Inv-loop μ-loop
-token-from-requires c κs = (c .before .before .before .before .before .pre .0, (c .before .loop .inv .arrived, going-low (now (c .before .before .before .before .before .args .s)) (c .before .before .before .before .before .args .from) (c .before .before .before .before .before .args .past) (c .before .before .before .before .before .args .held) (now (c .before .before .before .before .before .args .scratch)) (c .before .before .before .before .before .pre .0) (c .before .before .before .before .before .pre .1 .1 .0) (c .before .before .before .before .before .pre .1 .1 .1 .0) (c .before .before .before .before .before .pre .1 .1 .1 .1) (c .before .before .before .before .before .pre .1 .0) (c .before .loop .inv)))
+token-from-requires c κs = let a = c .before .before .before .before .before .args in let p = c .before .before .before .before .before .pre in (p .0, (c .before .loop .inv .arrived, going-low (now (a .s)) (a .from) (a .past) (a .held) (now (a .scratch)) (p .0) (p .1 .1 .0) (p .1 .1 .1 .0) (p .1 .1 .1 .1) (p .1 .0) (c .before .loop .inv)))
 
 returns : tie.Need-returns Inv-loop μ-loop
-returns c = none-left (now (c .before .before .before .before .before .before .before .before .before .before .args .s)) (c .before .before .before .before .before .before .before .before .before .before .args .from) (c .before .before .before .before .before .before .before .before .before .before .args .past) (c .before .before .before .before .before .before .before .before .before .before .args .held) (now (c .before .before .before .before .before .before .before .before .before .before .args .scratch)) (c .before .before .before .before .before .before .before .before .before .before .pre .0) (c .before .before .before .before .before .before .before .before .before .before .pre .1 .1 .0) (c .before .before .before .before .before .before .before .before .before .before .pre .1 .1 .1 .0) (c .before .before .before .before .before .before .before .before .before .before .pre .1 .1 .1 .1) (c .before .before .before .before .before .before .before .before .before .before .pre .1 .0) (c .before .before .before .before .before .before .loop .inv) (rw (c .enum-told .given .1) at (c .before .before .before .before .token-from .ensures))
+returns c = let a = c .before .before .before .before .before .before .before .before .before .before .args in let p = c .before .before .before .before .before .before .before .before .before .before .pre in none-left (now (a .s)) (a .from) (a .past) (a .held) (now (a .scratch)) (p .0) (p .1 .1 .0) (p .1 .1 .1 .0) (p .1 .1 .1 .1) (p .1 .0) (c .before .before .before .before .before .before .loop .inv) (rw (c .enum-told .given .1) at (c .before .before .before .before .token-from .ensures))
 
 returns-2 : tie.Need-returns-2 Inv-loop μ-loop
-returns-2 c = opened (now (c .before .before .before .before .before .before .before .before .before .before .before .before .before .before .before .args .s)) (c .before .before .before .before .before .before .before .before .before .before .before .before .before .before .before .args .from) (c .before .before .before .before .before .before .before .before .before .before .before .before .before .before .before .args .past) (c .before .before .before .before .before .before .before .before .before .before .before .before .before .before .before .args .held) (now (c .before .before .before .before .before .before .before .before .before .before .before .before .before .before .before .args .scratch)) (c .before .before .before .before .before .before .before .before .before .before .before .before .before .before .before .pre .0) (c .before .before .before .before .before .before .before .before .before .before .before .before .before .before .before .pre .1 .1 .0) (c .before .before .before .before .before .before .before .before .before .before .before .before .before .before .before .pre .1 .1 .1 .0) (c .before .before .before .before .before .before .before .before .before .before .before .before .before .before .before .pre .1 .1 .1 .1) (c .before .before .before .before .before .before .before .before .before .before .before .before .before .before .before .pre .1 .0) (c .before .before .before .before .before .before .before .before .before .before .before .loop .inv) (rw (c .before .before .before .before .before .t .given .1) at (c .before .before .before .before .before .before .before .before .before .token-from .ensures)) (sym (c .before .before .role-of .ensures) ∙ c .enum-told2 .given .1)
+returns-2 c = let a = c .before .before .before .before .before .before .before .before .before .before .before .before .before .before .before .args in let p = c .before .before .before .before .before .before .before .before .before .before .before .before .before .before .before .pre in opened (now (a .s)) (a .from) (a .past) (a .held) (now (a .scratch)) (p .0) (p .1 .1 .0) (p .1 .1 .1 .0) (p .1 .1 .1 .1) (p .1 .0) (c .before .before .before .before .before .before .before .before .before .before .before .loop .inv) (rw (c .before .before .before .before .before .t .given .1) at (c .before .before .before .before .before .before .before .before .before .token-from .ensures)) (sym (c .before .before .role-of .ensures) ∙ c .enum-told2 .given .1)
 
 returns-3 : tie.Need-returns-3 Inv-loop μ-loop
-returns-3 c = closed (now (c .before .before .before .before .before .before .before .before .before .before .before .before .before .before .before .args .s)) (c .before .before .before .before .before .before .before .before .before .before .before .before .before .before .before .args .from) (c .before .before .before .before .before .before .before .before .before .before .before .before .before .before .before .args .past) (c .before .before .before .before .before .before .before .before .before .before .before .before .before .before .before .args .held) (now (c .before .before .before .before .before .before .before .before .before .before .before .before .before .before .before .args .scratch)) (c .before .before .before .before .before .before .before .before .before .before .before .before .before .before .before .pre .0) (c .before .before .before .before .before .before .before .before .before .before .before .before .before .before .before .pre .1 .1 .0) (c .before .before .before .before .before .before .before .before .before .before .before .before .before .before .before .pre .1 .1 .1 .0) (c .before .before .before .before .before .before .before .before .before .before .before .before .before .before .before .pre .1 .1 .1 .1) (c .before .before .before .before .before .before .before .before .before .before .before .before .before .before .before .pre .1 .0) (c .before .before .before .before .before .before .before .before .before .before .before .loop .inv) (rw (c .before .before .before .before .before .t .given .1) at (c .before .before .before .before .before .before .before .before .before .token-from .ensures)) (sym (c .before .before .role-of .ensures) ∙ c .enum-told3 .given .1)
+returns-3 c = let a = c .before .before .before .before .before .before .before .before .before .before .before .before .before .before .before .args in let p = c .before .before .before .before .before .before .before .before .before .before .before .before .before .before .before .pre in closed (now (a .s)) (a .from) (a .past) (a .held) (now (a .scratch)) (p .0) (p .1 .1 .0) (p .1 .1 .1 .0) (p .1 .1 .1 .1) (p .1 .0) (c .before .before .before .before .before .before .before .before .before .before .before .loop .inv) (rw (c .before .before .before .before .before .t .given .1) at (c .before .before .before .before .before .before .before .before .before .token-from .ensures)) (sym (c .before .before .role-of .ensures) ∙ c .enum-told3 .given .1)
 
 with-one-requires : tie.Need-with-one-requires Inv-loop μ-loop
-with-one-requires c κs = one-fits (now (c .before .before .before .before .before .before .before .before .before .before .before .before .before .before .before .args .s)) (c .before .before .before .before .before .before .before .before .before .before .before .before .before .before .before .args .from) (c .before .before .before .before .before .before .before .before .before .before .before .before .before .before .before .args .past) (c .before .before .before .before .before .before .before .before .before .before .before .before .before .before .before .args .held) (now (c .before .before .before .before .before .before .before .before .before .before .before .before .before .before .before .args .scratch)) (c .before .before .before .before .before .before .before .before .before .before .before .before .before .before .before .pre .0) (c .before .before .before .before .before .before .before .before .before .before .before .before .before .before .before .pre .1 .1 .0) (c .before .before .before .before .before .before .before .before .before .before .before .before .before .before .before .pre .1 .1 .1 .0) (c .before .before .before .before .before .before .before .before .before .before .before .before .before .before .before .pre .1 .1 .1 .1) (c .before .before .before .before .before .before .before .before .before .before .before .before .before .before .before .pre .1 .0) (c .before .before .before .before .before .before .before .before .before .before .before .loop .inv) (rw (c .before .before .before .before .before .t .given .1) at (c .before .before .before .before .before .before .before .before .before .token-from .ensures))
+with-one-requires c κs = let a = c .before .before .before .before .before .before .before .before .before .before .before .before .before .before .before .args in let p = c .before .before .before .before .before .before .before .before .before .before .before .before .before .before .before .pre in one-fits (now (a .s)) (a .from) (a .past) (a .held) (now (a .scratch)) (p .0) (p .1 .1 .0) (p .1 .1 .1 .0) (p .1 .1 .1 .1) (p .1 .0) (c .before .before .before .before .before .before .before .before .before .before .before .loop .inv) (rw (c .before .before .before .before .before .t .given .1) at (c .before .before .before .before .before .before .before .before .before .token-from .ensures))
 
 loop-less : tie.Need-loop-less Inv-loop μ-loop
 loop-less c = let f = rw (c .before .before .before .before .before .before .t .given .1) at (c .before .before .before .before .before .before .before .before .before .before .token-from .ensures) in omega (arith, f .ahead, f .arrived .inside)
 
 loop-again : tie.Need-loop-again Inv-loop μ-loop
-loop-again c = turned (now (c .before .before .before .before .before .before .before .before .before .before .before .before .before .before .before .before .args .s)) (c .before .before .before .before .before .before .before .before .before .before .before .before .before .before .before .before .args .from) (c .before .before .before .before .before .before .before .before .before .before .before .before .before .before .before .before .args .past) (c .before .before .before .before .before .before .before .before .before .before .before .before .before .before .before .before .args .held) (now (c .before .before .before .before .before .before .before .before .before .before .before .before .before .before .before .before .args .scratch)) (c .before .before .before .before .before .before .before .before .before .before .before .before .before .before .before .before .pre .0) (c .before .before .before .before .before .before .before .before .before .before .before .before .before .before .before .before .pre .1 .1 .0) (c .before .before .before .before .before .before .before .before .before .before .before .before .before .before .before .before .pre .1 .1 .1 .0) (c .before .before .before .before .before .before .before .before .before .before .before .before .before .before .before .before .pre .1 .1 .1 .1) (c .before .before .before .before .before .before .before .before .before .before .before .before .before .before .before .before .pre .1 .0) (c .before .before .before .before .before .before .before .before .before .before .before .before .loop .inv) (rw (c .before .before .before .before .before .before .t .given .1) at (c .before .before .before .before .before .before .before .before .before .before .token-from .ensures)) (sym (c .before .before .before .role-of .ensures) ∙ c .before .enum-told4 .given .1) (c .with-one .ensures)
+loop-again c = let a = c .before .before .before .before .before .before .before .before .before .before .before .before .before .before .before .before .args in let p = c .before .before .before .before .before .before .before .before .before .before .before .before .before .before .before .before .pre in turned (now (a .s)) (a .from) (a .past) (a .held) (now (a .scratch)) (p .0) (p .1 .1 .0) (p .1 .1 .1 .0) (p .1 .1 .1 .1) (p .1 .0) (c .before .before .before .before .before .before .before .before .before .before .before .before .loop .inv) (rw (c .before .before .before .before .before .before .t .given .1) at (c .before .before .before .before .before .before .before .before .before .before .token-from .ensures)) (sym (c .before .before .before .role-of .ensures) ∙ c .before .enum-told4 .given .1) (c .with-one .ensures)
 
 pub take-arguments-spec : {M : Type 1} → statement M
 take-arguments-spec =
