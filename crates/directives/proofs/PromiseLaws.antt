@@ -6,6 +6,7 @@ use mathlib.Core.Logic.{_↔_, inl, inr}
 use Prim.Native.Nat.{ℕ, _≤_, _<_}
 use lib.ListN.{length}
 use Rattle.lent.specs.Sizes.{limit}
+use Rattle.lent.specs.Sources.{Part}
 use Rattle.lent.specs.Table.{Given, Naming, flawNumber, tooLong, notAscii, shortBuffer, noRoom, named, noAction, noArgument, noVariable, unknownOperator, badCursor}
 use Rattle.lent.specs.declared.refusing.Flaw.{Flaw}
 use Rattle.lent.specs.declared.refusing.Flaw.the-variants as Flaw
@@ -27,23 +28,24 @@ use Rattle.directives.proofs.FateLaws.{least, itemsOf, endIn, Read, Fat
 -- ---- the facts
 
 module _ (s : List ℕ) where
-  -- the first bad item in text order has a fault of this kind: with a line; with a line, a piece and a name; with a line, a place and a length
+  -- the first bad item in text order has a fault of this kind: with a line; with a line, a piece, a name and its source; with a line, a place,
+  -- a length and a source
   abbrev pub Lined : (ℕ → Fault) → Type 0
-  Lined kind = (l : ℕ) × FirstBad (itemsOf s) (kind l)
+  Lined kind = (l : ℕ) × FirstBad s (itemsOf s) (kind l)
 
   abbrev pub Named : Naming → Type 0
-  Named why = (l : ℕ) × ((p : ℕ) × ((name : List ℕ) × FirstBad (itemsOf s) (within l (named why p name))))
+  Named why = (l : ℕ) × ((p : ℕ) × ((name : List ℕ) × ((x : Part) × FirstBad s (itemsOf s) (within l (named why p name x)))))
 
   abbrev pub Unoperated : Type 0
-  Unoperated = (l : ℕ) × ((p : ℕ) × ((n : ℕ) × FirstBad (itemsOf s) (within l (unknownOperator p n))))
+  Unoperated = (l : ℕ) × ((p : ℕ) × ((n : ℕ) × ((x : Part) × FirstBad s (itemsOf s) (within l (unknownOperator p n x)))))
 
   -- every item is a good directive, and reading stopped before the end
   abbrev pub Early : Type 0
-  Early = (ds : List Directive) × (AllGood (itemsOf s) ds × (reading s .stop .place < length s))
+  Early = (ds : List Directive) × (AllGood s (itemsOf s) ds × (reading s .stop .place < length s))
 
   -- every item is, reading came to the end, and of the directives this holds
   abbrev pub Faultless : (List Directive → Type 0) → Type 0
-  Faultless P = (ds : List Directive) × (AllGood (itemsOf s) ds × ((length s ≤ reading s .stop .place) × P ds))
+  Faultless P = (ds : List Directive) × (AllGood s (itemsOf s) ds × ((length s ≤ reading s .stop .place) × P ds))
 
 -- ---- the rows
 
@@ -73,23 +75,23 @@ module _ (s : List ℕ) (m : Lent) where
   unfolding OneOf behind
   one = go (outcomeOn s m) (fate s m)
     where
-      kinds : (f : Fault) → KnownFault f → Opened s (least m) (length s) → FirstBad (itemsOf s) f → OneOf all
+      kinds : (f : Fault) → KnownFault f → Opened s (least m) (length s) → FirstBad s (itemsOf s) f → OneOf all
       kinds (wrongCount l) k h x = inr (inr (inr (inl (h, (l, x)))))
-      kinds (within l (named noAction p name)) k h x = inr (inr (inr (inr (inl (h, (l, (p, (name, x))))))))
-      kinds (within l (named noVariable p name)) k h x = inr (inr (inr (inr (inr (inl (h, (l, (p, (name, x)))))))))
-      kinds (within l (unknownOperator p n)) k h x = inr (inr (inr (inr (inr (inr (inl (h, (l, (p, (n, x))))))))))
-      kinds (within l (named (noArgument Flaw.Absent) p name)) k h x = inr (inr (inr (inr (inr (inr (inr (inl (h, (l, (p, (name, x)))))))))))
-      kinds (within l (named (noArgument Flaw.Unreadable) p name)) k h x = inr (inr (inr (inr (inr (inr (inr (inr (inl (h, (l, (p, (name, x))))))))))))
-      kinds (within l (named (noArgument Flaw.TooLarge) p name)) k h x = inr (inr (inr (inr (inr (inr (inr (inr (inr (inl (h, (l, (p, (name, x)))))))))))))
+      kinds (within l (named noAction p name y)) k h x = inr (inr (inr (inr (inl (h, (l, (p, (name, (y, x)))))))))
+      kinds (within l (named noVariable p name y)) k h x = inr (inr (inr (inr (inr (inl (h, (l, (p, (name, (y, x))))))))))
+      kinds (within l (unknownOperator p n y)) k h x = inr (inr (inr (inr (inr (inr (inl (h, (l, (p, (n, (y, x)))))))))))
+      kinds (within l (named (noArgument Flaw.Absent) p name y)) k h x = inr (inr (inr (inr (inr (inr (inr (inl (h, (l, (p, (name, (y, x))))))))))))
+      kinds (within l (named (noArgument Flaw.Unreadable) p name y)) k h x = inr (inr (inr (inr (inr (inr (inr (inr (inl (h, (l, (p, (name, (y, x)))))))))))))
+      kinds (within l (named (noArgument Flaw.TooLarge) p name y)) k h x = inr (inr (inr (inr (inr (inr (inr (inr (inr (inl (h, (l, (p, (name, (y, x))))))))))))))
       kinds (untaken l) k h x = inr (inr (inr (inr (inr (inr (inr (inr (inr (inr (inl (h, (l, x))))))))))))
-      kinds (stopped l) k h x = absurd (not-stopped (x .this) l (x .fault))
+      kinds (stopped l) k h x = absurd (not-stopped s (x .this) l (x .fault))
       kinds (within l tooLong) k h x = absurd k
       kinds (within l (notAscii p)) k h x = absurd k
       kinds (within l shortBuffer) k h x = absurd k
       kinds (within l (noRoom n)) k h x = absurd k
       kinds (within l badCursor) k h x = absurd k
 
-      faults : (f : Fault) → Opened s (least m) (length s) → Faulty (endIn s) (itemsOf s) f → OneOf all
+      faults : (f : Fault) → Opened s (least m) (length s) → Faulty s (endIn s) (itemsOf s) f → OneOf all
       faults f h (in-item x) = kinds f (directives-known s f (text-faulty s f .1 (in-item x))) h x
       faults f h (at-end ds a e) = inr (inr (inr (inr (inr (inr (inr (inr (inr (inr (inr (inl (h, (ds, (a, end-bad (length s) (reading s .stop) f .0 e .0))))))))))))))
 
@@ -112,11 +114,11 @@ module _ (s : List ℕ) (m : Lent) where
         (
           λ h. at (wrongCount (h .1 .0)) (h .0) (h .1 .1),
           (
-            λ h. at (within (h .1 .0) (named noAction (h .1 .1 .0) (h .1 .1 .1 .0))) (h .0) (h .1 .1 .1 .1),
+            λ h. at (within (h .1 .0) (named noAction (h .1 .1 .0) (h .1 .1 .1 .0) (h .1 .1 .1 .1 .0))) (h .0) (h .1 .1 .1 .1 .1),
             (
-              λ h. at (within (h .1 .0) (named noVariable (h .1 .1 .0) (h .1 .1 .1 .0))) (h .0) (h .1 .1 .1 .1),
+              λ h. at (within (h .1 .0) (named noVariable (h .1 .1 .0) (h .1 .1 .1 .0) (h .1 .1 .1 .1 .0))) (h .0) (h .1 .1 .1 .1 .1),
               (
-                λ h. at (within (h .1 .0) (unknownOperator (h .1 .1 .0) (h .1 .1 .1 .0))) (h .0) (h .1 .1 .1 .1),
+                λ h. at (within (h .1 .0) (unknownOperator (h .1 .1 .0) (h .1 .1 .1 .0) (h .1 .1 .1 .1 .0))) (h .0) (h .1 .1 .1 .1 .1),
                 (
                   at-flaw Flaw.Absent,
                   (
@@ -150,13 +152,13 @@ module _ (s : List ℕ) (m : Lent) where
       is : (o : Outcome) → Fate s m o → number (outcomeOn s m) ≡ number o
       is o x = ap number (back s m o x)
 
-      at : (f : Fault) → Opened s (least m) (length s) → FirstBad (itemsOf s) f → number (outcomeOn s m) ≡ number (faulty f)
+      at : (f : Fault) → Opened s (least m) (length s) → FirstBad s (itemsOf s) f → number (outcomeOn s m) ≡ number (faulty f)
       at f h k = is (faulty f) (fault f h (in-item k))
 
       at-flaw : (flaw : Flaw) → Opened s (least m) (length s) × Named s (noArgument flaw) → number (outcomeOn s m) ≡ flawNumber flaw
-      at-flaw flaw h = at (within (h .1 .0) (named (noArgument flaw) (h .1 .1 .0) (h .1 .1 .1 .0))) (h .0) (h .1 .1 .1 .1)
+      at-flaw flaw h = at (within (h .1 .0) (named (noArgument flaw) (h .1 .1 .0) (h .1 .1 .1 .0) (h .1 .1 .1 .1 .0))) (h .0) (h .1 .1 .1 .1 .1)
 
-      read : Opened s (least m) (length s) → (ds : List Directive) → AllGood (itemsOf s) ds → length s ≤ reading s .stop .place → Read s m ds
+      read : Opened s (least m) (length s) → (ds : List Directive) → AllGood s (itemsOf s) ds → length s ≤ reading s .stop .place → Read s m ds
       read h ds a w = record { opened = h; each = a; whole = w }
 
   exact : Exactly (number (outcomeOn s m)) all

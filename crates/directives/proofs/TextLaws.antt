@@ -62,7 +62,7 @@ onto-good ds d (good es) = ap (λ (l : List Directive). good l) (sym (append-ass
 
 pub record Sofar (s text₀ records₀ variables₀ actions₀ text records variables actions : List ℕ) (here : Cursor) (t : Tally) : Type 0 where
   pub ds : List Directive
-  pub whole : directives s ≡ onto ds (ending (endOf (length s) (onward s here .stop)) (items false (onward s here .tokens)))
+  pub whole : directives s ≡ onto ds (ending s (endOf (length s) (onward s here .stop)) (items false (onward s here .tokens)))
   pub tally-is : t ≡ tallyOf ds
   pub written : Written ds text₀ text records₀ records variables₀ variables actions₀ actions
   pub arrived : Arrived s here
@@ -111,7 +111,7 @@ module _ (s text₀ records₀ variables₀ actions₀ : List ℕ) (within : len
     module _ {scratch scratch′ : List ℕ} {stop : Cursor} (x : None-is s here scratch scratch′ stop) where
       ends-in : directives s ≡ onto (g .ds) (endOf (length s) stop)
       unfolding ending items
-      ends-in = g .whole ∙ ap (λ (r : Reading). onto (g .ds) (ending (endOf (length s) (r .stop)) (items false (r .tokens)))) (x .none)
+      ends-in = g .whole ∙ ap (λ (r : Reading). onto (g .ds) (ending s (endOf (length s) (r .stop)) (items false (r .tokens)))) (x .none)
 
       pub stopped-early : stop .place < length s → FirstFault s text₀ text (Told.Line Stopped (stop .line .0))
       unfolding endOf
@@ -145,8 +145,8 @@ module _ (s text₀ records₀ variables₀ actions₀ : List ℕ) (within : len
       line-is : l .line .0 ≡ u .line .0
       line-is = ap (λ (m : Lexeme). m .line .0) (x .is)
 
-      goes-on : directives s ≡ onto (g .ds) (ending (endOf (length s) (onward s (l .next) .stop)) (items false (u ∷ ts)))
-      goes-on = g .whole ∙ ap (λ (r : Reading). onto (g .ds) (ending (endOf (length s) (r .stop)) (items false (r .tokens)))) (x .more)
+      goes-on : directives s ≡ onto (g .ds) (ending s (endOf (length s) (onward s (l .next) .stop)) (items false (u ∷ ts)))
+      goes-on = g .whole ∙ ap (λ (r : Reading). onto (g .ds) (ending s (endOf (length s) (r .stop)) (items false (r .tokens)))) (x .more)
 
       -- a Newline or a Comment is passed
       pub passed : roleOf (l .kind) ≡ Closes → Now text records variables actions (l .next) t
@@ -154,7 +154,7 @@ module _ (s text₀ records₀ variables₀ actions₀ : List ℕ) (within : len
           let c = closes u ts (ap roleOf (sym kind-is) ∙ e) in
           record {
             ds = g .ds;
-            whole = goes-on ∙ ap (λ (i : List Item). onto (g .ds) (ending (endOf (length s) (onward s (l .next) .stop)) i)) (c .1 false);
+            whole = goes-on ∙ ap (λ (i : List Item). onto (g .ds) (ending s (endOf (length s) (onward s (l .next) .stop)) i)) (c .1 false);
             tally-is = g .tally-is;
             written = g .written;
             arrived = x .arrived;
@@ -171,7 +171,7 @@ module _ (s text₀ records₀ variables₀ actions₀ : List ℕ) (within : len
           let c = argues u ts (ap roleOf (sym kind-is) ∙ e) in
           record {
             fault = untaken (u .line .0);
-            read = goes-on ∙ ap (λ (i : List Item). onto (g .ds) (ending (endOf (length s) (onward s (l .next) .stop)) i)) (c .2);
+            read = goes-on ∙ ap (λ (i : List Item). onto (g .ds) (ending s (endOf (length s) (onward s (l .next) .stop)) i)) (c .2);
             faulted = record { given = ap (λ (n : ℕ). given 14 (n ∷ [])) line-is; left = sym (padded-none (length text₀)) };
           }
 
@@ -250,7 +250,7 @@ module _ (s text₀ records₀ variables₀ actions₀ : List ℕ) (within : len
             ∙ held-are (shapeOf name) (u .line .0) name (u .past) args rest scratch₂ scratch-is
 
         abbrev behind : Result (List Directive)
-        behind = ending (endOf (length s) (onward s (r .next) .stop)) (items false (onward s (r .next) .tokens))
+        behind = ending s (endOf (length s) (onward s (r .next) .stop)) (items false (onward s (r .next) .tokens))
 
         abbrev made : Result Body → Result Directive
         made = placedAt (u .line .0) (u .first) (lastPast (u .past) args)
@@ -259,8 +259,8 @@ module _ (s text₀ records₀ variables₀ actions₀ : List ℕ) (within : len
         unfolding ending itemRead directiveOf
         comes-to b e =
             goes-on
-            ∙ ap (λ (i : List Item). onto (g .ds) (ending (endOf (length s) (onward s (l .next) .stop)) i)) (opens u ts (ap roleOf (sym kind-is) ∙ o) .1 false)
-            ∙ ap₂ (λ (c : Cursor) (i : List Item). onto (g .ds) (before (directiveOf u args) (ending (endOf (length s) c) i))) (y .stop) (y .rest)
+            ∙ ap (λ (i : List Item). onto (g .ds) (ending s (endOf (length s) (onward s (l .next) .stop)) i)) (opens u ts (ap roleOf (sym kind-is) ∙ o) .1 false)
+            ∙ ap₂ (λ (c : Cursor) (i : List Item). onto (g .ds) (before (directiveOf s u args) (ending s (endOf (length s) c) i))) (y .stop) (y .rest)
             ∙ ap (λ (c : Result Body). onto (g .ds) (before (made c) behind)) e
 
         module _ (shape : Shape) (shape-is : shape ≡ shapeOf (take (l .len) scratch₂)) (text′ variables′ actions′ : List ℕ) where
