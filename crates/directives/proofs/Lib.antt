@@ -22,6 +22,7 @@ pub mod PartLaws
 pub mod ListLaws
 pub mod ArgumentLaws
 pub mod SettleLaws
+pub mod SiteLaws
 pub mod BodyLaws
 pub mod ShapeLaws
 pub mod EachLaws
