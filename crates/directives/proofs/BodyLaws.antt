@@ -1,12 +1,17 @@
 -- From the parts of a directive to its body: what is laid and recorded, or the first fault, by shape.
 use mathlib.Core.Path.{_≡_, refl, sym, ap, _∙_, subst}
+use mathlib.Core.Bool.{true}
+use mathlib.Core.Logic.{_⊎_, inl, inr}
 use mathlib.Core.List.{List, [], _++_, append-nil}
 use Prim.Native.Nat.{ℕ, _+_, _*_, _≤_}
 use native.Mathlib.Omega.{arith}
 use native.Mathlib.Nat.{add-zero}
 use lib.ListN.{length, length-append}
+use lib.Dec.{leb}
+use borrow.Author.Tests.{leb-true, ne-eqb}
 use denote.Enum.Declared.{tagOf}
 use Rattle.ascii.specs.Choice.{pick, bit}
+use Rattle.ascii.proofs.SameLaws.{and-left}
 use Rattle.lent.specs.Sizes.{spanWord, variableWords, actionWords}
 use Rattle.lent.specs.Buffers.{padded, zeros, stored, storedEach}
 use Rattle.lent.specs.Sources.{Sourced}
@@ -14,15 +19,17 @@ use Rattle.lent.specs.Layout.{textsOf, recordsOf}
 use Rattle.lent.specs.Table.{Outcome, refuses, reads}
 use Rattle.variables.specs.Layout as Targets
 use Rattle.variables.specs.Cores as Cores
+use Rattle.lexer.specs.Steps.{part}
 use Rattle.operators.specs.Operators.{Spec}
 use Rattle.records.specs.Actions.{Action}
 use Rattle.records.specs.Layout as Acts
-use Rattle.directives.specs.Directives.{Listed, Body, rule, act, marker, defaults, unknown, Fault, good, variablesRead, operatorRead, actionsRead, ruleBy, actBy, told}
+use Rattle.directives.specs.Directives.{Listed, Body, rule, act, marker, defaults, unknown, Fault, good, variablesRead, operatorRead, actionsRead, ruleBy, actBy, told, Shape, ofRule, ofAction, ofDefaults}
 use Rattle.directives.specs.Layout.{bodyText}
 use Rattle.directives.specs.Table.{faultName}
 use Rattle.directives.specs.Promises.{naming}
-use Rattle.directives.specs.Steps.{Laid, shrunkBy, reachedBy, entryOf, listedEach, actedEach, emptyEntry, withName, withVariables, withOperator, withActions, Grew, Faulted, Fell, AddsVariables, AddsOperator, AddsActions, Wrote, Bodied}
+use Rattle.directives.specs.Steps.{Laid, shrunkBy, reachedBy, entryOf, listedEach, actedEach, emptyEntry, withName, withVariables, withOperator, withActions, Grew, Faulted, Fell, AddsVariables, AddsOperator, AddsActions, Wrote, Bodied, takes, heldList}
 use Rattle.directives.specs.declared.Fault.{Fault as Told}
+use Rattle.directives.specs.declared.arguments.Arguments.{Arguments}
 use Rattle.directives.specs.declared.parts.Tally.{Tally}
 use Rattle.directives.specs.declared.parts.Entry.{Entry}
 use Rattle.directives.specs.declared.parts.Judged.{Judged}
@@ -228,3 +235,18 @@ module _ (name : List ℕ) (t : Tally) (text variables actions : List ℕ) (room
   pub unknown-done : Bodied (good (unknown name)) shrunk t text (stored text (t .text) name) variables variables actions actions (kept 5 name t text variables actions room shrunk)
   unfolding bodyText recordsOf textsOf
   unknown-done = named-done 5 name t text variables actions room shrunk (unknown name) (rw long) (sym (append-nil name)) refl refl
+
+-- ---- which argument is the list of actions
+
+module _ (scratch : List ℕ) (name : ℕ) (a : Arguments) (shape : Shape) where
+  -- the only one
+  pub only-list : (shape ≡ ofAction) ⊎ (shape ≡ ofDefaults) → takes shape (a .count) ≡ true → heldList scratch name a ≡ part scratch name (a .one)
+  only-list (inl e) h = let k : takes ofAction (a .count) ≡ true = subst (λ (z : Shape). takes z (a .count) ≡ true) e h in rw k
+  only-list (inr e) h = let k : takes ofDefaults (a .count) ≡ true = subst (λ (z : Shape). takes z (a .count) ≡ true) e h in rw k
+
+  -- or the third
+  pub third-list : shape ≡ ofRule → takes shape (a .count) ≡ true → heldList scratch name a ≡ part scratch (a .two) (a .three)
+  third-list e h =
+      let k : takes ofRule (a .count) ≡ true = subst (λ (z : Shape). takes z (a .count) ≡ true) e h in
+      let n : 2 ≤ a .count = leb-true 2 (a .count) (and-left (leb 2 (a .count)) (leb (a .count) 3) k) in
+      rw (ne-eqb (a .count) 1 (λ z. omega (arith, n, z)))

@@ -1,12 +1,13 @@
 -- The count first, then by shape; each way out is one law of BodyLaws.
 use mathlib.Core.Path.{_∙_, sym, ap}
+use mathlib.Core.Logic.{inl, inr}
 use native.Mathlib.Omega.{arith}
 use denote.Ref.{now}
 use borrow.Author.Needs.{needs}
 use borrow.Author.Tests.{not-true, not-false}
 use lib.ListN.{take}
 use Rattle.lexer.specs.Steps.{part}
-use Rattle.directives.proofs.BodyLaws.{action-done, defaults-done, marker-done, unknown-done}
+use Rattle.directives.proofs.BodyLaws.{action-done, defaults-done, marker-done, unknown-done, only-list, third-list}
 use Rattle.directives.proofs.ShapeLaws.{as-body, wrong-fell, wrong-shape, rule-shape, action-shape, defaults-shape, marker-shape, other-shape, third-none, alone-starts, name-inside, name-long, marker-fits, other-fits}
 use Rattle.directives.proofs.bodies.read_body.Statement.{statement}
 use Rattle.directives.proofs.bodies.read_body.Tie as tie
@@ -39,19 +40,19 @@ add-name-requires-2 : tie.Need-add-name-requires-2
 add-name-requires-2 c κs = rw (c .before .before .empty-entry4 .ensures) (other-fits (c .before .before .before .before .before .before .before .before .before .before .before .before .before .pre) .1)
 
 returns-2 : tie.Need-returns-2
-returns-2 c = let a = c .before .before .before .before .before .before .before .before .before .before .before .before .before .before .before .before .before .before .before .before .before .before .before .args in as-body _ (a .t) (now (a .text)) _ (now (a .variables)) _ (now (a .actions)) _ _ (rule-shape (c .before .before .before .before .before .before .before .before .before .before .before .before .before .before .before .before .before .shape-of .result) (a .line) (now (a .scratch)) (a .name) (a .a) (c .before .before .before .before .before .before .before .before .before .before .before .before .before .before .before .before .before .shape-of .ensures) (c .before .before .before .before .before .before .before .before .before .before .before .before .before .enum-told .given .1) (sym (c .before .before .before .before .before .before .before .before .before .before .before .before .before .before .before .before .takes .ensures) ∙ not-false _ (c .before .before .before .before .before .before .before .before .before .before .before .before .before .before .before .if1 .left)) (third-none (c .before .before .before .before .before .before .before .before .before .before .before .before .before .before .before .before .before .before .before .before .before .before .before .pre))) (c .before .before .before .before .before .before .before .before .read-rule .ensures)
+returns-2 c = let a = c .before .before .before .before .before .before .before .before .before .before .before .before .before .before .before .before .before .before .before .before .before .before .before .args in rw (third-list (now (a .scratch)) (a .name) (a .a) (c .before .before .before .before .before .before .before .before .before .before .before .before .before .before .before .before .before .shape-of .result) (c .before .before .before .before .before .before .before .before .before .before .before .before .before .enum-told .given .1) (sym (c .before .before .before .before .before .before .before .before .before .before .before .before .before .before .before .before .takes .ensures) ∙ not-false _ (c .before .before .before .before .before .before .before .before .before .before .before .before .before .before .before .if1 .left))) (as-body _ (a .t) (now (a .text)) _ (now (a .variables)) _ (now (a .actions)) _ _ (rule-shape (c .before .before .before .before .before .before .before .before .before .before .before .before .before .before .before .before .before .shape-of .result) (a .line) (now (a .scratch)) (a .name) (a .a) (c .before .before .before .before .before .before .before .before .before .before .before .before .before .before .before .before .before .shape-of .ensures) (c .before .before .before .before .before .before .before .before .before .before .before .before .before .enum-told .given .1) (sym (c .before .before .before .before .before .before .before .before .before .before .before .before .before .before .before .before .takes .ensures) ∙ not-false _ (c .before .before .before .before .before .before .before .before .before .before .before .before .before .before .before .if1 .left)) (third-none (c .before .before .before .before .before .before .before .before .before .before .before .before .before .before .before .before .before .before .before .before .before .before .before .pre))) (c .before .before .before .before .before .before .before .before .read-rule .ensures))
 
 returns-3 : tie.Need-returns-3
-returns-3 c = let a = c .before .before .before .before .before .before .before .before .before .before .before .before .before .before .before .before .before .before .before .before .before .args in as-body _ (a .t) (now (a .text)) _ (now (a .variables)) _ (now (a .actions)) _ _ (action-shape (c .before .before .before .before .before .before .before .before .before .before .before .before .before .before .before .shape-of .result) (a .line) (now (a .scratch)) (a .name) (a .a) (c .before .before .before .before .before .before .before .before .before .before .before .before .before .before .before .shape-of .ensures) (c .before .before .before .before .before .before .before .before .before .before .before .enum-told2 .given .1) (sym (c .before .before .before .before .before .before .before .before .before .before .before .before .before .before .takes .ensures) ∙ not-false _ (c .before .before .before .before .before .before .before .before .before .before .before .before .before .if1 .left))) (action-done (a .line) (part (now (a .scratch)) (a .name) (a .a .one)) (a .t) (now (a .text)) _ (now (a .variables)) (now (a .actions)) _ _ (rw (c .before .before .before .before .before .before .before .before .before .before .empty-entry .ensures) at (c .before .before .before .before .before .before .add-actions .ensures)))
+returns-3 c = let a = c .before .before .before .before .before .before .before .before .before .before .before .before .before .before .before .before .before .before .before .before .before .args in rw (only-list (now (a .scratch)) (a .name) (a .a) (c .before .before .before .before .before .before .before .before .before .before .before .before .before .before .before .shape-of .result) (inl (c .before .before .before .before .before .before .before .before .before .before .before .enum-told2 .given .1)) (sym (c .before .before .before .before .before .before .before .before .before .before .before .before .before .before .takes .ensures) ∙ not-false _ (c .before .before .before .before .before .before .before .before .before .before .before .before .before .if1 .left))) (as-body _ (a .t) (now (a .text)) _ (now (a .variables)) _ (now (a .actions)) _ _ (action-shape (c .before .before .before .before .before .before .before .before .before .before .before .before .before .before .before .shape-of .result) (a .line) (now (a .scratch)) (a .name) (a .a) (c .before .before .before .before .before .before .before .before .before .before .before .before .before .before .before .shape-of .ensures) (c .before .before .before .before .before .before .before .before .before .before .before .enum-told2 .given .1) (sym (c .before .before .before .before .before .before .before .before .before .before .before .before .before .before .takes .ensures) ∙ not-false _ (c .before .before .before .before .before .before .before .before .before .before .before .before .before .if1 .left))) (action-done (a .line) (part (now (a .scratch)) (a .name) (a .a .one)) (a .t) (now (a .text)) _ (now (a .variables)) (now (a .actions)) _ _ (rw (c .before .before .before .before .before .before .before .before .before .before .empty-entry .ensures) at (c .before .before .before .before .before .before .add-actions .ensures))))
 
 returns-4 : tie.Need-returns-4
-returns-4 c = let a = c .before .before .before .before .before .before .before .before .before .before .before .before .before .before .before .before .before .before .before .before .before .args in as-body _ (a .t) (now (a .text)) _ (now (a .variables)) _ (now (a .actions)) _ _ (defaults-shape (c .before .before .before .before .before .before .before .before .before .before .before .before .before .before .before .shape-of .result) (a .line) (now (a .scratch)) (a .name) (a .a) (c .before .before .before .before .before .before .before .before .before .before .before .before .before .before .before .shape-of .ensures) (c .before .before .before .before .before .before .before .before .before .before .before .enum-told3 .given .1) (sym (c .before .before .before .before .before .before .before .before .before .before .before .before .before .before .takes .ensures) ∙ not-false _ (c .before .before .before .before .before .before .before .before .before .before .before .before .before .if1 .left))) (defaults-done (a .line) (part (now (a .scratch)) (a .name) (a .a .one)) (a .t) (now (a .text)) _ (now (a .variables)) (now (a .actions)) _ _ (rw (c .before .before .before .before .before .before .before .before .before .before .empty-entry2 .ensures) at (c .before .before .before .before .before .before .add-actions2 .ensures)))
+returns-4 c = let a = c .before .before .before .before .before .before .before .before .before .before .before .before .before .before .before .before .before .before .before .before .before .args in rw (only-list (now (a .scratch)) (a .name) (a .a) (c .before .before .before .before .before .before .before .before .before .before .before .before .before .before .before .shape-of .result) (inr (c .before .before .before .before .before .before .before .before .before .before .before .enum-told3 .given .1)) (sym (c .before .before .before .before .before .before .before .before .before .before .before .before .before .before .takes .ensures) ∙ not-false _ (c .before .before .before .before .before .before .before .before .before .before .before .before .before .if1 .left))) (as-body _ (a .t) (now (a .text)) _ (now (a .variables)) _ (now (a .actions)) _ _ (defaults-shape (c .before .before .before .before .before .before .before .before .before .before .before .before .before .before .before .shape-of .result) (a .line) (now (a .scratch)) (a .name) (a .a) (c .before .before .before .before .before .before .before .before .before .before .before .before .before .before .before .shape-of .ensures) (c .before .before .before .before .before .before .before .before .before .before .before .enum-told3 .given .1) (sym (c .before .before .before .before .before .before .before .before .before .before .before .before .before .before .takes .ensures) ∙ not-false _ (c .before .before .before .before .before .before .before .before .before .before .before .before .before .if1 .left))) (defaults-done (a .line) (part (now (a .scratch)) (a .name) (a .a .one)) (a .t) (now (a .text)) _ (now (a .variables)) (now (a .actions)) _ _ (rw (c .before .before .before .before .before .before .before .before .before .before .empty-entry2 .ensures) at (c .before .before .before .before .before .before .add-actions2 .ensures))))
 
 returns-5 : tie.Need-returns-5
-returns-5 c = let a = c .before .before .before .before .before .before .before .before .before .before .before .before .before .before .before .before .before .args in let y = rw (c .before .before .before .before .before .before .empty-entry3 .ensures) at (c .before .before .add-name .ensures) in as-body _ (a .t) (now (a .text)) _ (now (a .variables)) _ (now (a .actions)) _ _ (marker-shape (c .before .before .before .before .before .before .before .before .before .before .before .shape-of .result) (a .line) (now (a .scratch)) (a .name) (a .a) (c .before .before .before .before .before .before .before .before .before .before .before .shape-of .ensures) (c .before .before .before .before .before .before .before .enum-told4 .given .1) (sym (c .before .before .before .before .before .before .before .before .before .before .takes .ensures) ∙ not-false _ (c .before .before .before .before .before .before .before .before .before .if1 .left))) (rw (y .0, y .1) (marker-done (part (now (a .scratch)) (a .name) (a .a .one)) (a .t) (now (a .text)) (now (a .variables)) (now (a .actions)) (marker-fits (c .before .before .before .before .before .before .before .before .before .before .before .before .before .before .before .before .before .pre) .0)))
+returns-5 c = let a = c .before .before .before .before .before .before .before .before .before .before .before .before .before .before .before .before .before .args in let y = rw (c .before .before .before .before .before .before .empty-entry3 .ensures) at (c .before .before .add-name .ensures) in as-body _ (a .t) (now (a .text)) _ (now (a .variables)) _ (now (a .actions)) _ _ (marker-shape (c .before .before .before .before .before .before .before .before .before .before .before .shape-of .result) (a .line) (now (a .scratch)) (a .name) (a .a) (c .before .before .before .before .before .before .before .before .before .before .before .shape-of .ensures) (c .before .before .before .before .before .before .before .enum-told4 .given .1) (sym (c .before .before .before .before .before .before .before .before .before .before .takes .ensures) ∙ not-false _ (c .before .before .before .before .before .before .before .before .before .if1 .left))) (rw (y .0, y .1) (marker-done (part (now (a .scratch)) (a .name) (a .a .one)) (a .t) (now (a .text)) (now (a .variables)) (now (a .actions)) (marker-fits (c .before .before .before .before .before .before .before .before .before .before .before .before .before .before .before .before .before .pre) .0) _))
 
 returns-6 : tie.Need-returns-6
-returns-6 c = let a = c .before .before .before .before .before .before .before .before .before .before .before .before .before .before .before .before .args in let y = rw (c .before .before .before .before .before .empty-entry4 .ensures) at (c .before .before .add-name2 .ensures) in as-body _ (a .t) (now (a .text)) _ (now (a .variables)) _ (now (a .actions)) _ _ (other-shape (c .before .before .before .before .before .before .before .before .before .before .shape-of .result) (a .line) (now (a .scratch)) (a .name) (a .a) (c .before .before .before .before .before .before .before .before .before .before .shape-of .ensures) (c .before .before .before .before .before .before .enum-told5 .given .1)) (rw (y .0, y .1) (unknown-done (take (a .name) (now (a .scratch))) (a .t) (now (a .text)) (now (a .variables)) (now (a .actions)) (other-fits (c .before .before .before .before .before .before .before .before .before .before .before .before .before .before .before .before .pre) .0)))
+returns-6 c = let a = c .before .before .before .before .before .before .before .before .before .before .before .before .before .before .before .before .args in let y = rw (c .before .before .before .before .before .empty-entry4 .ensures) at (c .before .before .add-name2 .ensures) in as-body _ (a .t) (now (a .text)) _ (now (a .variables)) _ (now (a .actions)) _ _ (other-shape (c .before .before .before .before .before .before .before .before .before .before .shape-of .result) (a .line) (now (a .scratch)) (a .name) (a .a) (c .before .before .before .before .before .before .before .before .before .before .shape-of .ensures) (c .before .before .before .before .before .before .enum-told5 .given .1)) (rw (y .0, y .1) (unknown-done (take (a .name) (now (a .scratch))) (a .t) (now (a .text)) (now (a .variables)) (now (a .actions)) (other-fits (c .before .before .before .before .before .before .before .before .before .before .before .before .before .before .before .before .pre) .0) _))
 
 pub read-body-spec : {M : Type 1} → statement M
 read-body-spec =
