@@ -12,7 +12,7 @@ use Rattle.ascii.specs.Choice.{pick, or}
 use Rattle.lent.specs.Sizes.{limit, variableWords, actionWords}
 use Rattle.lent.specs.Buffers.{storedEach}
 use Rattle.lent.specs.Layout.{recordsOf}
-use Rattle.lent.specs.Sources.{Part, part, partWord, Sourced, sitedBy, sitedAll}
+use Rattle.lent.specs.Sources.{Part, part, partWord, Sourced, sourced, sitedBy, sitedAll}
 use Rattle.lent.proofs.LayoutLaws.{sited-texts}
 use Rattle.places.specs.declared.Rule.{Rule}
 use Rattle.places.specs.declared.Rule.the-variants.{Joined}
@@ -220,3 +220,156 @@ module _ (s : List ℕ) (from : Cursor) (l : length (listText s from) ≤ limit)
           ∙ span-by s (placeOf number args) (normalSite text x) (normal-narrow text l x)
           ∙ ap (λ (f : Part → Part). partWord (f x)) (sym (list-site s number args (ltb-true number (length args) e)))
       go false e = ap (λ (f : Part → Part). partWord (f x)) (sym (list-none s number args (ltb-false number (length args) e)))
+
+-- ---- records of variables
+
+wide-both : (width : ℕ) (rs qs : List (List ℕ)) → Wide width rs → Wide width qs → Wide width (rs ++ qs)
+wide-both width [] qs v w = w
+wide-both width (a ∷ rs) qs v w = (v .0, wide-both width rs qs (v .1) w)
+
+map-both : {A B : Type 0} (f : A → B) (xs ys : List A) → map f (xs ++ ys) ≡ map f xs ++ map f ys
+map-both f [] ys = refl
+map-both {B = B} f (x ∷ xs) ys = ap (λ (l : List B). f x ∷ l) (map-both f xs ys)
+
+variable-wide : (o : ℕ) (x : Variable) → length (Targets.variableRecord o x) + 1 ≡ variableWords
+variable-wide o x = refl
+
+exclusion-wide : (o : ℕ) (x : List ℕ) → length (Targets.exclusionRecord o x) + 1 ≡ variableWords
+exclusion-wide o x = refl
+
+-- whatever they are put by
+targets-sited : (f : Part → Part) (old : List ℕ) (i o : ℕ) (vs : List (Sourced Variable)) (es : List (Sourced (List ℕ))) → AllNarrow vs → AllNarrow es
+    → lastChanged (wordBy f) variableWords (length vs + length es) i (storedEach old i (Cores.recordsFrom o vs es)) ≡ storedEach old i (Cores.recordsFrom o (sitedAll f vs) (sitedAll f es))
+targets-sited f old i o vs es n m =
+    ap (λ (k : ℕ). lastChanged (wordBy f) variableWords k i (storedEach old i (rs ++ qs))) (sym count)
+    ∙ each-last (wordBy f) variableWords (omega arith) old i (rs ++ qs)
+    (wide-both variableWords rs qs (records-wide Targets.variableRecord Targets.chosenText variableWords variable-wide o vs) (records-wide Targets.exclusionRecord Targets.itself variableWords exclusion-wide p es))
+    ∙ ap (storedEach old i) (map-both (lastBy (wordBy f)) rs qs ∙ ap₂ (λ (x y : List (List ℕ)). x ++ y) first second)
+  where
+    p : ℕ
+    p = o + length (Targets.selectionTexts vs)
+
+    rs : List (List ℕ)
+    rs = recordsOf Targets.variableWhole Targets.variableText o vs
+
+    qs : List (List ℕ)
+    qs = recordsOf Targets.exclusionWhole Targets.exclusionText p es
+
+    count : length (rs ++ qs) ≡ length vs + length es
+    count = omega (
+      arith,
+      length-append rs qs,
+      records-count Targets.variableRecord Targets.chosenText variableWords variable-wide o vs,
+      records-count Targets.exclusionRecord Targets.itself variableWords exclusion-wide p es,
+    )
+
+    first : map (lastBy (wordBy f)) rs ≡ recordsOf Targets.variableWhole Targets.variableText o (sitedAll f vs)
+    first = records-sited Targets.variableRecord Targets.chosenText variableWords variable-wide f o vs n
+
+    second : map (lastBy (wordBy f)) qs ≡ recordsOf Targets.exclusionWhole Targets.exclusionText (o + length (Targets.selectionTexts (sitedAll f vs))) (sitedAll f es)
+    second =
+        records-sited Targets.exclusionRecord Targets.itself variableWords exclusion-wide f p es m
+        ∙ ap (λ (t : List ℕ). recordsOf Targets.exclusionWhole Targets.exclusionText (o + length t) (sitedAll f es)) (sym (sited-texts f Targets.chosenText vs))
+
+-- The records of a directive's variables, settled, are those with places in the input.
+pub variables-settled : (s : List ℕ) (args : List Token) (old : List ℕ) (i o : ℕ) (vs : List (Sourced Variable)) (es : List (Sourced (List ℕ))) → AllNarrow vs → AllNarrow es
+    → tokenMoved s (ltb 0 (length args)) (placeOf 0 args) variableWords (length vs + length es) i (storedEach old i (Cores.recordsFrom o vs es))
+    ≡ storedEach old i (Cores.recordsFrom o (sitedAll (argumentSite s 0 args) vs) (sitedAll (argumentSite s 0 args) es))
+variables-settled s args old i o vs es n m = go (ltb 0 (length args)) refl
+  where
+    go : (t : Bool) → ltb 0 (length args) ≡ t
+        → tokenMoved s t (placeOf 0 args) variableWords (length vs + length es) i (storedEach old i (Cores.recordsFrom o vs es))
+        ≡ storedEach old i (Cores.recordsFrom o (sitedAll (argumentSite s 0 args) vs) (sitedAll (argumentSite s 0 args) es))
+    go true e =
+        targets-sited (siteAt s (placeOf 0 args)) old i o vs es n m
+        ∙ ap (λ (f : Part → Part). storedEach old i (Cores.recordsFrom o (sitedAll f vs) (sitedAll f es))) (sym (argument-site s 0 args (ltb-true 0 (length args) e)))
+    go false e =
+        ap₂ (λ (a : List (Sourced Variable)) (b : List (Sourced (List ℕ))). storedEach old i (Cores.recordsFrom o a b)) (sym (sited-still vs)) (sym (sited-still es))
+        ∙ ap (λ (f : Part → Part). storedEach old i (Cores.recordsFrom o (sitedAll f vs) (sitedAll f es))) (sym (argument-none s 0 args (ltb-false 0 (length args) e)))
+
+-- Sources inside a text within the limit are narrow.
+pub every-narrow : {A : Type 0} (n : ℕ) → n ≤ limit → {xs : List (Sourced A)} → Sources.Every (Sources.Inside n) xs → AllNarrow xs
+every-narrow n l Sources.nowhere = tt
+every-narrow n l (Sources.and-at {x} {xs} h w) = ((omega (arith, h .some), omega (arith, h .some, h .within, l)), every-narrow n l w)
+
+-- ---- records of actions
+
+normal-all-narrow : (t : List ℕ) → length t ≤ limit → (xs : List (Sourced Action)) → AllNarrow (sitedAll (normalSite t) xs)
+normal-all-narrow t l [] = tt
+normal-all-narrow t l (x ∷ xs) = (normal-narrow t l (x .source), normal-all-narrow t l xs)
+
+-- where nothing was taken out nothing moves
+normal-still : (t : List ℕ) → shrunkBy t ≡ 0 → (x : Part) → Inside (length (normalised t)) x → normalSite t x ≡ x
+normal-still t e x i =
+    let n : length (textOf Joined t) ≡ length t = omega (arith, ap length (bytes-joined t), normalised-length t, e) in
+    let a : 0 + x .first ≡ x .first = omega arith in
+    let b : 0 + x .past ≡ x .past = omega arith in
+    still-site Joined 0 t n (x .first) (x .past) (omega (arith, i .some)) (omega (arith, i .inside, normalised-length t)) ∙ ap₂ part a b
+
+still-all : (f : Part → Part) (t : List ℕ) → shrunkBy t ≡ 0 → (xs : List (Sourced Action)) → EachInside (length (normalised t)) xs
+    → sitedAll f xs ≡ sitedAll (λ (x : Part). f (normalSite t x)) xs
+still-all f t e [] i = refl
+still-all f t e (x ∷ xs) i =
+    ap₂ (λ (y : Part) (l : List (Sourced Action)). sourced (x .thing) (f y) ∷ l) (sym (normal-still t e (x .source) (i .0))) (still-all f t e xs (i .1))
+
+acts-sited : (f : Part → Part) (old : List ℕ) (i o : ℕ) (xs : List (Sourced Action)) → AllNarrow xs
+    → lastChanged (wordBy f) actionWords (length xs) i (storedEach old i (Acts.recordsFrom o xs)) ≡ storedEach old i (Acts.recordsFrom o (sitedAll f xs))
+acts-sited f = sources-sited actionRecord actionText actionWords record-wide f
+
+module _ (s : List ℕ) (from : Cursor) (l : length (listText s from) ≤ limit) (old : List ℕ) (i o : ℕ) (xs : List (Sourced Action)) (w : EachInside (length (normalised (listText s from))) xs) where
+  narrow : AllNarrow xs
+  narrow = each-narrow (length (normalised (listText s from))) (omega (arith, normalised-length (listText s from), l)) xs w
+
+  moved : (t : Part) → listMoved s from t (shrunkBy (listText s from)) (length xs) i (storedEach old i (Acts.recordsFrom o xs))
+      ≡ storedEach old i (Acts.recordsFrom o (sitedAll (λ (x : Part). siteAt s t (normalSite (listText s from) x)) xs))
+  moved t = go (ltb 0 (shrunkBy (listText s from))) refl
+    where
+      f : Part → Part
+      f = siteAt s t
+
+      g : Part → Part
+      g = normalSite (listText s from)
+
+      first : lastChanged (siteWord Joined 0 (listText s from)) actionWords (length xs) i (storedEach old i (Acts.recordsFrom o xs)) ≡ storedEach old i (Acts.recordsFrom o (sitedAll g xs))
+      first = changed-by Joined 0 (listText s from) actionWords (length xs) i (storedEach old i (Acts.recordsFrom o xs)) ∙ acts-sited g old i o xs narrow
+
+      go : (b : Bool) → ltb 0 (shrunkBy (listText s from)) ≡ b
+          → lastChanged (tokenWord s t) actionWords (length xs) i
+          (pick b (lastChanged (siteWord Joined 0 (listText s from)) actionWords (length xs) i (storedEach old i (Acts.recordsFrom o xs))) (storedEach old i (Acts.recordsFrom o xs)))
+          ≡ storedEach old i (Acts.recordsFrom o (sitedAll (λ (x : Part). f (g x)) xs))
+      go true e =
+          ap (lastChanged (wordBy f) actionWords (length xs) i) first
+          ∙ ap (λ (n : ℕ). lastChanged (wordBy f) actionWords n i (storedEach old i (Acts.recordsFrom o (sitedAll g xs)))) (sym (length-map xs (sitedBy g)))
+          ∙ acts-sited f old i o (sitedAll g xs) (normal-all-narrow (listText s from) l xs)
+          ∙ ap (λ (ys : List (Sourced Action)). storedEach old i (Acts.recordsFrom o ys)) (sited-twice f g xs)
+      go false e =
+          let z : shrunkBy (listText s from) ≡ 0 = omega (arith, ltb-false 0 (shrunkBy (listText s from)) e) in
+          acts-sited f old i o xs narrow
+          ∙ ap (λ (ys : List (Sourced Action)). storedEach old i (Acts.recordsFrom o ys)) (still-all f (listText s from) z xs w)
+
+  -- The records of a directive's actions, settled, are those with places in the input.
+  pub actions-settled : let args = takenFrom s from in let n = listAmong (length args) in
+      pick (listThere (length args))
+      (listMoved s from (placeOf n args) (shrunkBy (listText s from)) (length xs) i (storedEach old i (Acts.recordsFrom o xs)))
+      (storedEach old i (Acts.recordsFrom o xs))
+      ≡ storedEach old i (Acts.recordsFrom o (sitedAll (listSite s n args) xs))
+  actions-settled =
+      ap (λ (t : Bool). pick t (listMoved s from (placeOf k a) (shrunkBy (listText s from)) (length xs) i (storedEach old i (Acts.recordsFrom o xs))) (storedEach old i (Acts.recordsFrom o xs)))
+      (list-there (length a))
+      ∙ go (ltb k (length a)) refl
+    where
+      a : List Token
+      a = takenFrom s from
+
+      k : ℕ
+      k = listAmong (length a)
+
+      go : (t : Bool) → ltb k (length a) ≡ t
+          → pick t (listMoved s from (placeOf k a) (shrunkBy (listText s from)) (length xs) i (storedEach old i (Acts.recordsFrom o xs))) (storedEach old i (Acts.recordsFrom o xs))
+          ≡ storedEach old i (Acts.recordsFrom o (sitedAll (listSite s k a) xs))
+      go true e =
+          moved (placeOf k a)
+          ∙ ap (λ (f : Part → Part). storedEach old i (Acts.recordsFrom o (sitedAll f xs))) (sym (list-site s k a (ltb-true k (length a) e)))
+      go false e =
+          ap (λ (ys : List (Sourced Action)). storedEach old i (Acts.recordsFrom o ys)) (sym (sited-still xs))
+          ∙ ap (λ (f : Part → Part). storedEach old i (Acts.recordsFrom o (sitedAll f xs))) (sym (list-none s k a (ltb-false k (length a) e)))
