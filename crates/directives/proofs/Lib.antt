@@ -23,6 +23,7 @@ pub mod ListLaws
 pub mod ArgumentLaws
 pub mod SettleLaws
 pub mod SiteLaws
+pub mod SettledLaws
 pub mod BodyLaws
 pub mod ShapeLaws
 pub mod EachLaws
