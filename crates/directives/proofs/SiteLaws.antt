@@ -1,22 +1,21 @@
 -- Arguments stand in the input; and what settling makes of records, or of one span, that were read with places in an argument's text:
 -- the same records and the same span with places in the input.
-use mathlib.Core.Path.{_≡_, _∙_, refl, sym, ap, ap₂, subst}
+use mathlib.Core.Path.{_≡_, _∙_, refl, sym, ap, ap₂}
 use mathlib.Core.Bool.{Bool, true, false}
 use mathlib.Core.List.{List, [], _∷_, _++_, map}
 use Prim.Native.Nat.{ℕ, zero, suc, _+_, _-_, _≤_, _<_}
 use native.Mathlib.Omega.{arith}
 use lib.ListN.{length, drop, length-append, length-map, length-drop}
 use lib.Dec.{ltb, eqb}
-use borrow.Author.Tests.{ltb-true, ltb-false, lt-ltb, le-ltb, eqb-true}
+use borrow.Author.Tests.{ltb-true, ltb-false, lt-ltb, eqb-true}
 use Rattle.ascii.specs.Choice.{pick, or}
 use Rattle.lent.specs.Sizes.{limit, variableWords, actionWords}
 use Rattle.lent.specs.Buffers.{storedEach}
 use Rattle.lent.specs.Layout.{recordsOf}
 use Rattle.lent.specs.Sources.{Part, part, partWord, Sourced, sourced, sitedBy, sitedAll}
 use Rattle.lent.proofs.LayoutLaws.{sited-texts}
-use Rattle.places.specs.declared.Rule.{Rule}
 use Rattle.places.specs.declared.Rule.the-variants.{Joined}
-use Rattle.places.specs.Sites.{textOf, siteOf, siteWord}
+use Rattle.places.specs.Sites.{textOf, siteWord}
 use Rattle.places.specs.Moves.{lastChanged}
 use Rattle.places.proofs.SiteLaws.{site-bounds}
 use Rattle.places.proofs.StillLaws.{still-site}
@@ -24,7 +23,7 @@ use Rattle.places.proofs.LastLaws.{lastBy, Wide, each-last, Narrow, word-back, 
 use Rattle.lexer.specs.declared.Kind.{Kind}
 use Rattle.lexer.specs.declared.Kind.the-variants.{Directive as Leading, Word, QuotedString, Comment, Newline}
 use Rattle.lexer.specs.declared.Cursor.{Cursor}
-use Rattle.lexer.specs.Tokens.{Token, Reading, tokens}
+use Rattle.lexer.specs.Tokens.{Token, tokens}
 use Rattle.lexer.specs.Calls.{Reached as Arrived}
 use Rattle.lexer.proofs.RunLaws.{passed-place, passed-length}
 use Rattle.lexer.proofs.NextLaws.{taken-place}
@@ -43,7 +42,7 @@ use Rattle.actions.proofs.JoinLaws.{bytes-joined}
 use Rattle.actions.proofs.SourceLaws.{Inside, EachInside}
 use Rattle.actions.proofs.SitingLaws.{inside-narrow, each-narrow, record-wide}
 use Rattle.directives.specs.Groups.{argumentBy, argumentsOf}
-use Rattle.directives.specs.Directives.{siteAt, standing, argumentSite, listSite}
+use Rattle.directives.specs.Directives.{siteAt, argumentSite, listSite}
 use Rattle.directives.specs.Steps.{onward, placeOf, argumentsAs, takenFrom, Stands, Stand, tokenWord, tokenMoved, textNumber, listAmong, listIn, listText, listWord, listMoved, shrunkBy, listThere}
 use Rattle.directives.specs.declared.arguments.Arguments.{Arguments}
 use Rattle.directives.specs.declared.settling.Listed.{Listed as ListPlace}
@@ -203,9 +202,6 @@ module _ (s : List ℕ) (from : Cursor) (l : length (listText s from) ≤ limit)
 
   abbrev text : List ℕ
   text = listText s from
-
-  abbrev there : Part → Part
-  there x = siteAt s (placeOf number args) (normalSite text x)
 
   list-narrow : (x : Part) → Inside (length (normalised text)) x → Narrow x
   list-narrow x i = inside-narrow (length (normalised text)) (omega (arith, normalised-length text, l)) x i
