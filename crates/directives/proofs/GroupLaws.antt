@@ -7,7 +7,8 @@ use Rattle.lexer.specs.declared.Kind.{Kind}
 use Rattle.lexer.specs.declared.Kind.the-variants.{Directive, Word, QuotedString, Comment, Newline}
 use Rattle.lexer.specs.Tokens.{Token}
 use Rattle.lexer.specs.Parts.{Closer, raised}
-use Rattle.directives.specs.Groups.{Item, stray, argumentBy, argumentsOf, strayBy, itemBy, items}
+use Rattle.lexer.specs.Places.{All, nil, cons}
+use Rattle.directives.specs.Groups.{Item, joined, stray, argumentBy, argumentsOf, strayBy, itemBy, items}
 use Rattle.directives.specs.Directives.{Directive as Entry, Result, ending, before, itemRead}
 use Rattle.directives.specs.Parts.{raisedItem}
 
@@ -84,6 +85,42 @@ module _ (d l : ℕ) where
       go QuotedString taking a b = kept taking a b
       go Comment taking a b = b
       go Newline taking a b = b
+
+-- ---- what holds of every token holds of those of every item
+
+abbrev pub AllIn : (Token → Type 0) → Item → Type 0
+AllIn P (joined t args) = P t × All P args
+AllIn P (stray t) = P t
+
+abbrev pub AllItems : (Token → Type 0) → List Item → Type 0
+AllItems P [] = Unit {0}
+AllItems P (x ∷ xs) = AllIn P x × AllItems P xs
+
+arguments-hold : (P : Token → Type 0) (ts : List Token) → All P ts → All P (argumentsOf ts)
+unfolding argumentsOf
+arguments-hold P [] nil = nil
+arguments-hold P (t ∷ ts) (cons h hs) = go (t .kind) (arguments-hold P ts hs)
+  where
+    go : (k : Kind) → All P (argumentsOf ts) → All P (argumentBy k t (argumentsOf ts))
+    go Directive i = nil
+    go Word i = cons h i
+    go QuotedString i = cons h i
+    go Comment i = nil
+    go Newline i = nil
+
+pub items-hold : (P : Token → Type 0) (taking : Bool) (ts : List Token) → All P ts → AllItems P (items taking ts)
+unfolding items
+items-hold P taking [] nil = tt
+items-hold P taking (t ∷ ts) (cons h hs) = go (t .kind) taking (items-hold P true ts hs) (items-hold P false ts hs)
+  where
+    go : (k : Kind) (taking : Bool) → AllItems P (items true ts) → AllItems P (items false ts) → AllItems P (itemBy k taking t ts (λ now. items now ts))
+    go Directive taking a b = ((h, arguments-hold P ts hs), a)
+    go Word true a b = a
+    go Word false a b = (h, b)
+    go QuotedString true a b = a
+    go QuotedString false a b = (h, b)
+    go Comment taking a b = b
+    go Newline taking a b = b
 
 -- ---- items one after another
 

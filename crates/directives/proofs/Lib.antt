@@ -1,4 +1,6 @@
 pub mod SitedLaws
+pub mod RefusalLaws
+pub mod MovedLaws
 pub mod LayoutLaws
 pub mod RoomLaws
 pub mod OrderLaws

@@ -1,82 +1,129 @@
 -- What is read of items further on: lines are raised by the line feeds before and spans by the bytes before, and nothing else moves.
-use mathlib.Core.Path.{_≡_, refl, ap}
-use Prim.Native.Nat.{ℕ, _+_}
+-- And what is read of a front's items, whatever stands behind it.
+use mathlib.Core.Path.{_≡_, refl, sym, ap, ap₂, _∙_}
+use Prim.Native.Nat.{ℕ, _+_, _-_, _≤_, _<_}
 use native.Mathlib.Omega.{arith}
+use native.Mathlib.Nat.{zero-add}
 use mathlib.Core.Bool.{Bool, true, false}
-use mathlib.Core.List.{List, [], _∷_, map}
+use mathlib.Core.List.{List, [], _∷_, _++_, map}
+use lib.ListN.{length, take, drop, getD, length-drop, List·getD-append}
+use lib.Seq.{take-append-le, drop-append-le, drop-append-add, getD-append-add}
 use lib.Dec.{ltb}
 use borrow.Author.Tests.{lt-ltb, le-ltb, ltb-true, ltb-false}
 use Rattle.ascii.specs.Choice.{pick}
-use Rattle.lent.specs.Table.{Outcome, refuses, reads}
+use Rattle.lent.specs.Sources.{Part, part}
 use Rattle.lexer.specs.declared.Cursor.{Cursor}
 use Rattle.lexer.specs.Tokens.{Token}
 use Rattle.lexer.specs.Layout.{textOf}
+use Rattle.lexer.specs.Places.{Placed, All, nil, cons}
 use Rattle.lexer.specs.Parts.{raise, raised}
+use Rattle.places.specs.declared.Rule.the-variants as Rule
+use Rattle.places.specs.Sites.{siteOf}
+use Rattle.places.proofs.RaiseLaws.{site-raised}
 use Rattle.directives.specs.Groups.{Item, joined, stray}
-use Rattle.directives.specs.Directives.{Body, Directive, stopped, Result, bad, good, Shape, ofRule, ofAction, ofMarker, ofDefaults, ofOther, act, defaults, actBy, ruleBy, variablesRead, operatorRead, actionsRead, told, bodyBy, shapeOf, lastPast, placed, directiveOf, itemRead, before, ending, endOf}
-use Rattle.directives.specs.Parts.{raisedItem, raisedFault, raisedDirective, mapped, raisedAll}
+use Rattle.directives.specs.Directives.{Body, Directive, Fault, wrongCount, untaken, stopped, within, Result, bad, good, isMark, between, siteAt, standing, sited, bodyBy, shapeOf, lastPast, placed, directiveOf, itemRead, before, ending, endOf}
+use Rattle.directives.specs.Parts.{raisedItem, raisedPart, raisedFault, raisedDirective, mapped, raisedAll}
+use Rattle.directives.proofs.GroupLaws.{AllIn, AllItems}
+use Rattle.directives.proofs.MovedLaws.{movedFault, movedResult, Moves, AllMove, none, also, body-moved, still, result-still}
 
-abbrev raisedBody : ℕ → Result Body → Result Body
-raisedBody l = mapped (raisedFault l) (λ x. x)
+-- ---- a part of a text that stands in a longer one
 
-abbrev raisedOne : ℕ → ℕ → Result Directive → Result Directive
-raisedOne d l = mapped (raisedFault l) (raisedDirective d l)
+module _ (pre s : List ℕ) (d : ℕ) (e : d ≡ length pre) where
+  between-behind : (a b : ℕ) → between (pre ++ s) (d + a) (d + b) ≡ between s a b
+  between-behind a b =
+      let n : d + b - (d + a) ≡ b - a = omega arith in
+      ap₂ (λ (k : ℕ) (l : List ℕ). take k l) n (ap (λ (k : ℕ). drop (k + a) (pre ++ s)) e ∙ drop-append-add pre s a)
 
--- ---- one directive
+  byte-behind : (a : ℕ) → getD (pre ++ s) (d + a) 0 ≡ getD s a 0
+  byte-behind a = ap (λ (k : ℕ). getD (pre ++ s) (k + a) 0) e ∙ getD-append-add pre s a 0
 
-told-raised : (l n : ℕ) (o : Outcome Body) → told (l + n) o ≡ raisedBody l (told n o)
-told-raised l n (refuses f) = refl
-told-raised l n (reads x) = refl
+  site-behind : (first past : ℕ) (x : Part) → siteAt (pre ++ s) (part (d + first) (d + past)) x ≡ raisedPart d (siteAt s (part first past) x)
+  unfolding siteAt
+  site-behind first past x = rw (byte-behind first) (go (isMark (getD s first 0)))
+    where
+      inner : d + first + 1 ≡ d + (first + 1)
+      inner = omega arith
 
-body-raised : (l n : ℕ) (name : List ℕ) (k : Shape) (args : List (List ℕ)) → bodyBy k (l + n) name args ≡ raisedBody l (bodyBy k n name args)
-body-raised l n name ofRule [] = refl
-body-raised l n name ofRule (v ∷ []) = refl
-body-raised l n name ofRule (v ∷ o ∷ []) = told-raised l n (ruleBy (variablesRead v) (operatorRead o) (reads []))
-body-raised l n name ofRule (v ∷ o ∷ a ∷ []) = told-raised l n (ruleBy (variablesRead v) (operatorRead o) (actionsRead a))
-body-raised l n name ofRule (v ∷ o ∷ a ∷ x ∷ xs) = refl
-body-raised l n name ofAction [] = refl
-body-raised l n name ofAction (a ∷ []) = told-raised l n (actBy act (actionsRead a))
-body-raised l n name ofAction (a ∷ x ∷ xs) = refl
-body-raised l n name ofMarker [] = refl
-body-raised l n name ofMarker (m ∷ []) = refl
-body-raised l n name ofMarker (m ∷ x ∷ xs) = refl
-body-raised l n name ofDefaults [] = refl
-body-raised l n name ofDefaults (a ∷ []) = told-raised l n (actBy defaults (actionsRead a))
-body-raised l n name ofDefaults (a ∷ x ∷ xs) = refl
-body-raised l n name ofOther xs = refl
+      go : (t : Bool) → pick t (siteOf Rule.Quoted (d + first + 1) (between (pre ++ s) (d + first + 1) (d + past))) (siteOf Rule.Word (d + first) (between (pre ++ s) (d + first) (d + past))) x
+          ≡ raisedPart d (pick t (siteOf Rule.Quoted (first + 1) (between s (first + 1) past)) (siteOf Rule.Word first (between s first past)) x)
+      go true =
+          ap (λ (k : ℕ). siteOf Rule.Quoted k (between (pre ++ s) k (d + past)) x) inner
+          ∙ ap (λ (r : List ℕ). siteOf Rule.Quoted (d + (first + 1)) r x) (between-behind (first + 1) past)
+          ∙ site-raised Rule.Quoted d (first + 1) (between s (first + 1) past) x
+      go false = ap (λ (r : List ℕ). siteOf Rule.Word (d + first) r x) (between-behind first past) ∙ site-raised Rule.Word d first (between s first past) x
+
+  moves-behind : (l : ℕ) (ts : List Token) → AllMove (raisedPart d) s (pre ++ s) ts (map (raised d l) ts)
+  moves-behind l [] = none
+  moves-behind l (t ∷ ts) = also (record { site = site-behind (t .first) (t .past); text = refl }) (moves-behind l ts)
+
+module _ (front rest : List ℕ) where
+  between-front : (a b : ℕ) → a ≤ b → b ≤ length front → between (front ++ rest) a b ≡ between front a b
+  between-front a b h k = ap (take (b - a)) (drop-append-le a front rest (omega arith)) ∙ take-append-le (b - a) (drop a front) rest (omega (arith, length-drop a front))
+
+  site-front : (first past : ℕ) → first < past → past ≤ length front → (x : Part) → siteAt (front ++ rest) (part first past) x ≡ siteAt front (part first past) x
+  unfolding siteAt
+  site-front first past h k x = rw (List·getD-append front rest 0 first (omega arith), between-front (first + 1) past (omega arith) k, between-front first past (omega arith) k)
+
+  moves-front : (ts : List Token) → All (Placed front) ts → AllMove still front (front ++ rest) ts ts
+  moves-front [] nil = none
+  moves-front (t ∷ ts) (cons p ps) = also (record { site = site-front (t .first) (t .past) (p .some) (p .inside); text = refl }) (moves-front ts ps)
+
+-- ---- a front's items
+
+module _ (front rest : List ℕ) where
+  item-front : (x : Item) → AllIn (Placed front) x → itemRead (front ++ rest) x ≡ itemRead front x
+  unfolding itemRead directiveOf
+  item-front (stray t) p = refl
+  item-front (joined t args) p =
+      ap (placed (t .line .0) (t .first) (lastPast (t .past) args))
+      (ap (λ (n : ℕ). sited (front ++ rest) (shapeOf (t .text)) args (bodyBy (shapeOf (t .text)) n (t .text) (map textOf args))) (sym (zero-add (t .line .0)))
+      ∙ body-moved still front (front ++ rest) 0 (t .line .0) (t .text) (shapeOf (t .text)) args args (moves-front front rest args (p .1))
+      ∙ result-still (sited front (shapeOf (t .text)) args (bodyBy (shapeOf (t .text)) (t .line .0) (t .text) (map textOf args))))
+
+  pub ending-front : (o : Result (List Directive)) (xs : List Item) → AllItems (Placed front) xs → ending (front ++ rest) o xs ≡ ending front o xs
+  unfolding ending
+  ending-front o [] p = refl
+  ending-front o (x ∷ xs) p = ap₂ before (item-front x (p .0)) (ending-front o xs (p .1))
+
+-- ---- one directive further on
 
 module _ (d l : ℕ) where
+  abbrev raisedOne : Result Directive → Result Directive
+  raisedOne = mapped (raisedFault d l) (raisedDirective d l)
+
   past-raised : (p : ℕ) (ts : List Token) → lastPast (d + p) (map (raised d l) ts) ≡ d + lastPast p ts
   unfolding lastPast
   past-raised p [] = refl
   past-raised p (t ∷ ts) = past-raised (t .past) ts
 
-  texts-raised : (ts : List Token) → map textOf (map (raised d l) ts) ≡ map textOf ts
-  texts-raised [] = refl
-  texts-raised (t ∷ ts) = ap (λ (xs : List (List ℕ)). t .text ∷ xs) (texts-raised ts)
-
-  placed-raised : (n first past : ℕ) (x : Result Body) → placed (l + n) (d + first) (d + past) (raisedBody l x) ≡ raisedOne d l (placed n first past x)
-  placed-raised n first past (bad f) = refl
+  placed-raised : (n first past : ℕ) (x : Result Body) → placed (l + n) (d + first) (d + past) (movedResult (raisedPart d) l x) ≡ raisedOne (placed n first past x)
+  placed-raised n first past (bad (wrongCount m)) = refl
+  placed-raised n first past (bad (untaken m)) = refl
+  placed-raised n first past (bad (stopped m)) = refl
+  placed-raised n first past (bad (within m f)) = refl
   placed-raised n first past (good x) = refl
-
-  item-raised : (x : Item) → itemRead (raisedItem d l x) ≡ raisedOne d l (itemRead x)
-  unfolding itemRead directiveOf
-  item-raised (stray t) = refl
-  item-raised (joined t args) =
-      rw (past-raised (t .past) args, texts-raised args, body-raised l (t .line .0) (t .text) (shapeOf (t .text)) (map textOf args))
-      (placed-raised (t .line .0) (t .first) (lastPast (t .past) args) (bodyBy (shapeOf (t .text)) (t .line .0) (t .text) (map textOf args)))
 
   -- ---- all
 
-  before-raised : (x : Result Directive) (o : Result (List Directive)) → before (raisedOne d l x) (raisedAll d l o) ≡ raisedAll d l (before x o)
+  before-raised : (x : Result Directive) (o : Result (List Directive)) → before (raisedOne x) (raisedAll d l o) ≡ raisedAll d l (before x o)
   before-raised (bad f) o = refl
   before-raised (good x) (bad f) = refl
   before-raised (good x) (good xs) = refl
 
-  pub ending-raised : (o : Result (List Directive)) (xs : List Item) → ending (raisedAll d l o) (map (raisedItem d l) xs) ≡ raisedAll d l (ending o xs)
-  unfolding ending
-  ending-raised o [] = refl
-  ending-raised o (x ∷ xs) = rw (item-raised x, ending-raised o xs) (before-raised (itemRead x) (ending o xs))
+  module _ (pre s : List ℕ) (e : d ≡ length pre) where
+    item-raised : (x : Item) → itemRead (pre ++ s) (raisedItem d l x) ≡ raisedOne (itemRead s x)
+    unfolding itemRead directiveOf
+    item-raised (stray t) = refl
+    item-raised (joined t args) =
+        let shape = shapeOf (t .text) in
+        ap₂ (λ (p : ℕ) (b : Result Body). placed (l + t .line .0) (d + t .first) p b) (past-raised (t .past) args)
+        (body-moved (raisedPart d) s (pre ++ s) l (t .line .0) (t .text) shape args (map (raised d l) args) (moves-behind pre s d e l args))
+        ∙ placed-raised (t .line .0) (t .first) (lastPast (t .past) args) (sited s shape args (bodyBy shape (t .line .0) (t .text) (map textOf args)))
+
+    pub ending-raised : (o : Result (List Directive)) (xs : List Item) → ending (pre ++ s) (raisedAll d l o) (map (raisedItem d l) xs) ≡ raisedAll d l (ending s o xs)
+    unfolding ending
+    ending-raised o [] = refl
+    ending-raised o (x ∷ xs) = ap₂ before (item-raised x) (ending-raised o xs) ∙ before-raised (itemRead s x) (ending s o xs)
 
   ltb-raised : (p n : ℕ) → ltb (d + p) (d + n) ≡ ltb p n
   ltb-raised p n = go (ltb p n) refl
