@@ -3,18 +3,27 @@ use mathlib.Core.Path.{_≡_, refl, sym, ap, ap₂, _∙_, subst}
 use Prim.Native.Nat.{ℕ, min}
 use native.Mathlib.Omega.{arith}
 use mathlib.Core.Bool.{Bool, true, false}
-use mathlib.Core.List.{List, _++_}
+use mathlib.Core.List.{List, [], _∷_, _++_}
 use lib.ListN.{length}
+use lib.Dec.{eqb}
 use Rattle.ascii.specs.Choice.{pick}
+use Rattle.lent.specs.Sizes.{spanWord}
+use Rattle.lent.specs.Table.{Given, given, tooLong, notAscii, shortBuffer, noRoom, named, noAction, noArgument, noVariable, unknownOperator, badCursor}
+use Rattle.lent.specs.declared.refusing.Flaw.the-variants as Flaw
 use Rattle.lent.specs.declared.gating.Gate.{Gate}
 use Rattle.lent.specs.declared.gating.Gate.the-variants.{Open}
 use Rattle.lent.proofs.GateLaws.{row-gate}
 use Rattle.lexer.specs.Parts.{Closed}
-use Rattle.directives.specs.Directives.{Directive, Result, bad, good, directives}
+use Rattle.directives.specs.Directives.{Directive, Fault, wrongCount, untaken, stopped, within, Result, bad, good, directives}
 use Rattle.directives.specs.Layout.{listedCounts, actionCounts}
-use Rattle.directives.specs.Table.{Filled, Outcome, shut, faulty, overfull, filled, pastGate, givenBy, textBy, recordsBy, scratchBy}
-use Rattle.directives.specs.Promises.{Rooms, roomsOf, Lent, outcomeOn, directivesOutcome, laidOut, lacks, roomed}
-use Rattle.directives.specs.Parts.{Idle, erasedAll, unspanned, unspannedOutcome, Fits, Called, Alike, SameTold}
+use Rattle.directives.specs.Table.{Filled, Outcome, shut, faulty, overfull, filled, pastGate, faultGiven, givenBy, textBy, recordsBy, scratchBy}
+use Rattle.directives.specs.Promises.{answerGiven, Rooms, roomsOf, Lent, outcomeOn, directivesOutcome, laidOut, lacks, roomed}
+use Rattle.directives.specs.Parts.{Idle, erasedFault, erasedAll, unspanned, unsourcedVariables, unsourcedActions, unspannedOutcome, unspannedReply, Fits, Called, Alike, SameTold}
+use Rattle.directives.specs.declared.LineFault.the-variants.{WrongCount, Untaken, Stopped}
+use Rattle.directives.specs.declared.ArgumentFault.the-variants.{UnknownVariable, UnknownOperator, UnknownAction, BadArgument}
+use Rattle.directives.specs.declared.Fault.the-variants as Told
+use Rattle.directives.specs.declared.Answer.{Answer}
+use Rattle.directives.specs.declared.Answer.the-variants as Answer
 use Rattle.directives.proofs.GivenLaws.{answer-told}
 use Rattle.directives.proofs.EraseLaws.{outcome-erased, text-unspanned, scratch-unspanned, variables-unspanned, actions-unspanned, directives-unspanned}
 use Rattle.directives.proofs.Replacing.{replaced-remark}
@@ -62,11 +71,57 @@ module _ (old new : List ℕ) (e : length old ≡ length new) where
   records-alike words (overfull d v a) h = rw e
   records-alike words (filled x) h = rw e
 
-given-unspanned : (o : Outcome) → givenBy o ≡ givenBy (unspannedOutcome o)
-given-unspanned (shut f) = refl
-given-unspanned (faulty f) = refl
-given-unspanned (overfull d v a) = refl
-given-unspanned (filled x) = refl
+-- ---- number and values without a span
+
+-- The fourth value of a refusal is the span of its piece; of row 0 it is the length of the texts.
+abbrev spanless : List ℕ → List ℕ
+spanless [] = []
+spanless (a ∷ []) = a ∷ []
+spanless (a ∷ b ∷ []) = a ∷ b ∷ []
+spanless (a ∷ b ∷ c ∷ []) = a ∷ b ∷ c ∷ []
+spanless (a ∷ b ∷ c ∷ d ∷ r) = a ∷ b ∷ c ∷ 0 ∷ r
+
+abbrev unspannedGiven : Given → Given
+unspannedGiven g = given (g .number) (pick (eqb (g .number) 0) (g .values) (spanless (g .values)))
+
+reply-unspanned : (r : Answer) → answerGiven (unspannedReply r) ≡ unspannedGiven (answerGiven r)
+reply-unspanned (Answer.Read d v a t) = refl
+reply-unspanned Answer.TooLong = refl
+reply-unspanned (Answer.NotAscii place) = refl
+reply-unspanned Answer.Short = refl
+reply-unspanned (Answer.Refused (Told.Line WrongCount line)) = refl
+reply-unspanned (Answer.Refused (Told.Line Untaken line)) = refl
+reply-unspanned (Answer.Refused (Told.Line Stopped line)) = refl
+reply-unspanned (Answer.Refused (Told.Argument UnknownVariable line piece name span)) = refl
+reply-unspanned (Answer.Refused (Told.Argument UnknownOperator line place len span)) = refl
+reply-unspanned (Answer.Refused (Told.Argument UnknownAction line piece name span)) = refl
+reply-unspanned (Answer.Refused (Told.Argument (BadArgument Flaw.Absent) line piece name span)) = refl
+reply-unspanned (Answer.Refused (Told.Argument (BadArgument Flaw.Unreadable) line piece name span)) = refl
+reply-unspanned (Answer.Refused (Told.Argument (BadArgument Flaw.TooLarge) line piece name span)) = refl
+reply-unspanned (Answer.NoRoom d v a) = refl
+
+fault-unspanned : (f : Fault) → faultGiven (erasedFault f) ≡ unspannedGiven (faultGiven f)
+unfolding spanWord
+fault-unspanned (wrongCount l) = refl
+fault-unspanned (untaken l) = refl
+fault-unspanned (stopped l) = refl
+fault-unspanned (within l tooLong) = refl
+fault-unspanned (within l (notAscii p)) = refl
+fault-unspanned (within l shortBuffer) = refl
+fault-unspanned (within l (noRoom n)) = refl
+fault-unspanned (within l (named noAction p name x)) = refl
+fault-unspanned (within l (named (noArgument Flaw.Absent) p name x)) = refl
+fault-unspanned (within l (named (noArgument Flaw.Unreadable) p name x)) = refl
+fault-unspanned (within l (named (noArgument Flaw.TooLarge) p name x)) = refl
+fault-unspanned (within l (named noVariable p name x)) = refl
+fault-unspanned (within l (unknownOperator p n x)) = refl
+fault-unspanned (within l badCursor) = refl
+
+given-unspanned : (o : Outcome) → Past o → givenBy (unspannedOutcome o) ≡ unspannedGiven (givenBy o)
+given-unspanned (shut f) h = absurd h
+given-unspanned (faulty f) h = fault-unspanned f
+given-unspanned (overfull d v a) h = refl
+given-unspanned (filled x) h = refl
 
 -- ---- two calls
 
@@ -88,12 +143,17 @@ module _ (s s′ : List ℕ) (m n : Lent) (z : Alike m n) (same : erasedAll (dir
       ∙ outcome-erased (roomsOf n) (directives s′)
       ∙ sym (ap unspannedOutcome (open-outcome s′ n (k′ .fits)))
 
+  one-past : Past one
+  one-past = subst Past (sym (open-outcome s m (k .fits))) (roomed-past (roomsOf m) (directives s))
+
   two-past : Past two
   two-past = subst Past (sym (open-outcome s′ n (k′ .fits))) (roomed-past (roomsOf n) (directives s′))
 
   calls-same : SameTold k k′
   calls-same = record {
-    answer = answer-told (k .reply) (k′ .reply) (k .promise .answer ∙ given-unspanned one ∙ ap givenBy told-same ∙ sym (given-unspanned two) ∙ sym (k′ .promise .answer));
+    answer = answer-told (unspannedReply (k .reply)) (unspannedReply (k′ .reply))
+        (reply-unspanned (k .reply) ∙ ap unspannedGiven (k .promise .answer) ∙ sym (given-unspanned one one-past) ∙ ap givenBy told-same
+        ∙ given-unspanned two two-past ∙ ap unspannedGiven (sym (k′ .promise .answer)) ∙ sym (reply-unspanned (k′ .reply)));
     text = k .promise .text
         ∙ text-unspanned (m .text) one ∙ ap (λ (o : Outcome). textBy o (m .text)) told-same ∙ sym (text-unspanned (m .text) two)
         ∙ text-alike (m .text) (n .text) (z .text) two two-past ∙ sym (k′ .promise .text);
@@ -104,16 +164,18 @@ module _ (s s′ : List ℕ) (m n : Lent) (z : Alike m n) (same : erasedAll (dir
         ∙ directives-unspanned (m .directives) one ∙ ap (λ (o : Outcome). unspanned (recordsBy (λ x. x .directives) o (m .directives))) told-same
         ∙ sym (directives-unspanned (m .directives) two)
         ∙ ap unspanned (records-alike (m .directives) (n .directives) (z .directives) (λ x. x .directives) two two-past ∙ sym (k′ .promise .directives));
-    variables = k .promise .variables
-        ∙ variables-unspanned (m .variables) one ∙ ap (λ (o : Outcome). recordsBy (λ x. x .variables) o (m .variables)) told-same ∙ sym (variables-unspanned (m .variables) two)
-        ∙ records-alike (m .variables) (n .variables) (z .variables) (λ x. x .variables) two two-past ∙ sym (k′ .promise .variables);
-    actions = k .promise .actions
-        ∙ actions-unspanned (m .actions) one ∙ ap (λ (o : Outcome). recordsBy (λ x. x .actions) o (m .actions)) told-same ∙ sym (actions-unspanned (m .actions) two)
-        ∙ records-alike (m .actions) (n .actions) (z .actions) (λ x. x .actions) two two-past ∙ sym (k′ .promise .actions);
+    variables = ap unsourcedVariables (k .promise .variables)
+        ∙ variables-unspanned (m .variables) one ∙ ap (λ (o : Outcome). unsourcedVariables (recordsBy (λ x. x .variables) o (m .variables))) told-same
+        ∙ sym (variables-unspanned (m .variables) two)
+        ∙ ap unsourcedVariables (records-alike (m .variables) (n .variables) (z .variables) (λ x. x .variables) two two-past ∙ sym (k′ .promise .variables));
+    actions = ap unsourcedActions (k .promise .actions)
+        ∙ actions-unspanned (m .actions) one ∙ ap (λ (o : Outcome). unsourcedActions (recordsBy (λ x. x .actions) o (m .actions))) told-same
+        ∙ sym (actions-unspanned (m .actions) two)
+        ∙ ap unsourcedActions (records-alike (m .actions) (n .actions) (z .actions) (λ x. x .actions) two two-past ∙ sym (k′ .promise .actions));
   }
 
 -- Another idle line in an idle line's place: two calls give the same number and values, refusals included, and leave the same in all lent
--- memory but each directive's span in the input.
+-- memory, but for spans in the input.
 pub replaced-promise : (front line line′ rest : List ℕ) → Closed front → Idle line → Idle line′ → {m n : Lent} → Alike m n
     → (k : Called (front ++ line ++ rest) m) (k′ : Called (front ++ line′ ++ rest) n) → SameTold k k′
 replaced-promise front line line′ rest f i i′ {m = m} {n = n} z k k′ =
