@@ -394,9 +394,9 @@ module _ (s : List ℕ) (from : Cursor) (arrived : Arrived s from) (short : leng
     unfolding storedEach recordsOf
     body-put k (rule vs o xs) w i v c = (
       z .listed ∙ ap (tokenMoved s (ltb 0 (a .count)) (a .first) variableWords (e .variables) (t .variables * variableWords)) v
-      ∙ targets-put vs (nameEnd (t .text) (rule vs o xs)) (e .variables) (w .0) (ap (λ (d : Entry). d .variables) i),
+          ∙ targets-put vs (nameEnd (t .text) (rule vs o xs)) (e .variables) (w .0) (ap (λ (d : Entry). d .variables) i),
       list-put 2 (rule vs o xs) (argumentEnd (t .text) (rule vs o xs)) xs (w .1) (ap (λ (d : Entry). d .actions) i) (ap (λ (d : Entry). d .shrunk) i) c
-      ∙ ap (λ (j : ℕ). storedEach actions (t .actions * actionWords) (Acts.recordsFrom j (sitedAll (listSite s 2 there) xs))) (sym (end-sited (t .text) (rule vs o xs) (sitedBody s there (rule vs o xs)) (sited-same s there (rule vs o xs)))),
+          ∙ ap (λ (j : ℕ). storedEach actions (t .actions * actionWords) (Acts.recordsFrom j (sitedAll (listSite s 2 there) xs))) (sym (end-sited (t .text) (rule vs o xs) (sitedBody s there (rule vs o xs)) (sited-same s there (rule vs o xs)))),
     )
     body-put k (act xs) w i v c = (
       none-listed v (ap (λ (d : Entry). d .variables) i),

@@ -23,9 +23,9 @@ use Rattle.lexer.specs.Layout.{textOf}
 use Rattle.lexer.specs.Calls.{Reached as Arrived}
 use Rattle.lexer.proofs.ReachLaws.{reached-start}
 use Rattle.directives.specs.Groups.{Item, items}
-use Rattle.directives.specs.Directives.{Body, Directive, untaken, stopped, Result, bad, good, Shape, shapeOf, bodyBy, lastPast, placed as placedAt, directiveOf, itemRead, before, ending, endOf, directives}
+use Rattle.directives.specs.Directives.{Body, Directive, untaken, stopped, Result, bad, good, Shape, shapeOf, bodyBy, sited, sitedBody, sitedFault, lastPast, placed as placedAt, directiveOf, itemRead, before, ending, endOf, directives}
 use Rattle.directives.specs.Layout.{Reached, reached, bodyText, directiveRecord, texts, listedCount, actionCount, listedCounts, actionCounts}
-use Rattle.directives.specs.Steps.{Laid, roleOf, onward, Token-is, None-is, argumentsAs, endsAt, takenFrom, Took, reachedBy, entryOf, listedEach, actedEach, Faulted, Wrote, Bodied, heldArguments, Ready, entryRecord, tallyOf, countedOn, directiveEach, eachFrom, Written, AllRead, FirstFault}
+use Rattle.directives.specs.Steps.{Laid, roleOf, onward, Token-is, None-is, argumentsAs, endsAt, takenFrom, Took, reachedBy, entryOf, listedEach, actedEach, Faulted, Wrote, Bodied, heldArguments, heldList, shrunkBy, listText, Heard, Stand, Settled, faultMoved, Ready, entryRecord, tallyOf, countedOn, directiveEach, eachFrom, Written, AllRead, FirstFault}
 use Rattle.directives.specs.declared.Fault.{Fault as Told}
 use Rattle.directives.specs.declared.LineFault.the-variants.{Stopped, Untaken}
 use Rattle.directives.specs.declared.Fault.the-variants as Told
@@ -42,6 +42,10 @@ use Rattle.directives.proofs.EachLaws.{same-record, same-tally, same-st
 use Rattle.directives.proofs.FitLaws.{BodyFits, body-fits, all, texts-long}
 use Rattle.directives.proofs.ArgumentLaws.{argues, closes, opens}
 use Rattle.directives.proofs.BodyLaws.{same-entry, same-told, same-fault, never}
+use Rattle.directives.proofs.SitedLaws.{SameBody, sited-same}
+use Rattle.directives.proofs.SettleLaws.{held-list}
+use Rattle.directives.proofs.SiteLaws.{stand-arguments, number-within}
+use Rattle.directives.proofs.SettledLaws.{Where, body-where, fault-settled, body-settled}
 use Rattle.directives.proofs.HeldLaws.{texts-grow, texts-few, held-are, same-body}
 
 -- ---- directives read before
@@ -255,7 +259,10 @@ module _ (s text₀ records₀ variables₀ actions₀ : List ℕ) (within : len
         abbrev made : Result Body → Result Directive
         made = placedAt (u .line .0) (u .first) (lastPast (u .past) args)
 
-        comes-to : (b : Result Body) → bodyBy (shapeOf name) (u .line .0) name (map textOf args) ≡ b → directives s ≡ onto (g .ds) (before (made b) behind)
+        abbrev read : Result Body
+        read = bodyBy (shapeOf name) (u .line .0) name (map textOf args)
+
+        comes-to : (b : Result Body) → sited s (shapeOf name) args read ≡ b → directives s ≡ onto (g .ds) (before (made b) behind)
         unfolding ending itemRead directiveOf
         comes-to b e =
             goes-on
@@ -263,49 +270,85 @@ module _ (s text₀ records₀ variables₀ actions₀ : List ℕ) (within : len
             ∙ ap₂ (λ (c : Cursor) (i : List Item). onto (g .ds) (before (directiveOf s u args) (ending s (endOf (length s) c) i))) (y .stop) (y .rest)
             ∙ ap (λ (c : Result Body). onto (g .ds) (before (made c) behind)) e
 
+        -- what was taken is where the definition has it
+        taken-is : a ≡ argumentsAs (l .len) (l .next .place) args
+        taken-is = y .arguments-are
+
+        pub heard : (scratch₃ : List ℕ) → length scratch₃ ≡ length scratch₂ → Heard s (l .next) (l .len) scratch₃
+        heard scratch₃ e = record { short = within; arrived = x .arrived; room = omega (arith, e, both-laid .long, scratch-room); low = omega (arith, len-is, x .short) }
+
+        pub stand : Stand s a
+        stand = subst (Stand s) (sym taken-is) (stand-arguments s (l .next) (x .arrived) within (l .len) (l .next .place))
+
+        pub tally-low : (t .variables ≤ limit) × (t .actions ≤ limit)
+        tally-low = (omega (arith, g .variables-low, g .arrived .inside), omega (arith, g .actions-low, g .arrived .inside))
+
+        standing-there : Where (shapeOf name) args read
+        standing-there = body-where (u .line .0) name (shapeOf name) args (number-within s (l .next) (x .arrived) within)
+
+        list-is : heldList scratch₂ (l .len) a ≡ listText s (l .next)
+        list-is = ap (heldList scratch₂ (l .len)) taken-is ∙ held-list (l .next .place) args (y .laid)
+
         module _ (shape : Shape) (shape-is : shape ≡ shapeOf (take (l .len) scratch₂)) (text′ variables′ actions′ : List ℕ) where
           abbrev Told-of : Judged → Type 0
-          Told-of j = Bodied (bodyBy shape (l .line .0) (take (l .len) scratch₂) (heldArguments scratch₂ (l .len) a)) t text text′ variables variables′ actions actions′ j
+          Told-of j = Bodied (bodyBy shape (l .line .0) (take (l .len) scratch₂) (heldArguments scratch₂ (l .len) a)) (shrunkBy (heldList scratch₂ (l .len) a)) t text text′ variables variables′ actions actions′ j
 
-          pub faulty : (f : Told) → Told-of (Judged.Bad f) → FirstFault s text₀ text′ f
-          faulty f z =
-              go (bodyBy (shapeOf name) (u .line .0) name (map textOf args)) refl
-              (subst (λ (b : Result Body). Bodied b t text text′ variables variables′ actions actions′ (Judged.Bad f)) (body-is shape shape-is) z)
+          abbrev Read-to : Result Body → Judged → Type 0
+          Read-to b j = Bodied b (shrunkBy (listText s (l .next))) t text text′ variables variables′ actions actions′ j
+
+          read-to : (j : Judged) → Told-of j → Read-to read j
+          read-to j z = subst (λ (b : Result Body). Read-to b j) (body-is shape shape-is) (rw list-is at z)
+
+          pub faulty : (f : Told) → Told-of (Judged.Bad f) → FirstFault s text₀ text′ (faultMoved s (l .next) a (l .len) f)
+          faulty f z = go read refl (read-to (Judged.Bad f) z) standing-there
             where
-              go : (b : Result Body) → bodyBy (shapeOf name) (u .line .0) name (map textOf args) ≡ b → Bodied b t text text′ variables variables′ actions actions′ (Judged.Bad f) → FirstFault s text₀ text′ f
-              go (good b) e w = absurd (never (sym (w .is)))
-              go (bad q) e w = record {
-                fault = q;
-                read = comes-to (bad q) e;
-                faulted = same-fault long (subst (Faulted q text text′) (same-told (sym (w .is))) (w .faulted));
+              go : (b : Result Body) → read ≡ b → Read-to b (Judged.Bad f) → Where (shapeOf name) args b → FirstFault s text₀ text′ (faultMoved s (l .next) a (l .len) f)
+              go (good b) e w h = absurd (never (sym (w .is)))
+              go (bad q) e w h = record {
+                fault = sitedFault s (shapeOf name) args q;
+                read = comes-to (bad (sitedFault s (shapeOf name) args q)) (ap (sited s (shapeOf name) args) e);
+                faulted = same-fault long (fault-settled s (l .next) (x .arrived) within (l .len) a taken-is (shapeOf name) q h (subst (Faulted q text text′) (same-told (sym (w .is))) (w .faulted)));
               }
 
-          module _ (e : Entry) (z : Told-of (Judged.Good e)) where
-            -- the body that was read
+          module _ (e : Entry) (z : Told-of (Judged.Good e)) (variables″ actions″ : List ℕ) (k : Settled s (l .next) a (l .len) t e variables′ variables″ actions′ actions″) where
+            -- the body that was read, and then put into the input
             record Read-is : Type 0 where
+              pub own : Body
+              pub own-is : read ≡ good own
               pub whole : Body
-              pub is : bodyBy (shapeOf name) (u .line .0) name (map textOf args) ≡ good whole
-              pub entry : e ≡ entryOf (reachedBy t) whole
-              pub wrote : Wrote whole t text text′ variables variables′ actions actions′ (Judged.Good e)
+              pub is : sited s (shapeOf name) args read ≡ good whole
+              pub same : SameBody whole own
+              pub entry : e ≡ entryOf (reachedBy t) (shrunkBy (listText s (l .next))) whole
+              pub wrote : Wrote whole (shrunkBy (listText s (l .next))) t text text′ variables variables″ actions actions″ (Judged.Good e)
 
             read-is : Read-is
-            read-is =
-                go (bodyBy (shapeOf name) (u .line .0) name (map textOf args)) refl
-                (subst (λ (b : Result Body). Bodied b t text text′ variables variables′ actions actions′ (Judged.Good e)) (body-is shape shape-is) z)
+            read-is = go read refl (read-to (Judged.Good e) z) standing-there
               where
-                go : (b : Result Body) → bodyBy (shapeOf name) (u .line .0) name (map textOf args) ≡ b → Bodied b t text text′ variables variables′ actions actions′ (Judged.Good e) → Read-is
-                go (good b) q w = record { whole = b; is = q; entry = same-entry (w .is); wrote = w }
-                go (bad f) q w = absurd (never (w .is))
+                go : (b : Result Body) → read ≡ b → Read-to b (Judged.Good e) → Where (shapeOf name) args b → Read-is
+                go (good b) q w h =
+                    let v = body-settled s (l .next) (x .arrived) within (l .len) a taken-is t e variables variables″ actions actions″ k (shapeOf name) b h w (same-entry (w .is)) in
+                    record {
+                      own = b;
+                      own-is = q;
+                      whole = sitedBody s args b;
+                      is = ap (sited s (shapeOf name) args) q;
+                      same = sited-same s args b;
+                      entry = same-entry (v .is);
+                      wrote = v;
+                    }
+                go (bad f) q w h = absurd (never (w .is))
 
             abbrev d : Directive
             d = record { line = u .line .0; first = u .first; past = lastPast (u .past) args; body = read-is .whole }
 
-            fits : BodyFits (length name + all (map textOf args)) (good (read-is .whole))
-            fits = subst (BodyFits (length name + all (map textOf args))) (read-is .is) (body-fits (u .line .0) name (shapeOf name) (map textOf args))
+            fits : BodyFits (length name + all (map textOf args)) (good (read-is .own))
+            fits = subst (BodyFits (length name + all (map textOf args))) (read-is .own-is) (body-fits (u .line .0) name (shapeOf name) (map textOf args))
 
             -- its texts and records are no more than its own bytes
             fits-on : (length (bodyText (read-is .whole)) + here .place ≤ r .next .place) × (listedCount (read-is .whole) + actionCount (read-is .whole) + here .place ≤ r .next .place)
-            fits-on = (omega (arith, fits .0, texts-long args, x .short, y .short), omega (arith, fits .1, texts-long args, x .short, y .short))
+            fits-on =
+                let m = read-is .same in
+                (omega (arith, fits .0, ap length (m .text), texts-long args, x .short, y .short), omega (arith, fits .1, m .listed, m .acted, texts-long args, x .short, y .short))
 
             entry-text : e .text ≡ t .text + length (bodyText (read-is .whole))
             entry-text = ap (λ (i : Entry). i .text) (read-is .entry)
@@ -338,7 +381,7 @@ module _ (s text₀ records₀ variables₀ actions₀ : List ℕ) (within : len
 
             -- one directive more
             pub turned : (records′ : List ℕ) → records′ ≡ stored records (t .directives * directiveWords) (entryRecord (l .line .0) (l .first) (a .past) t e) → (v : Tally) → v ≡ countedOn t e
-                → Now text′ records′ variables′ actions′ (r .next) v
+                → Now text′ records′ variables″ actions″ (r .next) v
             turned records′ p v q =
                 let w = read-is .wrote in
                 let more = g .ds ++ d ∷ [] in
