@@ -5,7 +5,7 @@ use Prim.Native.String.{String}
 use mathlib.Core.List.{List, [], _∷_}
 use lib.ListN.{replicate}
 use Rattle.ascii.specs.Text.{bytes}
-use Rattle.lent.specs.Sizes.{roomFor}
+use Rattle.lent.specs.Sizes.{roomFor, spanWord}
 use Rattle.lent.specs.Gates.{firstHigh, gateOf}
 use Rattle.lent.specs.Table.{Given, given}
 use Rattle.lent.specs.Buffers.{zeros, padded}
@@ -34,17 +34,17 @@ unfolding Calls
 scratch-short = refl
 
 -- only variables lack room; all three counts are told, and all is zero
-pub no-room : Calls "SecRule ARGS a deny" (sevens 19 19 11 4 6) (given 4 (1 ∷ 1 ∷ 1 ∷ [])) (lentOf (zeros 19) (zeros 19) (zeros 11) (zeros 4) (zeros 6))
+pub no-room : Calls "SecRule ARGS a deny" (sevens 19 19 11 5 7) (given 4 (1 ∷ 1 ∷ 1 ∷ [])) (lentOf (zeros 19) (zeros 19) (zeros 11) (zeros 5) (zeros 7))
 unfolding Calls
 no-room = refl
 
 -- a fault comes before the room; the name stands in text, and all else is zero
-pub room-last : Calls "SecAction deny,bogus" (sevens 21 20 1 1 1) (given 5 (1 ∷ 1 ∷ 5 ∷ [])) (lentOf (padded 21 (bytes "bogus")) (zeros 20) (zeros 1) (zeros 1) (zeros 1))
+pub room-last : Calls "SecAction deny,bogus" (sevens 21 20 1 1 1) (given 5 (1 ∷ 1 ∷ 5 ∷ spanWord 15 5 ∷ [])) (lentOf (padded 21 (bytes "bogus")) (zeros 20) (zeros 1) (zeros 1) (zeros 1))
 unfolding Calls
 room-last = refl
 
 -- on 8 and 13 to 15 all is zero
-pub all-zero : Calls "SecRule ARGS \"@x\" x" (sevens 19 19 2 0 1) (given 8 (1 ∷ 1 ∷ 1 ∷ [])) (lentOf (zeros 19) (zeros 19) (zeros 2) [] (zeros 1))
+pub all-zero : Calls "SecRule ARGS \"@x\" x" (sevens 19 19 2 0 1) (given 8 (1 ∷ 1 ∷ 1 ∷ spanWord 15 1 ∷ [])) (lentOf (zeros 19) (zeros 19) (zeros 2) [] (zeros 1))
 unfolding Calls
 all-zero = refl
 
@@ -53,8 +53,8 @@ unfolding Calls
 stray-zero = refl
 
 -- room for exactly the records, and zeros beyond
-pub exact : Calls "SecRule ARGS a deny" (sevens 20 19 12 5 6) (given 0 (1 ∷ 1 ∷ 1 ∷ 1 ∷ []))
-    (lentOf (padded 20 (bytes "a")) (zeros 19) (1 ∷ 1 ∷ 19 ∷ 0 ∷ 0 ∷ 0 ∷ 1 ∷ 0 ∷ 1 ∷ 0 ∷ 1 ∷ 0 ∷ []) (1 ∷ 0 ∷ 0 ∷ 0 ∷ 0 ∷ []) (1 ∷ 0 ∷ 0 ∷ 0 ∷ 0 ∷ 0 ∷ []))
+pub exact : Calls "SecRule ARGS a deny" (sevens 20 19 12 6 7) (given 0 (1 ∷ 1 ∷ 1 ∷ 1 ∷ []))
+    (lentOf (padded 20 (bytes "a")) (zeros 19) (1 ∷ 1 ∷ 19 ∷ 0 ∷ 0 ∷ 0 ∷ 1 ∷ 0 ∷ 1 ∷ 0 ∷ 1 ∷ 0 ∷ []) (1 ∷ 0 ∷ 0 ∷ 0 ∷ 0 ∷ spanWord 8 4 ∷ []) (1 ∷ 0 ∷ 0 ∷ 0 ∷ 0 ∷ 0 ∷ spanWord 15 4 ∷ []))
 unfolding Calls
 exact = refl
 

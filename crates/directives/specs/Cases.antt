@@ -17,8 +17,9 @@ use Rattle.operators.specs.Cases as Operators
 use Rattle.records.specs.Actions.{actionText}
 use Rattle.records.specs.Layout.{actionRecord}
 use Rattle.actions.specs.Cases as Actions
+use Rattle.places.specs.Tables.{wording, stays, staysNext, quotingBy}
 use Rattle.directives.specs.Groups.{argumentsOf, items}
-use Rattle.directives.specs.Directives.{Directive, Result, bad, good, shapeOf, lastPast, directiveOf, itemRead, ending, endOf, directives}
+use Rattle.directives.specs.Directives.{Directive, Result, bad, good, shapeOf, lastPast, siteAt, argumentSite, listSite, directiveOf, itemRead, ending, endOf, directives}
 use Rattle.directives.specs.Layout.{bodyText, listedCounts, actionCounts, directivesFrom}
 use Rattle.directives.specs.Table.{Outcome, faulty, filled, givenBy}
 use Rattle.directives.specs.Promises.{laidOut, Lent, lentOf, leftBy}
@@ -41,7 +42,7 @@ seen o = record { answer = givenBy (roomy o); left = leftBy (roomy o) (lent [] [
 
 -- To unfold it is to unfold every definition that a text is read by.
 unfoldable pub Comes : String → Seen → Type 0
-unfolding Lexer.Reads Variables.Reads targetsOf Operators.Reads Operators.NamePlace Actions.Comes textsOf wordsOf spanWord actionText actionRecord argumentsOf items shapeOf lastPast directiveOf itemRead ending endOf directives bodyText listedCounts actionCounts directivesFrom
+unfolding Lexer.Reads Variables.Reads targetsOf Operators.Reads Operators.NamePlace Actions.Comes wording stays staysNext quotingBy textsOf wordsOf spanWord actionText actionRecord argumentsOf items shapeOf lastPast siteAt argumentSite listSite directiveOf itemRead ending endOf directives bodyText listedCounts actionCounts directivesFrom
 Comes s x = seen (directives (bytes s)) ≡ x
 
 -- A text that is read: values, texts, directive, variable and action words.
@@ -70,7 +71,7 @@ mid-line = refl
 
 -- three arguments without a blank between
 pub unspaced : Reads "SecRule ARGS\"@rx a\"\"deny\"" (1 ∷ 1 ∷ 1 ∷ 1 ∷ []) "a"
-    (1 ∷ 1 ∷ at 0 25 ∷ 0 ∷ 0 ∷ 0 ∷ at 0 1 ∷ 0 ∷ 1 ∷ 0 ∷ 1 ∷ []) (1 ∷ 0 ∷ 0 ∷ 0 ∷ 0 ∷ []) (1 ∷ 0 ∷ 0 ∷ 0 ∷ 0 ∷ 0 ∷ [])
+    (1 ∷ 1 ∷ at 0 25 ∷ 0 ∷ 0 ∷ 0 ∷ at 0 1 ∷ 0 ∷ 1 ∷ 0 ∷ 1 ∷ []) (1 ∷ 0 ∷ 0 ∷ 0 ∷ 0 ∷ at 8 4 ∷ []) (1 ∷ 0 ∷ 0 ∷ 0 ∷ 0 ∷ 0 ∷ at 20 4 ∷ [])
 unfolding Comes
 unspaced = refl
 
@@ -80,20 +81,20 @@ unfolding Comes
 commented = refl
 
 -- the open mark swallows the line feed: one action `id` whose argument has a line feed
-pub open-mark : Refuses "SecAction \"id:1\nSecAction log" 11 (1 ∷ 0 ∷ 2 ∷ []) "id"
+pub open-mark : Refuses "SecAction \"id:1\nSecAction log" 11 (1 ∷ 0 ∷ 2 ∷ at 11 18 ∷ []) "id"
 unfolding Comes
 open-mark = refl
 
 -- why an argument is refused, with the line first: no colon; an empty argument; a number past its width
-pub absent-in : Refuses "SecAction log,SkipAfter" 10 (1 ∷ 1 ∷ 9 ∷ []) "skipAfter"
+pub absent-in : Refuses "SecAction log,SkipAfter" 10 (1 ∷ 1 ∷ 9 ∷ at 14 9 ∷ []) "skipAfter"
 unfolding Comes
 absent-in = refl
 
-pub empty-in : Refuses "\nSecAction id:" 11 (2 ∷ 0 ∷ 2 ∷ []) "id"
+pub empty-in : Refuses "\nSecAction id:" 11 (2 ∷ 0 ∷ 2 ∷ at 11 3 ∷ []) "id"
 unfolding Comes
 empty-in = refl
 
-pub large-in : Refuses "SecAction phase:256" 12 (1 ∷ 0 ∷ 5 ∷ []) "phase"
+pub large-in : Refuses "SecAction phase:256" 12 (1 ∷ 0 ∷ 5 ∷ at 10 9 ∷ []) "phase"
 unfolding Comes
 large-in = refl
 
@@ -145,27 +146,27 @@ unfolding Comes
 count-first = refl
 
 -- the first directive first
-pub text-order : Refuses "SecAction bogus\nSecRule x" 5 (1 ∷ 0 ∷ 5 ∷ []) "bogus"
+pub text-order : Refuses "SecAction bogus\nSecRule x" 5 (1 ∷ 0 ∷ 5 ∷ at 10 5 ∷ []) "bogus"
 unfolding Comes
 text-order = refl
 
 -- the operator before actions; the name's place in the argument as read
-pub operator-first : Refuses "SecRule ARGS \"@x\" x" 8 (1 ∷ 1 ∷ 1 ∷ []) ""
+pub operator-first : Refuses "SecRule ARGS \"@x\" x" 8 (1 ∷ 1 ∷ 1 ∷ at 15 1 ∷ []) ""
 unfolding Comes
 operator-first = refl
 
 -- place 3 of the argument as read: TAB `!` `@`
-pub place-as-read : Refuses "SecRule ARGS \"\\t!@x\"" 8 (1 ∷ 3 ∷ 1 ∷ []) ""
+pub place-as-read : Refuses "SecRule ARGS \"\\t!@x\"" 8 (1 ∷ 3 ∷ 1 ∷ at 18 1 ∷ []) ""
 unfolding Comes
 place-as-read = refl
 
 -- variables before the operator, in the second piece and line
-pub variable-first : Refuses "\nsecrule \"ARGS|B\" @x x" 7 (2 ∷ 1 ∷ 1 ∷ []) "B"
+pub variable-first : Refuses "\nsecrule \"ARGS|B\" @x x" 7 (2 ∷ 1 ∷ 1 ∷ at 15 1 ∷ []) "B"
 unfolding Comes
 variable-first = refl
 
 -- the line of the directive, not of the piece
-pub directive-line : Refuses "\n\nSecAction \\\n\"deny,\\\n bogus\"" 5 (3 ∷ 1 ∷ 5 ∷ []) "bogus"
+pub directive-line : Refuses "\n\nSecAction \\\n\"deny,\\\n bogus\"" 5 (3 ∷ 1 ∷ 5 ∷ at 23 5 ∷ []) "bogus"
 unfolding Comes
 directive-line = refl
 
@@ -176,7 +177,7 @@ pub running : Reads "SecRule ARGS a\nSecMarker m\nSecAction deny" (3 ∷ 1 ∷ 1
     (1 ∷ 1 ∷ at 0 14 ∷ 0 ∷ 0 ∷ 0 ∷ at 0 1 ∷ 0 ∷ 1 ∷ 0 ∷ 0
     ∷ 3 ∷ 2 ∷ at 15 11 ∷ at 1 1 ∷ 0 ∷ 0 ∷ 0 ∷ 1 ∷ 0 ∷ 0 ∷ 0
     ∷ 2 ∷ 3 ∷ at 27 14 ∷ 0 ∷ 0 ∷ 0 ∷ 0 ∷ 1 ∷ 0 ∷ 0 ∷ 1 ∷ [])
-    (1 ∷ 0 ∷ 0 ∷ 0 ∷ 0 ∷ []) (1 ∷ 0 ∷ 0 ∷ 0 ∷ 0 ∷ 0 ∷ [])
+    (1 ∷ 0 ∷ 0 ∷ 0 ∷ 0 ∷ at 8 4 ∷ []) (1 ∷ 0 ∷ 0 ∷ 0 ∷ 0 ∷ 0 ∷ at 37 4 ∷ [])
 unfolding Comes
 running = refl
 
@@ -188,10 +189,74 @@ empties = refl
 -- texts in order: `k`, the exclusion `a`, the operator's `x`, then `tx`, `y`, `1`
 pub ordered : Reads "SecRule !a|TX:k|ARGS \"!@pm x \" setvar:y" (1 ∷ 3 ∷ 1 ∷ 7 ∷ []) "kaxtxy1"
     (1 ∷ 1 ∷ at 0 39 ∷ 0 ∷ 1 ∷ 1 ∷ at 2 1 ∷ 0 ∷ 3 ∷ 0 ∷ 1 ∷ [])
-    (1 ∷ 35 ∷ 0 ∷ 1 ∷ at 0 1 ∷ 1 ∷ 0 ∷ 0 ∷ 0 ∷ 0 ∷ 2 ∷ 0 ∷ 0 ∷ 0 ∷ at 1 1 ∷ [])
-    (22 ∷ 0 ∷ at 3 2 ∷ at 5 1 ∷ 1 ∷ at 6 1 ∷ [])
+    (1 ∷ 35 ∷ 0 ∷ 1 ∷ at 0 1 ∷ at 11 4 ∷ 1 ∷ 0 ∷ 0 ∷ 0 ∷ 0 ∷ at 16 4 ∷ 2 ∷ 0 ∷ 0 ∷ 0 ∷ at 1 1 ∷ at 8 2 ∷ [])
+    (22 ∷ 0 ∷ at 3 2 ∷ at 5 1 ∷ 1 ∷ at 6 1 ∷ at 31 8 ∷ [])
 unfolding Comes
 ordered = refl
+
+-- ---- M-104: where in the package each piece stands
+
+-- the words of a SecAction on the first line alone, of so many bytes and actions
+abbrev action : ℕ → ℕ → List ℕ
+action len count = 2 ∷ 1 ∷ at 0 len ∷ 0 ∷ 0 ∷ 0 ∷ 0 ∷ 0 ∷ 0 ∷ 0 ∷ count ∷ []
+
+-- `deny` and `log`, read from this offset on, of so many bytes
+abbrev deny : ℕ → ℕ → List ℕ → List ℕ
+deny offset len r = 1 ∷ 0 ∷ 0 ∷ 0 ∷ 0 ∷ 0 ∷ at offset len ∷ r
+
+abbrev log : ℕ → ℕ → List ℕ → List ℕ
+log offset len r = 26 ∷ 0 ∷ 0 ∷ 0 ∷ 0 ∷ 0 ∷ at offset len ∷ r
+
+-- `\,` keeps its backslash, which stands in the piece before the comma
+pub kept-slash : Reads "SecAction \"msg:a\\,deny\"" (1 ∷ 0 ∷ 2 ∷ 2 ∷ []) "a\\" (action 23 2) [] (14 ∷ 0 ∷ at 0 2 ∷ 0 ∷ 0 ∷ 0 ∷ at 11 6 ∷ deny 18 4 [])
+unfolding Comes
+kept-slash = refl
+
+-- blanks that are made by escapes are trimmed
+pub escaped-blanks : Reads "SecAction \"\\tdeny\\n,log \"" (1 ∷ 0 ∷ 2 ∷ 0 ∷ []) "" (action 25 2) [] (deny 13 4 (log 20 3 []))
+unfolding Comes
+escaped-blanks = refl
+
+-- an escaped backslash and a line feed are a continuation for the normaliser
+pub slash-and-feed : Reads "SecAction \"de\\\\\n  ny\"" (1 ∷ 0 ∷ 1 ∷ 0 ∷ []) "" (action 21 1) [] (deny 11 9 [])
+unfolding Comes
+slash-and-feed = refl
+
+-- and so are an escaped backslash and an escaped line feed
+pub escaped-both : Reads "SecAction \"deny\\\\\\n,log\"" (1 ∷ 0 ∷ 2 ∷ 0 ∷ []) "" (action 24 2) [] (deny 11 4 (log 20 3 []))
+unfolding Comes
+escaped-both = refl
+
+-- an escaped mark is underlined whole
+pub escaped-marks : Reads "SecAction \"msg:\\\"a\\\"\"" (1 ∷ 0 ∷ 1 ∷ 1 ∷ []) "a" (action 21 1) [] (14 ∷ 0 ∷ at 0 1 ∷ 0 ∷ 0 ∷ 0 ∷ at 11 9 ∷ [])
+unfolding Comes
+escaped-marks = refl
+
+-- over continuations in a word, of two bytes and of three
+pub word-continued : Reads "SecAction l\\\nog,de\\\r\nny" (1 ∷ 0 ∷ 2 ∷ 0 ∷ []) "" (action 23 2) [] (log 10 5 (deny 16 7 []))
+unfolding Comes
+word-continued = refl
+
+-- a name that is empty stands behind its `@`
+pub empty-name : Refuses "SecRule ARGS \"@\"" 8 (1 ∷ 1 ∷ 0 ∷ at 15 0 ∷ []) ""
+unfolding Comes
+empty-name = refl
+
+-- a refused piece over continuations of the normaliser, and behind one of the lexer
+pub refused-behind : Refuses "SecAction \"deny,\\\n bo\\\\\n\tgus\"" 5 (1 ∷ 1 ∷ 5 ∷ at 19 9 ∷ []) "bogus"
+unfolding Comes
+refused-behind = refl
+
+-- a refused name of a variable, with its mark
+pub refused-mark : Refuses "SecRule \"ARGS|&\\\n B\" x" 7 (1 ∷ 1 ∷ 1 ∷ at 14 5 ∷ []) "B"
+unfolding Comes
+refused-mark = refl
+
+-- an exclusion is underlined with its mark
+pub excluded : Reads "SecRule \"ARGS| !a\\\n b\" x" (1 ∷ 2 ∷ 0 ∷ 3 ∷ []) "abx" (1 ∷ 1 ∷ at 0 24 ∷ 0 ∷ 0 ∷ 0 ∷ at 2 1 ∷ 0 ∷ 2 ∷ 0 ∷ 0 ∷ [])
+    (1 ∷ 0 ∷ 0 ∷ 0 ∷ 0 ∷ at 9 4 ∷ 2 ∷ 0 ∷ 0 ∷ 0 ∷ at 0 2 ∷ at 15 6 ∷ []) []
+unfolding Comes
+excluded = refl
 
 -- ---- the theorem's words
 
