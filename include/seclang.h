@@ -9,11 +9,17 @@
  * null. A bool is 0 or 1. Lengths of records and values are in words, not bytes. The library's number is the header's:
  * seclang_version() == SECLANG_VERSION.
  *
+ * WHAT IS NEW IN VERSION 3. An action record has 7 words for 6, and a variable record 6 for 5: behind the old ones
+ * stands the span in the input that it was read from. 5, 7, 8 and 10 to 12 give the span of what they refuse as one
+ * more value, the last. A host that was compiled for version 2 reads records of the wrong width and must be compiled
+ * again; one that uses SECLANG_ACTION_WORDS and SECLANG_VARIABLE_WORDS need not change. In version 2, 10 to 12 took
+ * the place of 6.
+ *
  * NUMBERS AND VALUES. A reader returns a number and stores its values at the front of `values` where they fit whole;
  * no other word of `values` is touched, and none at all where they do not fit. SECLANG_VALUES_MOST words are enough
  * for every reader. The numbers are tried in the order 1, 2, 3, 9, then 5, 7, 8 and 10 to 12 at the first bad piece,
  * then 19, then 4. In a package 5, 7, 8 and 10 to 15 come in the order of the text; of one directive 13 first, then its
- * variables, its operator and its actions. No call gives 6, which in version 1 stood for 10 to 12.
+ * variables, its operator and its actions. No call gives 6.
  *
  *   number  given exactly when                                values          text and records afterwards
  *   0       none below                                        by reader       what was read, and zeros beyond
@@ -21,42 +27,56 @@
  *   2       a byte is 128 or more                             its place       untouched
  *   3       text or scratch is shorter than the input         0               untouched
  *   4       more records than fit (a listing: more bytes)     how many        all zero
- *   5       unknown action                                    piece, length   its name in small letters and zeros; zero
- *   7       unknown variable                                  piece, length   its name as written and zeros; zero
- *   8       unknown operator                                  place, length   nothing is lent
+ *   5       unknown action                                    piece, length,  its name in small letters and zeros; zero
+ *                                                             span
+ *   7       unknown variable                                  as for 5        its name as written and zeros; zero
+ *   8       unknown operator                                  place, length,  nothing is lent
+ *                                                             span
  *   9       a cursor past the end, or a line or column that   0               untouched
  *           is 0 or above 16385
- *   10      an action that must have an argument has none     piece, length   the action's name and zeros; zero
- *   11      an argument that says no number                   piece, length   as for 10
- *   12      an argument that is a number past its width       piece, length   as for 10
+ *   10      an action that must have an argument has none     as for 5        the action's name and zeros; zero
+ *   11      an argument that says no number                   as for 5        as for 10
+ *   12      an argument that is a number past its width       as for 5        as for 10
  *   13      a directive with a wrong count of arguments       line            all zero
  *   14      a word or string that no directive takes          line            all zero
  *   15      reading stopped early, and all before is good     line            all zero
  *   19      a record that no reader makes (listings)          its number      all zero
  *
- * A place is counted from 0, and so is a piece, among those of a list that are not empty. The length is the name's.
+ * A place is counted from 0, and so is a piece, among those of a list that are not empty. The length is the name's. The
+ * span is that of the piece in the input, for an editor to underline; of 8 the name's, and where no name stands behind
+ * the `@` the place where it would, with length 0.
  * An argument stands behind a colon: `id` has none, and `id:` the empty one, which says no number. Nor does a sign
  * alone, a `-` before digits, or digits with any other byte among them, however large they are; a severity may be a
  * word of its table. Widths stand beside the actions below; a `+` before the digits does not count. A severity loses
  * the quotation marks at both ends first. The seconds of expirevar and the amounts of setvar are never refused.
  * seclang_directives gives 5, 7, 8 and 10 to 12 with the directive's line before these values; there the place of 8 is
- * in the operator's argument as it was read, 8 leaves all lent memory zero, and the values of 4 are directive, variable
- * and action records.
+ * in the operator's argument as it was read and the span in the package, 8 leaves all lent memory zero, and the values
+ * of 4 are directive, variable and action records.
  *
  * RECORDS are whole u64 words. A text is told by a span, offset * 65536 + length, the offset into `text` unless said;
  * SECLANG_SPAN_OFFSET and SECLANG_SPAN_LENGTH take it apart. Texts have no zero byte at their end.
  *
  *   token, 5 words:     kind, line, column, span in the input, text. Comments and newlines have an empty text.
- *   action, 6 words:    code, number, a, b, value kind, c. Beside each action below stands which of these it has; a, b
- *                       and c are texts, and a word that an action does not have is 0. The value is setvar's.
- *   variable, 5 words:  1, code, counted (`&`: 1, else 0), selection, text of the selection.
- *   exclusion, 5 words: 2, 0, 0, 0, text behind the `!`. They stand behind all variables; those of
+ *   action, 7 words:    code, number, a, b, value kind, c, source. Beside each action below stands which of the first
+ *                       six it has; a, b and c are texts, and a word that an action does not have is 0. The value is
+ *                       setvar's.
+ *   variable, 6 words:  1, code, counted (`&`: 1, else 0), selection, text of the selection, source.
+ *   exclusion, 6 words: 2, 0, 0, 0, text behind the `!`, source. They stand behind all variables; those of
  *                       seclang_parse_variables hold for every variable of the list.
  *   directive, 11 words: kind, line, span in the input from the first byte of its name to the last of its last
  *                       argument, name, negated (`!`: 1, else 0), operator's code, text of the operator's argument,
  *                       first variable record, variable records, first action record, action records. Beside each
  *                       kind below stands which of these it has; the last four stand for every kind, with the numbers
  *                       reached so far, and any other word is 0.
+ *
+ * A source is a span in the input: from the first byte to the last of the piece that the record was read from, blanks
+ * at both ends left out and the marks `!` and `&` included. What is taken out of a piece on the way to its text, a
+ * line's continuation above all, stays within its span. Of seclang_parse_setvar it is the input without blanks at
+ * both ends; the input's length, with length 0, where nothing is left. Of seclang_directives the input is the
+ * package, and the span runs from the byte there that the piece's first byte came from to the one that its last byte
+ * came from. Two bytes that give one, as `\"` does, are both within it; an escape that keeps its backslash gives two
+ * bytes, each from its own place: in `SecAction "msg:a\,deny"` the sources are 11 with length 6, the backslash the
+ * last, and 18 with length 4.
  *
  * HOW MUCH TO LEND. A text as long as the input is always enough (a setvar alone: three bytes more). For records,
  * SECLANG_TOKENS_MOST and the like say how many an input of n bytes can need at most: with room for these, 4 is never
@@ -81,14 +101,14 @@ extern "C" {
 /* The header's version, the longest input, a cursor's largest line and column, the code of a name that has none, the
  * base of a span, and how many words a record has. */
 /* made: sizes */
-#define SECLANG_VERSION 2
+#define SECLANG_VERSION 3
 #define SECLANG_LIMIT 16384
 #define SECLANG_CURSOR_MOST 16385
 #define SECLANG_UNKNOWN UINT64_MAX
 #define SECLANG_SPAN_BASE 65536
 #define SECLANG_TOKEN_WORDS 5
-#define SECLANG_ACTION_WORDS 6
-#define SECLANG_VARIABLE_WORDS 5
+#define SECLANG_ACTION_WORDS 7
+#define SECLANG_VARIABLE_WORDS 6
 #define SECLANG_DIRECTIVE_WORDS 11
 /* end */
 
@@ -154,6 +174,10 @@ enum seclang_directive {
     SECLANG_DIRECTIVE_UNKNOWN = 5   /* name: the directive's own, as written */
 };
 /* end */
+
+/* The places of the source in an action's record, and in that of a variable or an exclusion. */
+#define SECLANG_AT_ACTION_SOURCE (SECLANG_ACTION_WORDS - 1)
+#define SECLANG_AT_VARIABLE_SOURCE (SECLANG_VARIABLE_WORDS - 1)
 
 /* The places of the words in a directive's record. */
 enum seclang_directive_word {
@@ -443,8 +467,8 @@ uint64_t seclang_plain_tokens(const uint8_t *input, size_t input_len, uint8_t *t
  * three, a list of variables, an operator and an action list, the last of which may be left out; SecAction and
  * SecDefaultAction an action list; SecMarker a name; any other as many as there are. `scratch` too is asked to be as
  * long as the input; past the numbers 1 to 3 it is all zero. Texts stand directive by directive: the name, its
- * variables and exclusions, the operator's argument, its actions. Values with 0: directive, variable and action
- * records, bytes of text. */
+ * variables and exclusions, the operator's argument, its actions. Sources, and the spans of what is refused, are in the
+ * package. Values with 0: directive, variable and action records, bytes of text. */
 uint64_t seclang_directives(const uint8_t *input, size_t input_len, uint8_t *text, size_t text_len, uint8_t *scratch,
                             size_t scratch_len, uint64_t *directives, size_t directives_len, uint64_t *variables,
                             size_t variables_len, uint64_t *actions, size_t actions_len, uint64_t *values,
@@ -452,13 +476,14 @@ uint64_t seclang_directives(const uint8_t *input, size_t input_len, uint8_t *tex
 
 /* An action list, as the text of its string token has it. Numbers 0 to 5 and 10 to 12. `scratch` too is asked to be
  * as long as the input; past the numbers 1 to 3 it holds the list without its line continuations and then zeros,
- * refused or not. Values with 0: records, bytes of text. */
+ * refused or not. Sources are in the list as it is given, continuations and all. Values with 0: records, bytes of
+ * text. */
 uint64_t seclang_parse_actions(const uint8_t *input, size_t input_len, uint8_t *text, size_t text_len, uint8_t *scratch,
                                size_t scratch_len, uint64_t *records, size_t records_len, uint64_t *values,
                                size_t values_len);
 
-/* A setvar alone, what stands behind `setvar:`: one action record. Numbers 0 to 4. `text` is asked to be three bytes
- * longer than the input. Values with 0: 1, bytes of text. */
+/* A setvar alone, what stands behind `setvar:`: one action record, whose source is the input without blanks at both
+ * ends. Numbers 0 to 4. `text` is asked to be three bytes longer than the input. Values with 0: 1, bytes of text. */
 uint64_t seclang_parse_setvar(const uint8_t *input, size_t input_len, uint8_t *text, size_t text_len, uint64_t *records,
                               size_t records_len, uint64_t *values, size_t values_len);
 
@@ -471,7 +496,7 @@ uint64_t seclang_parse_update_targets(const uint8_t *input, size_t input_len, ui
                                       uint64_t *records, size_t records_len, uint64_t *values, size_t values_len);
 
 /* An operator. Numbers 0 to 2 and 8. Values with 0: negated, code, and where its argument stands in the input and how
- * long it is. */
+ * long it is; with 8: where its name stands and how long it is, and the same as a span. */
 uint64_t seclang_parse_operator(const uint8_t *input, size_t input_len, uint64_t *values, size_t values_len);
 
 /* A name's code in a table, by an enum seclang_table; SECLANG_UNKNOWN where it has none, and in any other table. */
