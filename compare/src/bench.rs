@@ -6,7 +6,7 @@ use crate::parser::lexer::{Lexer, TokenKind};
 use crate::parser::operator::{parse_operator, OperatorName};
 use crate::parser::variable::{parse_update_targets, parse_variables, VariableName};
 use crate::readers::Reader;
-use crate::{directives, original, ours, real};
+use crate::{directives, original, ours, real, underlined};
 use std::hint::black_box;
 use std::path::PathBuf;
 
@@ -101,7 +101,7 @@ type Needs = [usize; 3];
 impl Room {
     fn new() -> Self {
         let (bytes, words) = (|| vec![1; 16_400], |n| vec![1; n]);
-        Room { text: bytes(), scratch: bytes(), records: words(45_056), variables: words(40_960), actions: words(32_768), values: [0; 16] }
+        Room { text: bytes(), scratch: bytes(), records: words(45_056), variables: words(49_152), actions: words(38_234), values: [0; 16] }
     }
 }
 
@@ -193,8 +193,8 @@ fn target_rows(inputs: &Inputs) -> Vec<Row<'_>> {
     let by_variables = |text: &str| drop(black_box(parse_variables(text)));
     let by_updates = |text: &str| drop(black_box(parse_update_targets(text)));
     let (plain, excluding) = (&inputs.plain, &inputs.excluding);
-    let (of_plain, of_excluding) = (needs(plain, original::parsed_variables), needs(excluding, original::parsed_variables));
-    let of_updates = needs(excluding, original::parsed_updates);
+    let (of_plain, of_excluding) = (needs(plain, underlined::variables), needs(excluding, underlined::variables));
+    let of_updates = needs(excluding, underlined::updates);
     vec![
         Row { name: "parse_variables", inputs: plain, words: of_plain, ours: variables, original: by_variables },
         Row { name: "parse_variables-excluding", inputs: excluding, words: of_excluding, ours: variables, original: by_variables },
@@ -208,7 +208,7 @@ fn rows<'a>(inputs: &'a Inputs, names: &'a [Vec<String>; 2]) -> Vec<Row<'a>> {
     all.push(Row {
         name: "parse_actions",
         inputs: &inputs.actions,
-        words: needs(&inputs.actions, original::actions),
+        words: needs(&inputs.actions, underlined::actions),
         ours: listed,
         original: |text| drop(black_box(parse_actions(text))),
     });

@@ -269,7 +269,7 @@ pub const RULES: &[(Reader, &str)] = &[
 #[cfg(test)]
 mod tests {
     use super::{Set, ACTIONS, ACTION_NAMES};
-    use crate::original;
+    use crate::underlined;
 
     /// Actions by name come to every flaw of an argument within as many pieces as a quick run has.
     #[test]
@@ -277,7 +277,7 @@ mod tests {
         for alphabet in [ACTIONS, ACTION_NAMES] {
             let mut counts = [0; 13];
             Set { readers: &[], alphabet, quick: 0, full: 0 }.each(3, &mut |text| {
-                let number = original::actions(std::str::from_utf8(text).expect("ASCII")).number;
+                let number = underlined::actions(std::str::from_utf8(text).expect("ASCII")).number;
                 counts[number as usize] += 1;
                 true
             });

@@ -3,8 +3,10 @@
 use crate::lent::{After, Lent};
 use crate::original::{self, Cursor, Outcome, LIMIT};
 use crate::ours;
-use crate::readers::{sized, Reader, Shape, READERS, SHAPES};
+use crate::readers::{sized, Reader, Shape, ACTION_WORDS, READERS, SHAPES, TOKEN_WORDS, VARIABLE_WORDS};
+use crate::underlined;
 
+mod alone;
 mod packages;
 
 pub struct Checker {
@@ -53,7 +55,7 @@ fn grade(words: &[u64]) -> bool {
         18 | 19 => (1..=9).contains(&record[1]),
         _ => true,
     };
-    words.chunks_exact(6).all(fine) && words.chunks_exact(6).filter(|record| record[0] == 11).count() <= 1
+    words.chunks_exact(ACTION_WORDS).all(fine) && words.chunks_exact(ACTION_WORDS).filter(|record| record[0] == 11).count() <= 1
 }
 
 impl Checker {
@@ -122,8 +124,8 @@ impl Checker {
         let shape = self.count(Reader::Tokens);
         self.counts[Reader::PlainTokens as usize] += 1;
         let o = readable(input).map(original::tokens).unwrap_or_default();
-        self.fills_as(shape, input, &o, 5, 0, ours::tokens)?;
-        self.fills_as(shape, input, &o, 5, 0, ours::plain_tokens).map_err(|e| format!("the plain lexer: {e}"))
+        self.fills_as(shape, input, &o, TOKEN_WORDS, 0, ours::tokens)?;
+        self.fills_as(shape, input, &o, TOKEN_WORDS, 0, ours::plain_tokens).map_err(|e| format!("the plain lexer: {e}"))
     }
 
     fn fills_as(&mut self, shape: Shape, input: &[u8], o: &Outcome, width: usize, more: usize, call: ours::Filler) -> Checked {
@@ -135,13 +137,13 @@ impl Checker {
 
     fn actions(&mut self, input: &[u8]) -> Checked {
         let shape = self.count(Reader::Actions);
-        let o = readable(input).map(original::actions).unwrap_or_default();
+        let o = readable(input).map(underlined::actions).unwrap_or_default();
         let (n, k) = (sized(input.len(), shape.text), sized(input.len(), shape.scratch));
         let (m, v) = (sized(o.words.len(), shape.records), sized(o.values.len(), shape.values));
         let got = ours::parse_actions(input, self.text.lend(n), self.scratch.lend(k), self.records.lend(m), self.values.lend(v));
         let refused = gate(input, n.min(k), input.len());
         let lent = |e| format!("{e}; lent {n} and {k} bytes, {m} and {v} words");
-        self.filled(refused, &o, 6, got, v, m).map_err(lent)?;
+        self.filled(refused, &o, ACTION_WORDS, got, v, m).map_err(lent)?;
         let text = readable(input).map(original::normalised).unwrap_or_default();
         let scratch = if refused.is_some() { After::Untouched } else { After::Padded(text.as_bytes()) };
         if !self.scratch.is(scratch) {
@@ -172,7 +174,7 @@ impl Checker {
 
     fn operator(&mut self, input: &[u8]) -> Checked {
         let shape = self.count(Reader::Operator);
-        let o = readable(input).map(original::operator).unwrap_or_default();
+        let o = readable(input).map(underlined::operator).unwrap_or_default();
         let v = sized(o.values.len(), shape.values);
         let got = ours::parse_operator(input, self.values.lend(v));
         match gate(input, 0, 0) {
@@ -245,7 +247,8 @@ impl Checker {
         let shape = self.count(Reader::ListText);
         let o = readable(input).map(original::tokens).unwrap_or_default();
         let (n, m, v) = (sized(input.len(), shape.text), sized(o.words.len(), shape.records), sized(1, shape.values));
-        let refused = gate(input, n, input.len()).or((m / 5 < o.words.len() / 5).then_some((4, o.words.len() as u64 / 5)));
+        let refused = gate(input, n, input.len())
+            .or((m / TOKEN_WORDS < o.words.len() / TOKEN_WORDS).then_some((4, (o.words.len() / TOKEN_WORDS) as u64)));
         let (rows, early) = readable(input).map(original::listing).unwrap_or_default();
         let line = refused.map_or(format!("{rows}\n"), |(number, place)| format!("[{number},{place}]\n"));
         let k = sized(line.len(), shape.scratch);
@@ -270,9 +273,9 @@ impl Checker {
             return Ok(());
         }
         let shape = self.count(Reader::WriteListing);
-        let (mut words, count) = (o.words.clone(), o.words.len() / 5);
+        let (mut words, count) = (o.words.clone(), o.words.len() / TOKEN_WORDS);
         let bad = self.shape % count;
-        words[bad * 5] = [0, 6, u64::MAX][self.shape % 3];
+        words[bad * TOKEN_WORDS] = [0, 6, u64::MAX][self.shape % 3];
         let (k, v) = (sized(20, shape.scratch), sized(1, shape.values));
         let got = ours::write_listing(&words, &o.texts, None, self.out.lend(k), self.values.lend(v));
         self.told(got, 19, &[bad as u64], v)?;
@@ -319,7 +322,7 @@ impl Checker {
     pub fn words(&mut self, words: &[u64]) -> Checked {
         self.counts[Reader::Phase as usize] += 1;
         self.counts[Reader::Grade as usize] += 1;
-        let phase = words.chunks_exact(6).find(|record| record[0] == 12).map_or(2, |record| record[1]);
+        let phase = words.chunks_exact(ACTION_WORDS).find(|record| record[0] == 12).map_or(2, |record| record[1]);
         if ours::phase(words) != phase || ours::grade(words) != grade(words) {
             return Err(format!("phase {} and grade {}, not {phase} and {}", ours::phase(words), ours::grade(words), grade(words)));
         }
@@ -331,15 +334,15 @@ impl Checker {
             Reader::NextToken => self.steps(input),
             Reader::Tokens | Reader::PlainTokens => self.lexers(input),
             Reader::Actions | Reader::Phase | Reader::Grade => self.actions(input),
-            Reader::Setvar => self.fills(reader, input, original::setvar, 6, 3, ours::parse_setvar),
-            Reader::Variables => self.fills(reader, input, original::parsed_variables, 5, 0, ours::parse_variables),
-            Reader::Updates => self.fills(reader, input, original::parsed_updates, 5, 0, ours::parse_update_targets),
+            Reader::Setvar => self.fills(reader, input, underlined::setvar, ACTION_WORDS, 3, ours::parse_setvar),
+            Reader::Variables => self.fills(reader, input, underlined::variables, VARIABLE_WORDS, 0, ours::parse_variables),
+            Reader::Updates => self.fills(reader, input, underlined::updates, VARIABLE_WORDS, 0, ours::parse_update_targets),
             Reader::Operator => self.operator(input),
             Reader::Lookup => self.lookups(input),
             Reader::XmlTarget => self.xml(input),
             Reader::ListText | Reader::WriteListing => self.listing(input),
             Reader::Directives => self.packages(input),
-            Reader::Test | Reader::Matches | Reader::WriteRefusal => unreachable!("these take no text"),
+            Reader::Test | Reader::Matches | Reader::WriteRefusal | Reader::Underlined => unreachable!("these take no text"),
         }
     }
 

@@ -7,9 +7,12 @@ use crate::parser::directive::{Directive, SecAction, SecMarker, SecRule};
 use crate::parser::lexer::{Lexer, Token, TokenKind};
 use crate::parser::operator::parse_operator;
 use crate::parser::variable::parse_variables;
+use crate::readers::{ACTION_WORDS, DIRECTIVE_WORDS, VARIABLE_WORDS};
+use crate::sources::{self, Came};
+use crate::underlined;
 
 /// Words of a directive, a variable and an action record.
-pub const WIDTHS: [usize; 3] = [11, 5, 6];
+pub const WIDTHS: [usize; 3] = [DIRECTIVE_WORDS, VARIABLE_WORDS, ACTION_WORDS];
 
 /// What a package comes to past the checks on it, with room for all: number, values, texts or the name, and three lists of records.
 #[derive(Clone, Debug, Default, PartialEq)]
@@ -50,21 +53,21 @@ impl Package {
     }
 }
 
-/// A token of the original's, its text, and where it stands.
+/// A token of the original's, its text, and where it stands in the package.
 struct Piece<'a> {
     kind: u64,
     line: u64,
-    first: u64,
-    past: u64,
+    first: usize,
+    past: usize,
     text: &'a str,
+    package: &'a [u8],
 }
 
 impl<'a> Piece<'a> {
-    fn of(record: &[u64], texts: &'a str) -> Self {
-        let halves = |word: u64| (word / 65_536, word % 65_536);
+    fn of(record: &[u64], texts: &'a str, package: &'a [u8]) -> Self {
+        let halves = |word: u64| ((word / 65_536) as usize, (word % 65_536) as usize);
         let ((first, len), (offset, size)) = (halves(record[3]), halves(record[4]));
-        let text = &texts[offset as usize..(offset + size) as usize];
-        Piece { kind: record[0], line: record[1], first, past: first + len, text }
+        Piece { kind: record[0], line: record[1], first, past: first + len, text: &texts[offset..offset + size], package }
     }
 
     fn is_directive(&self) -> bool {
@@ -74,6 +77,12 @@ impl<'a> Piece<'a> {
     /// A Word or a QuotedString.
     fn is_argument(&self) -> bool {
         self.kind == 2 || self.kind == 3
+    }
+
+    /// Where each byte of an argument's text came from.
+    fn came(&self) -> Vec<Came> {
+        let walk = if self.kind == 2 { sources::of_word } else { sources::of_string };
+        walk(self.package, self.first, self.past)
     }
 }
 
@@ -86,20 +95,20 @@ struct Joined {
 
 impl Joined {
     fn variables(&mut self, line: u64, list: &Piece) -> Result<(), Package> {
-        original::variables_behind(&mut self.out, list.text).map_err(|told| Package::of_argument(line, told))?;
+        underlined::variables_behind(&mut self.out, list.text, &list.came()).map_err(|told| Package::of_argument(line, told))?;
         self.package.variables.append(&mut self.out.words);
         Ok(())
     }
 
     fn actions(&mut self, line: u64, list: &Piece) -> Result<(), Package> {
-        original::actions_behind(&mut self.out, list.text).map_err(|told| Package::of_argument(line, told))?;
+        underlined::actions_behind(&mut self.out, list.text, &list.came()).map_err(|told| Package::of_argument(line, told))?;
         self.package.actions.append(&mut self.out.words);
         Ok(())
     }
 
     /// Negated, code, and its argument as a text.
     fn operator(&mut self, line: u64, said: &Piece) -> Result<[u64; 3], Package> {
-        let told = original::operator(said.text);
+        let told = underlined::operator_in(said.text, &said.came());
         let [negated, code, place, len] = told.values[..] else { return Err(Package::of_argument(line, told)) };
         Ok([negated, code, self.out.push(&said.text[place as usize..(place + len) as usize])])
     }
@@ -134,7 +143,7 @@ impl Joined {
         };
         let past = arguments.last().unwrap_or(token).past;
         let [_, variables, actions] = self.package.counts();
-        self.package.directives.extend([kind, line, token.first * 65_536 + past - token.first, name]);
+        self.package.directives.extend([kind, line, sources::span(token.first, past), name]);
         self.package.directives.extend(operator);
         self.package.directives.extend([variable, variables - variable, action, actions - action]);
         Ok(())
@@ -151,7 +160,7 @@ impl Joined {
 pub fn read(text: &str) -> Package {
     let lexed = original::tokens(text);
     let texts = std::str::from_utf8(&lexed.texts).expect("ASCII");
-    let pieces: Vec<Piece> = lexed.words.chunks_exact(5).map(|record| Piece::of(record, texts)).collect();
+    let pieces: Vec<Piece> = lexed.words.chunks_exact(5).map(|record| Piece::of(record, texts, text.as_bytes())).collect();
     let (mut joined, mut rest) = (Joined::default(), &pieces[..]);
     while let [piece, behind @ ..] = rest {
         rest = behind;

@@ -1,5 +1,10 @@
 //! The edges of whole directives, each with what comes out; the model is held to them, and the stored answers begin with them.
 
+/// A span word, counted by hand.
+const fn span(offset: u64, len: u64) -> u64 {
+    offset * 65_536 + len
+}
+
 /// A package, its number and values, and what stands in text: texts, or the name after 5, 7 and 10 to 12.
 pub type Edge = (&'static str, u64, &'static [u64], &'static str);
 
@@ -9,7 +14,7 @@ pub const EDGES: &[Edge] = &[
     ("SecAction deny SecAction log", 13, &[1], ""),
     ("SecRule ARGS\"@rx a\"\"deny\"", 0, &[1, 1, 1, 1], "a"),
     ("SecRule ARGS \"@rx a\" \\\n# why\n\"deny\"", 14, &[3], ""),
-    ("SecAction \"id:1\nSecAction log", 11, &[1, 0, 2], "id"),
+    ("SecAction \"id:1\nSecAction log", 11, &[1, 0, 2, span(11, 18)], "id"),
     ("\\SecMarker x", 14, &[1], ""),
     ("sec", 0, &[1, 0, 0, 3], "sec"),
     ("IncludeOptional x", 14, &[1], ""),
@@ -18,10 +23,10 @@ pub const EDGES: &[Edge] = &[
     ("SecRule ARGS\x0c", 13, &[1], ""),
     ("SecAction deny\x0c", 15, &[1], ""),
     ("SecRule x\nSecAction bogus", 13, &[1], ""),
-    ("SecAction bogus\nSecRule x", 5, &[1, 0, 5], "bogus"),
-    ("SecRule ARGS \"@x\" x", 8, &[1, 1, 1], ""),
-    ("SecRule ARGS \"\\t!@x\"", 8, &[1, 3, 1], ""),
-    ("\n\nSecAction \\\n\"deny,\\\n bogus\"", 5, &[3, 1, 5], "bogus"),
+    ("SecAction bogus\nSecRule x", 5, &[1, 0, 5, span(10, 5)], "bogus"),
+    ("SecRule ARGS \"@x\" x", 8, &[1, 1, 1, span(15, 1)], ""),
+    ("SecRule ARGS \"\\t!@x\"", 8, &[1, 3, 1, span(18, 1)], ""),
+    ("\n\nSecAction \\\n\"deny,\\\n bogus\"", 5, &[3, 1, 5, span(23, 5)], "bogus"),
     // records and texts
     ("SecRule ARGS a\nSecMarker m\nSecAction deny", 0, &[3, 1, 1, 2], "am"),
     ("SecRule \"\" \"\"", 0, &[1, 0, 0, 0], ""),
@@ -29,14 +34,14 @@ pub const EDGES: &[Edge] = &[
     // a phase is a number: 5 is the manual's last, any byte is read, and the word for 5 is none
     ("SecAction phase:5", 0, &[1, 0, 1, 0], ""),
     ("SecAction phase:100", 0, &[1, 0, 1, 0], ""),
-    ("SecAction phase:logging", 11, &[1, 0, 5], "phase"),
+    ("SecAction phase:logging", 11, &[1, 0, 5, span(10, 13)], "phase"),
     // real rules: a quotation mark outside of a string ends a word, and an id in marks is no number
     ("SecRule &TX:'/a/' \"@gt 0\" deny", 13, &[1], ""),
-    ("SecAction \"phase:1,id:'1'\"", 11, &[1, 1, 2], "id"),
+    ("SecAction \"phase:1,id:'1'\"", 11, &[1, 1, 2, span(19, 6)], "id"),
     // our own: nothing, letter cases, other names, both ends of a line, what a stop and a comment end
     ("", 0, &[0, 0, 0, 0], ""),
     (" \t\r\n# x\n", 0, &[0, 0, 0, 0], ""),
-    ("sEcRuLe args 1\nSECMARKER M\nsecdefaultaction LOG\nSecAction T", 5, &[4, 0, 1], "t"),
+    ("sEcRuLe args 1\nSECMARKER M\nsecdefaultaction LOG\nSecAction T", 5, &[4, 0, 1, span(58, 1)], "t"),
     ("SecRuleEngine On\nInclude \"a b\" c", 0, &[2, 0, 0, 20], "SecRuleEngineInclude"),
     ("SecRules a b c d", 0, &[1, 0, 0, 8], "SecRules"),
     ("SecMarker", 13, &[1], ""),
@@ -55,13 +60,13 @@ pub const EDGES: &[Edge] = &[
     ("\x0c", 15, &[1], ""),
     ("SecMarker a\n\n \x0bx", 15, &[3], ""),
     ("SecMarker a\nx\x0c", 14, &[2], ""),
-    ("SecAction bogus\x0c", 5, &[1, 0, 5], "bogus"),
-    ("SecRule nope @x bogus", 7, &[1, 0, 4], "nope"),
-    ("SecRule TX|!z|TX:|Nope:q a", 7, &[1, 3, 4], "Nope"),
+    ("SecAction bogus\x0c", 5, &[1, 0, 5, span(10, 5)], "bogus"),
+    ("SecRule nope @x bogus", 7, &[1, 0, 4, span(8, 4)], "nope"),
+    ("SecRule TX|!z|TX:|Nope:q a", 7, &[1, 3, 4, span(18, 6)], "Nope"),
     ("SecRule !x a", 0, &[1, 0, 0, 1], "a"),
-    ("SecRule TX a SkipAfter", 10, &[1, 0, 9], "skipAfter"),
-    ("SecRule ARGS @", 8, &[1, 1, 0], ""),
-    ("SecRule ARGS \" ! @rx\x0ba\"", 8, &[1, 4, 4], ""),
+    ("SecRule TX a SkipAfter", 10, &[1, 0, 9, span(13, 9)], "skipAfter"),
+    ("SecRule ARGS @", 8, &[1, 1, 0, span(14, 0)], ""),
+    ("SecRule ARGS \" ! @rx\x0ba\"", 8, &[1, 4, 4, span(18, 4)], ""),
     ("Sec\\\nRule ARGS a", 0, &[1, 1, 0, 1], "a"),
     ("Sec\\\n Action log", 0, &[1, 0, 0, 3], "Sec"),
     ("Sec\\\n SecAction log", 0, &[2, 0, 1, 3], "Sec"),
@@ -76,43 +81,93 @@ pub const EDGES: &[Edge] = &[
 
 /// Arguments of actions that are refused, and beside them what is not; the stored questions have these behind all others.
 pub const FLAWED: &[Edge] = &[
-    ("SecAction id", 10, &[1, 0, 2], "id"),
-    ("SecAction id:", 11, &[1, 0, 2], "id"),
-    ("SecAction id:-99999999999999999999", 11, &[1, 0, 2], "id"),
-    ("SecAction id:99999999999999999999x", 11, &[1, 0, 2], "id"),
-    ("SecAction log,SkipAfter", 10, &[1, 1, 9], "skipAfter"),
+    ("SecAction id", 10, &[1, 0, 2, span(10, 2)], "id"),
+    ("SecAction id:", 11, &[1, 0, 2, span(10, 3)], "id"),
+    ("SecAction id:-99999999999999999999", 11, &[1, 0, 2, span(10, 24)], "id"),
+    ("SecAction id:99999999999999999999x", 11, &[1, 0, 2, span(10, 24)], "id"),
+    ("SecAction log,SkipAfter", 10, &[1, 1, 9, span(14, 9)], "skipAfter"),
     ("SecAction expirevar:a=99999999999999999999,setvar:b=+99999999999999999999", 0, &[1, 0, 2, 4], "atxb"),
-    ("SecAction id:+99999999999999999999", 12, &[1, 0, 2], "id"),
-    ("SecAction skip:+", 11, &[1, 0, 4], "skip"),
-    ("SecAction phase:256", 12, &[1, 0, 5], "phase"),
-    ("SecAction severity:300", 12, &[1, 0, 8], "severity"),
-    ("SecAction \"severity:'300'\"", 12, &[1, 0, 8], "severity"),
-    ("SecAction \"severity:''\"", 11, &[1, 0, 8], "severity"),
-    ("SecAction severity:fatal", 11, &[1, 0, 8], "severity"),
-    ("SecDefaultAction \"phase:1,redirect\"", 10, &[1, 1, 8], "redirect"),
-    ("\nSecRule TX a \"deny,,\\\n log, status:065536\"", 12, &[2, 2, 6], "status"),
+    ("SecAction id:+99999999999999999999", 12, &[1, 0, 2, span(10, 24)], "id"),
+    ("SecAction skip:+", 11, &[1, 0, 4, span(10, 6)], "skip"),
+    ("SecAction phase:256", 12, &[1, 0, 5, span(10, 9)], "phase"),
+    ("SecAction severity:300", 12, &[1, 0, 8, span(10, 12)], "severity"),
+    ("SecAction \"severity:'300'\"", 12, &[1, 0, 8, span(11, 14)], "severity"),
+    ("SecAction \"severity:''\"", 11, &[1, 0, 8, span(11, 11)], "severity"),
+    ("SecAction severity:fatal", 11, &[1, 0, 8, span(10, 14)], "severity"),
+    ("SecDefaultAction \"phase:1,redirect\"", 10, &[1, 1, 8, span(26, 8)], "redirect"),
+    ("\nSecRule TX a \"deny,,\\\n log, status:065536\"", 12, &[2, 2, 6, span(29, 13)], "status"),
     // the first of two, and what comes before and behind it in one directive
-    ("SecAction id:1x\nSecAction id", 11, &[1, 0, 2], "id"),
-    ("SecRule ARGS @x id", 8, &[1, 1, 1], ""),
+    ("SecAction id:1x\nSecAction id", 11, &[1, 0, 2, span(10, 5)], "id"),
+    ("SecRule ARGS @x id", 8, &[1, 1, 1, span(14, 1)], ""),
     ("SecAction id log", 13, &[1], ""),
-    ("SecAction phase:300\x0c", 12, &[1, 0, 5], "phase"),
+    ("SecAction phase:300\x0c", 12, &[1, 0, 5, span(10, 9)], "phase"),
+];
+
+/// Pieces that are refused where the lexer or the normaliser took something out, or where no byte is to be underlined; in the stored
+/// questions behind those.
+pub const REFUSED: &[Edge] = &[
+    ("SecAction \"\\\"a\\\",deny\"", 5, &[1, 0, 3, span(11, 5)], "\"a\""),
+    ("SecAction \"log,\\x\"", 5, &[1, 1, 2, span(15, 2)], "\\x"),
+    ("SecAction \"log,\\tid\\\\\n :x \"", 11, &[1, 1, 2, span(17, 8)], "id"),
+    ("SecAction log,\\\r\nI\\\nD", 10, &[1, 1, 2, span(17, 4)], "id"),
+    ("SecRule TX|!x|&\\\nnope a", 7, &[1, 2, 4, span(14, 7)], "nope"),
+    ("SecRule \" &nope:k \" a", 7, &[1, 0, 4, span(10, 7)], "nope"),
+    ("SecRule ARGS \"@\\\"\"", 8, &[1, 1, 1, span(15, 2)], ""),
+    ("SecRule ARGS \"@a\\\n  b c\"", 8, &[1, 1, 2, span(15, 6)], ""),
+    ("SecRule ARGS \"\\t@ x\"", 8, &[1, 2, 0, span(17, 0)], ""),
+    ("SecRule ARGS '@\\\n'", 8, &[1, 1, 0, span(15, 0)], ""),
+];
+
+/// A package that is read, and the offset and length of what each variable and each action record was read from.
+pub type Underlined = (&'static str, &'static [(u64, u64)], &'static [(u64, u64)]);
+
+/// Pieces that are awkward to underline; the stored questions end with these.
+pub const UNDERLINED: &[Underlined] = &[
+    // a kept backslash has its own place, an escape that is read is two bytes
+    ("SecAction \"msg:a\\,deny\"", &[], &[(11, 6), (18, 4)]),
+    ("SecAction \"\\tdeny\\n,log \"", &[], &[(13, 4), (20, 3)]),
+    ("SecAction \"msg:\\\"a\\\"\"", &[], &[(11, 9)]),
+    ("SecAction \"msg:it\\'s,deny\"", &[], &[(11, 14)]),
+    ("SecAction \"\\\\\n\\\\\n deny\"", &[], &[(18, 4)]),
+    // what the normaliser takes out, written and by escapes
+    ("SecAction \"de\\\\\n  ny\"", &[], &[(11, 9)]),
+    ("SecAction \"deny\\\\\\n,log\"", &[], &[(11, 4), (20, 3)]),
+    ("SecAction \"de\\\\\\r\\tny,log\"", &[], &[(11, 10), (22, 3)]),
+    // what the lexer takes out, in marks and in a word
+    ("SecAction \"de\\\n  ny\"", &[], &[(11, 8)]),
+    ("SecAction \"deny\\\r\n\t ,log\"", &[], &[(11, 4), (21, 3)]),
+    ("SecAction \\\n  \"deny,\\\n    log\"", &[], &[(15, 4), (26, 3)]),
+    ("SecAction de\\\nny,\\\r\nlog", &[], &[(10, 6), (20, 3)]),
+    ("SecAction deny\\\n", &[], &[(10, 4)]),
+    // blanks at both ends, marks of targets, exclusions behind all variables
+    ("SecAction \" deny , log \"", &[], &[(12, 4), (19, 3)]),
+    ("SecRule \"!a| &TX:k |ARGS\" a", &[(13, 5), (20, 4), (9, 2)], &[]),
+    ("SecRule \"\\t!\\\"|\\nTX:\\\"\" a", &[(17, 5), (11, 3)], &[]),
+    ("SecRule A\\\nRGS|!T\\\nX a", &[(8, 6), (15, 5)], &[]),
+    ("SecRule !a a", &[], &[]),
+    // other lines, no mark at the end, and nothing at all
+    ("SecMarker m\nSecAction log\n\nSecRule TX|IP a \"t:a,t:b\"", &[(35, 2), (38, 2)], &[(22, 3), (44, 3), (48, 3)]),
+    ("SecAction \"deny,log\\", &[], &[(11, 4), (16, 3)]),
+    ("SecAction \" \\t,\\\n \"", &[], &[]),
 ];
 
 pub fn all() -> impl Iterator<Item = &'static Edge> {
-    EDGES.iter().chain(FLAWED)
+    EDGES.iter().chain(FLAWED).chain(REFUSED)
+}
+
+/// Every package here.
+pub fn packages() -> impl Iterator<Item = &'static str> {
+    all().map(|edge| edge.0).chain(UNDERLINED.iter().map(|edge| edge.0))
 }
 
 #[cfg(test)]
 mod tests {
-    use super::all;
+    use super::{all, span, UNDERLINED};
     use crate::directives::{self, Package};
+    use crate::readers::{ACTION_WORDS, VARIABLE_WORDS};
 
     fn words(list: &[u64], record: usize, width: usize) -> &[u64] {
         &list[record * width..(record + 1) * width]
-    }
-
-    fn span(offset: u64, len: u64) -> u64 {
-        offset * 65_536 + len
     }
 
     #[test]
@@ -123,6 +178,18 @@ mod tests {
             assert_eq!(read.texts, text.as_bytes(), "{input:?}");
             let empty = read.directives.is_empty() && read.variables.is_empty() && read.actions.is_empty();
             assert!(read.number == 0 || empty, "{input:?}");
+        }
+    }
+
+    #[test]
+    fn each_piece_is_underlined() {
+        for (input, variables, actions) in UNDERLINED {
+            let read = directives::read(input);
+            assert_eq!(read.number, 0, "{input:?}");
+            let sources = |words: &[u64], width: usize| words.chunks_exact(width).map(|record| record[width - 1]).collect::<Vec<_>>();
+            let by_hand = |list: &[(u64, u64)]| list.iter().map(|(offset, len)| span(*offset, *len)).collect::<Vec<_>>();
+            assert_eq!(sources(&read.variables, VARIABLE_WORDS), by_hand(variables), "{input:?}");
+            assert_eq!(sources(&read.actions, ACTION_WORDS), by_hand(actions), "{input:?}");
         }
     }
 
@@ -145,25 +212,25 @@ mod tests {
     fn texts_stand_in_order() {
         let read = directives::read("SecRule !a|TX:k|ARGS \"!@pm x \" setvar:y");
         assert_eq!(read.directives, [1, 1, span(0, 39), 0, 1, 1, span(2, 1), 0, 3, 0, 1]);
-        assert_eq!(words(&read.variables, 0, 5)[4], span(0, 1));
-        assert_eq!(words(&read.variables, 2, 5), [2, 0, 0, 0, span(1, 1)]);
-        assert_eq!(read.actions, [22, 0, span(3, 2), span(5, 1), 1, span(6, 1)]);
+        assert_eq!(words(&read.variables, 0, VARIABLE_WORDS)[4..], [span(0, 1), span(11, 4)]);
+        assert_eq!(words(&read.variables, 2, VARIABLE_WORDS), [2, 0, 0, 0, span(1, 1), span(8, 2)]);
+        assert_eq!(read.actions, [22, 0, span(3, 2), span(5, 1), 1, span(6, 1), span(31, 8)]);
         let empty = directives::read("SecRule \"\" \"\"");
         assert_eq!(empty.directives, [1, 1, span(0, 13), 0, 0, 0, 0, 0, 0, 0, 0]);
         // an empty text that is there has the offset reached, one that is not is 0
         let behind = directives::read("SecMarker ab\nSecAction msg,deny\nSecMarker ''");
-        assert_eq!((behind.actions[2], behind.actions[8], behind.directives[25]), (span(2, 0), 0, span(2, 0)));
+        assert_eq!((behind.actions[2], behind.actions[9], behind.directives[25]), (span(2, 0), 0, span(2, 0)));
     }
 
     #[test]
     fn room_is_judged_last_with_all_counts() {
         let read = || directives::read("SecRule ARGS a deny");
         let none = Package { number: 4, values: vec![1, 1, 1], ..Package::default() };
-        assert_eq!(read().within([11, 4, 6]), none);
-        assert_eq!(read().within([10, 5, 6]), none);
-        assert_eq!(read().within([11, 5, 5]), none);
+        assert_eq!(read().within([11, 5, 7]), none);
+        assert_eq!(read().within([10, 6, 7]), none);
+        assert_eq!(read().within([11, 6, 6]), none);
         assert_eq!(read().within([0, 0, 0]), none);
-        assert_eq!(read().within([11, 5, 6]), read());
+        assert_eq!(read().within([11, 6, 7]), read());
         assert_eq!(directives::read("SecRule x").within([0, 0, 0]).number, 13);
         assert_eq!(directives::read("").within([0, 0, 0]).number, 0);
     }

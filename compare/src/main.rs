@@ -15,7 +15,9 @@ mod packages;
 mod readers;
 mod real;
 mod run;
+mod sources;
 mod stored;
+mod underlined;
 
 use std::path::PathBuf;
 

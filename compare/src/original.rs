@@ -1,4 +1,4 @@
-//! What the original gives, as document 01's numbers, values, texts and records.
+//! What the original gives, as document 01's numbers, values, texts and records; the original knows no spans of actions and variables.
 
 use crate::error::{Error, SourceLocation};
 use crate::flaws::{self, SEVERITIES};
@@ -234,19 +234,6 @@ pub fn actions_behind(out: &mut Outcome, text: &str) -> Result<usize, Outcome> {
     }
 }
 
-/// A reader's own outcome, where its records stand first.
-fn alone(behind: impl Fn(&mut Outcome) -> Result<usize, Outcome>) -> Outcome {
-    let mut out = Outcome::default();
-    match behind(&mut out) {
-        Ok(count) => Outcome { values: vec![count as u64, out.texts.len() as u64], ..out },
-        Err(refused) => refused,
-    }
-}
-
-pub fn actions(text: &str) -> Outcome {
-    alone(|out| actions_behind(out, text))
-}
-
 pub fn setvar(text: &str) -> Outcome {
     let mut out = Outcome::default();
     let words = setvar_words(&acting::setvar(text).expect("it refuses nothing"), &mut out);
@@ -312,15 +299,12 @@ pub fn variables_behind(out: &mut Outcome, text: &str) -> Result<usize, Outcome>
     }
 }
 
-pub fn parsed_variables(text: &str) -> Outcome {
-    alone(|out| variables_behind(out, text))
-}
-
-pub fn parsed_updates(text: &str) -> Outcome {
-    alone(|out| match parse_update_targets(text) {
+/// The same of update targets.
+pub fn updates_behind(out: &mut Outcome, text: &str) -> Result<usize, Outcome> {
+    match parse_update_targets(text) {
         Ok((list, exclusions)) => Ok(laid_out(out, &list, &exclusions)),
         Err(error) => Err(unknown_part(error, text, true)),
-    })
+    }
 }
 
 pub fn xml_target(selection: u64, text: &str) -> u64 {

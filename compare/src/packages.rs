@@ -331,9 +331,15 @@ mod tests {
         }
     }
 
-    /// A directive record's third word, its span in the input, taken out.
+    /// Spans in the input taken out: a directive record's third word, the last of the others, and the last value of a piece refused.
     fn unspanned(mut read: directives::Package) -> directives::Package {
-        read.directives.chunks_exact_mut(11).for_each(|record| record[2] = 0);
+        let [d, v, a] = directives::WIDTHS;
+        read.directives.chunks_exact_mut(d).for_each(|record| record[2] = 0);
+        read.variables.chunks_exact_mut(v).for_each(|record| record[v - 1] = 0);
+        read.actions.chunks_exact_mut(a).for_each(|record| record[a - 1] = 0);
+        if matches!(read.number, 5 | 7 | 8 | 10..=12) {
+            *read.values.last_mut().expect("a span") = 0;
+        }
         read
     }
 

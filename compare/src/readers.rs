@@ -20,9 +20,11 @@ pub enum Reader {
     WriteListing,
     WriteRefusal,
     Directives,
+    /// No reader: a part that `Directives` underlines, read alone.
+    Underlined,
 }
 
-pub const READERS: [Reader; 18] = [
+pub const READERS: [Reader; 19] = [
     Reader::NextToken,
     Reader::Tokens,
     Reader::PlainTokens,
@@ -41,7 +43,14 @@ pub const READERS: [Reader; 18] = [
     Reader::WriteListing,
     Reader::WriteRefusal,
     Reader::Directives,
+    Reader::Underlined,
 ];
+
+/// Words of a record, of each kind.
+pub const TOKEN_WORDS: usize = 5;
+pub const ACTION_WORDS: usize = 7;
+pub const VARIABLE_WORDS: usize = 6;
+pub const DIRECTIVE_WORDS: usize = 11;
 
 /// How much is lent, beside what is needed: one of `SHAPES` for each call, in turn.
 #[derive(Clone, Copy, Debug)]
@@ -62,14 +71,14 @@ const fn shape(text: Option<isize>, scratch: Option<isize>, records: Option<isiz
 pub const SHAPES: [Shape; 12] = [
     shape(Some(9), Some(7), Some(13), Some(4)),
     shape(Some(0), Some(0), Some(0), Some(0)),
-    shape(Some(-1), Some(0), Some(6), Some(1)),
+    shape(Some(-1), Some(0), Some(7), Some(1)),
     shape(Some(0), Some(0), Some(-1), Some(2)),
     shape(Some(1), Some(-1), Some(1), Some(3)),
     shape(Some(2), Some(2), None, Some(4)),
     shape(Some(3), Some(1), Some(4), Some(-1)),
     shape(None, Some(3), Some(12), Some(4)),
     shape(Some(20), Some(40), Some(-5), None),
-    shape(Some(40), Some(20), Some(-6), Some(4)),
+    shape(Some(40), Some(20), Some(-7), Some(4)),
     shape(Some(4), Some(4), Some(31), Some(8)),
     shape(Some(1), None, Some(2), Some(4)),
 ];
@@ -99,8 +108,8 @@ const EXACT: [Option<isize>; 3] = [Some(0); 3];
 pub const PACKAGE_SHAPES: [PackageShape; 19] = [
     lends(0, 0, EXACT, Some(0)),
     lends(9, 7, [Some(13), Some(9), Some(8)], Some(4)),
-    lends(40, 20, [Some(11), Some(5), Some(6)], Some(6)),
-    lends(1, 2, [Some(10), Some(4), Some(5)], Some(1)),
+    lends(40, 20, [Some(11), Some(6), Some(7)], Some(6)),
+    lends(1, 2, [Some(10), Some(5), Some(6)], Some(1)),
     lends(-1, 0, EXACT, Some(2)),
     lends(0, -1, EXACT, Some(3)),
     lends(-1, -1, [None; 3], Some(-1)),
@@ -110,10 +119,25 @@ pub const PACKAGE_SHAPES: [PackageShape; 19] = [
     lends(1, 0, [Some(0), Some(-1), Some(0)], Some(2)),
     lends(2, 2, [Some(0), Some(0), Some(-1)], Some(-1)),
     lends(0, 0, [Some(-11), Some(30), Some(0)], Some(4)),
-    lends(5, 0, [Some(0), Some(-5), Some(7)], Some(0)),
-    lends(0, 6, [Some(22), Some(0), Some(-6)], Some(1)),
+    lends(5, 0, [Some(0), Some(-6), Some(8)], Some(0)),
+    lends(0, 6, [Some(22), Some(0), Some(-7)], Some(1)),
     lends(3, 3, [None, Some(2), Some(0)], Some(4)),
     lends(0, 0, [Some(0), None, Some(3)], None),
     lends(4, 1, [Some(1), Some(1), None], Some(-1)),
     lends(8, 8, [None; 3], Some(0)),
 ];
+
+#[cfg(test)]
+mod tests {
+    use super::{ACTION_WORDS, DIRECTIVE_WORDS, TOKEN_WORDS, VARIABLE_WORDS};
+
+    /// Records are as wide as the header says.
+    #[test]
+    fn widths_are_the_headers() {
+        let header = include_str!("../../include/seclang.h");
+        let widths = [("TOKEN", TOKEN_WORDS), ("ACTION", ACTION_WORDS), ("VARIABLE", VARIABLE_WORDS), ("DIRECTIVE", DIRECTIVE_WORDS)];
+        for (kind, width) in widths {
+            assert!(header.contains(&format!("#define SECLANG_{kind}_WORDS {width}\n")), "{kind}");
+        }
+    }
+}

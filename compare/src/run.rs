@@ -87,7 +87,7 @@ impl Run {
     fn records(&mut self) {
         let before = self.done();
         for (code, number) in (0..40).flat_map(|code| (0..=260).map(move |number| (code, number))) {
-            if let Err(difference) = self.checker.words(&[code, number, 0, 0, 0, 0]) {
+            if let Err(difference) = self.checker.words(&[code, number, 0, 0, 0, 0, 0]) {
                 println!("a record with code {code} and number {number} differs: {difference}");
                 self.fine = false;
                 return;
@@ -152,16 +152,16 @@ impl Run {
     /// The edges of whole directives and of arguments, which tell a difference soonest.
     fn edges(&mut self) {
         let before = self.done();
-        let packages = edges::all().map(|edge| (Reader::Directives, edge.0));
+        let packages = edges::packages().map(|package| (Reader::Directives, package));
         let mut texts = packages.chain(flaws::EDGES.iter().map(|edge| (Reader::Actions, edge.0)));
         if texts.all(|(reader, text)| (0..turns(reader, SHAPES.len())).all(|_| self.case(reader, text.as_bytes()))) {
-            let [packages, arguments] = [edges::all().count(), flaws::EDGES.len()];
+            let [packages, arguments] = [edges::packages().count(), flaws::EDGES.len()];
             println!("{packages} edges of whole directives and {arguments} of arguments: {} cases", self.done() - before);
         }
     }
 
     fn real(&mut self, real: &Real) {
-        let before = self.done();
+        let (before, alone) = (self.done(), self.checker.counts[Reader::Underlined as usize]);
         let lexed = [Reader::Tokens, Reader::ListText, Reader::NextToken, Reader::Directives];
         let whole = [Reader::Directives];
         for (texts, readers) in
@@ -187,6 +187,7 @@ impl Run {
             real.rules.len(),
             self.done() - before
         );
+        println!("of these {} parts that are underlined, each read alone", self.checker.counts[Reader::Underlined as usize] - alone);
     }
 }
 

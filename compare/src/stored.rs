@@ -6,7 +6,7 @@
 
 use crate::cases::Random;
 use crate::directives::{self, Package};
-use crate::edges::{Edge, EDGES, FLAWED};
+use crate::edges::{Edge, EDGES, FLAWED, REFUSED, UNDERLINED};
 use crate::original::LIMIT;
 use crate::packages::Pools;
 use std::path::Path;
@@ -47,6 +47,8 @@ fn asked() -> Vec<Vec<u8>> {
     all.extend(long());
     all.extend((0..RANDOM).map(|_| pools.package(&mut random, 2000)));
     all.extend(edges(FLAWED));
+    all.extend(edges(REFUSED));
+    all.extend(UNDERLINED.iter().map(|edge| edge.0.as_bytes().to_vec()));
     all
 }
 

@@ -82,7 +82,8 @@ impl Checker {
 
     pub(super) fn packages(&mut self, input: &[u8]) -> Checked {
         let read = readable(input).map(directives::read).unwrap_or_default();
-        PACKAGE_SHAPES.iter().try_for_each(|shape| self.package(input, &read, *shape))
+        PACKAGE_SHAPES.iter().try_for_each(|shape| self.package(input, &read, *shape))?;
+        self.underlined(input, &read)
     }
 }
 
