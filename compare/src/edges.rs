@@ -116,6 +116,7 @@ pub const REFUSED: &[Edge] = &[
     ("SecRule ARGS \"@a\\\n  b c\"", 8, &[1, 1, 2, span(15, 6)], ""),
     ("SecRule ARGS \"\\t@ x\"", 8, &[1, 2, 0, span(17, 0)], ""),
     ("SecRule ARGS '@\\\n'", 8, &[1, 1, 0, span(15, 0)], ""),
+    ("SecRule ARGS \"@\\\n \\n x\"", 8, &[1, 1, 0, span(15, 0)], ""),
 ];
 
 /// A package that is read, and the offset and length of what each variable and each action record was read from.
