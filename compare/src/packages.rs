@@ -83,6 +83,12 @@ pub const ARGUMENTS: &[&str] = &[
     "Include ",
 ];
 
+/// What stands around every text of `SPANNED`: an action list in marks and bare, a list of variables, and an operator's name.
+pub const AROUND: [(&str, &str); 4] = [("SecAction \"", ""), ("SecAction ", ""), ("SecRule \"", "\" a"), ("SecRule TX \"@", "\"")];
+
+/// What lexer and normaliser take out, read as another byte or trim, and what a list is cut at.
+pub const SPANNED: &[&str] = &["\\", "\n", "\r", " ", "\"", ",", "|", "!", "n", "t:", "TX"];
+
 const NAMES: &[&str] = &["SecRule", "SecAction", "SecMarker", "SecDefaultAction"];
 const OTHERS: &[&str] = &["Include", "sec", "SecRuleEngine", "SecRules", "SecRul", "SecRuleRemoveById", "INCLUDE", "secmarkerx", "sec-"];
 const BETWEEN: &[&str] = &[" ", " ", " ", " ", "  ", "\t", " \\\n    ", "\\\n", " \\\r\n\t", "", "\r", " \\ "];

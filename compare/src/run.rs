@@ -1,9 +1,9 @@
 //! All cases in order, with a count for each reader, a progress line, and the first difference made small.
 
-use crate::cases::{pieces_of, Random, RULES, SETS, TEXT_READERS};
+use crate::cases::{pieces_of, Random, Set, RULES, SETS, TEXT_READERS};
 use crate::check::Checker;
 use crate::original::{self, LIMIT};
-use crate::packages::Pools;
+use crate::packages::{Pools, AROUND, SPANNED};
 use crate::readers::{Reader, READERS, SHAPES};
 use crate::real::{self, Real};
 use crate::{edges, flaws};
@@ -66,6 +66,26 @@ impl Run {
                 println!("every text of up to {longest} of {} pieces, {reader:?}: {} cases", set.alphabet.len(), self.done() - before);
             }
         }
+    }
+
+    /// Arguments of which much is taken out, so that their pieces are awkward to underline.
+    fn spanned(&mut self, quick: bool) {
+        let (before, longest) = (self.done(), if quick { 4 } else { 5 });
+        for (front, back) in AROUND {
+            let went_on = Set { readers: &[], alphabet: SPANNED, quick: 0, full: 0 }.each(longest, &mut |text| {
+                self.progress("every argument");
+                self.case(Reader::Directives, &[front.as_bytes(), text, back.as_bytes()].concat())
+            });
+            if !went_on {
+                return;
+            }
+        }
+        println!(
+            "every argument of up to {longest} of {} pieces in {} packages: {} cases",
+            SPANNED.len(),
+            AROUND.len(),
+            self.done() - before
+        );
     }
 
     fn numbers(&mut self, random: &mut Random, turns: u64) {
@@ -304,6 +324,9 @@ pub fn all(wanted: &Wanted) -> bool {
     }
     if run.fine {
         run.exhaustive(wanted.quick);
+    }
+    if run.fine {
+        run.spanned(wanted.quick);
     }
     for (reader, count) in READERS.iter().zip(run.checker.counts) {
         println!("{count:>12} {reader:?}");
