@@ -18,7 +18,7 @@ int main(void)
     uint64_t number = seclang_tokens((const uint8_t *)rule, strlen(rule), text, sizeof text, records, 64, values, 10);
     printf("tokens: number %" PRIu64 ", %" PRIu64 " records\n", number, values[0]);
     for (uint64_t i = 0; i < values[0]; i++) {
-        const uint64_t *record = records + i * 5;
+        const uint64_t *record = records + i * SECLANG_TOKEN_WORDS;
         printf("%" PRIu64 " %" PRIu64 ":%" PRIu64 " %.*s\n", record[0], record[1], record[2], (int)(record[4] % 65536),
                (const char *)text + record[4] / 65536);
     }
@@ -26,12 +26,14 @@ int main(void)
     const char *list = "id:7,phase:2,deny,msg:'a, b'";
     number = seclang_parse_actions((const uint8_t *)list, strlen(list), text, sizeof text, scratch, sizeof scratch,
                                    records, 64, values, 10);
-    printf("actions: number %" PRIu64 ", phase %" PRIu64 ", grade %d\n", number, seclang_phase(records, values[0] * 6),
-           seclang_grade(records, values[0] * 6));
+    size_t words = (size_t)values[0] * SECLANG_ACTION_WORDS;
+    printf("actions: number %" PRIu64 ", phase %" PRIu64 ", grade %d\n", number, seclang_phase(records, words),
+           seclang_grade(records, words));
 
     list = "deny,bogus";
     number = seclang_parse_actions((const uint8_t *)list, strlen(list), text, sizeof text, scratch, sizeof scratch,
                                    records, 64, values, 10);
-    printf("actions: number %" PRIu64 ", piece %" PRIu64 ", %s\n", number, values[0], (const char *)text);
+    printf("actions: number %" PRIu64 ", piece %" PRIu64 ", %s at %" PRIu64 "\n", number, values[0], (const char *)text,
+           SECLANG_SPAN_OFFSET(values[2]));
     return 0;
 }

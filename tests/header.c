@@ -7,7 +7,8 @@
 #include <stdio.h>
 #include <string.h>
 
-enum { ROOM = SECLANG_LIMIT + 1, WORDS = SECLANG_TOKENS_MOST(ROOM) * SECLANG_TOKEN_WORDS };
+/* ONE action record. */
+enum { ROOM = SECLANG_LIMIT + 1, WORDS = SECLANG_TOKENS_MOST(ROOM) * SECLANG_TOKEN_WORDS, ONE = SECLANG_ACTION_WORDS };
 
 static uint8_t input[ROOM], text[ROOM + 3], scratch[ROOM], out[SECLANG_LISTING_MOST(ROOM)];
 static uint64_t records[WORDS], values[SECLANG_VALUES_MOST];
@@ -80,19 +81,48 @@ static uint64_t directives(const char *s)
 
 static bool first_values(uint64_t a, uint64_t b) { return values[0] == a && values[1] == b; }
 
-/* Whether the words of a record are these, the last one being 0 in a record of five. */
-static bool record(size_t width, size_t k, uint64_t a, uint64_t b, uint64_t c, uint64_t d, uint64_t e, uint64_t f)
+static uint64_t span(uint64_t offset, uint64_t length) { return offset * SECLANG_SPAN_BASE + length; }
+
+/* The same, and behind them a span in the input. */
+static bool spanned_values(uint64_t a, uint64_t b, uint64_t offset, uint64_t length)
 {
-    const uint64_t want[] = {a, b, c, d, e, f};
-    return memcmp(records + k * width, want, width * sizeof *want) == 0;
+    return first_values(a, b) && values[2] == span(offset, length);
 }
+
+/* Whether the words of a token, an action and a variable record are these. */
+static bool token(size_t k, uint64_t kind, uint64_t line, uint64_t column, uint64_t source, uint64_t said)
+{
+    const uint64_t want[SECLANG_TOKEN_WORDS] = {kind, line, column, source, said};
+    return memcmp(records + k * SECLANG_TOKEN_WORDS, want, sizeof want) == 0;
+}
+
+static bool action(size_t k, uint64_t code, uint64_t number, uint64_t a, uint64_t source)
+{
+    const uint64_t want[SECLANG_ACTION_WORDS] = {code, number, a, 0, 0, 0, source};
+    return memcmp(records + k * SECLANG_ACTION_WORDS, want, sizeof want) == 0;
+}
+
+static bool target(size_t k, uint64_t kind, uint64_t code, uint64_t counted, uint64_t selection, uint64_t said,
+                   uint64_t source)
+{
+    const uint64_t want[SECLANG_VARIABLE_WORDS] = {kind, code, counted, selection, said, source};
+    return memcmp(records + k * SECLANG_VARIABLE_WORDS, want, sizeof want) == 0;
+}
+
+static uint64_t action_word(size_t k, size_t word) { return records[k * SECLANG_ACTION_WORDS + word]; }
 
 static bool shows(uint64_t span, const char *s)
 {
     return SECLANG_SPAN_LENGTH(span) == strlen(s) && memcmp(text + SECLANG_SPAN_OFFSET(span), s, strlen(s)) == 0;
 }
 
-static uint64_t span(uint64_t offset, uint64_t length) { return offset * SECLANG_SPAN_BASE + length; }
+/* Whether the sources of so many records are these: offset and length by turns. */
+static bool sources(const uint64_t *words, size_t width, size_t count, const uint64_t *want)
+{
+    bool same = true;
+    for (size_t k = 0; k < count; k++) same = same && words[(k + 1) * width - 1] == span(want[2 * k], want[2 * k + 1]);
+    return same;
+}
 
 /* All bytes of the text beyond a name, and all words of the records, are zero. */
 static bool refused_name(const char *name)
@@ -217,12 +247,12 @@ static void check_tokens(lexer *lex)
 {
     CHECK(lexed(lex, rule) == SECLANG_READ && values[0] == 6 && values[1] == 20 && values[2] == strlen(rule) &&
           values[3] == 4 && values[4] == 1);
-    CHECK(record(SECLANG_TOKEN_WORDS, 0, SECLANG_TOKEN_DIRECTIVE, 1, 1, span(0, 7), span(0, 7), 0));
-    CHECK(record(SECLANG_TOKEN_WORDS, 1, SECLANG_TOKEN_WORD, 1, 9, span(8, 4), span(7, 4), 0));
-    CHECK(record(SECLANG_TOKEN_WORDS, 2, SECLANG_TOKEN_QUOTED_STRING, 1, 14, span(13, 7), span(11, 5), 0));
-    CHECK(record(SECLANG_TOKEN_WORDS, 3, SECLANG_TOKEN_COMMENT, 1, 22, span(21, 4), span(16, 0), 0));
-    CHECK(record(SECLANG_TOKEN_WORDS, 4, SECLANG_TOKEN_DIRECTIVE, 3, 2, span(29, 4), span(16, 4), 0));
-    CHECK(record(SECLANG_TOKEN_WORDS, 5, SECLANG_TOKEN_NEWLINE, 3, 6, span(33, 1), span(20, 0), 0));
+    CHECK(token(0, SECLANG_TOKEN_DIRECTIVE, 1, 1, span(0, 7), span(0, 7)));
+    CHECK(token(1, SECLANG_TOKEN_WORD, 1, 9, span(8, 4), span(7, 4)));
+    CHECK(token(2, SECLANG_TOKEN_QUOTED_STRING, 1, 14, span(13, 7), span(11, 5)));
+    CHECK(token(3, SECLANG_TOKEN_COMMENT, 1, 22, span(21, 4), span(16, 0)));
+    CHECK(token(4, SECLANG_TOKEN_DIRECTIVE, 3, 2, span(29, 4), span(16, 4)));
+    CHECK(token(5, SECLANG_TOKEN_NEWLINE, 3, 6, span(33, 1), span(20, 0)));
     CHECK(shows(records[4 * SECLANG_TOKEN_WORDS + 4], "secy") && text[20] == 0 &&
           records[6 * SECLANG_TOKEN_WORDS] == 0);
     CHECK(lexed(lex, "a\fb") == SECLANG_READ && first_values(1, 1) && values[2] == 1 && values[3] == 1 &&
@@ -340,10 +370,10 @@ static void check_steps(void)
     CHECK(tokens(rule) == SECLANG_READ);
     memcpy(whole, records, sizeof whole);
     while (step(rule, cursor) == SECLANG_READ && values[0] == 1 && count < 6) {
-        const uint64_t *token = whole + count++ * SECLANG_TOKEN_WORDS;
-        CHECK(values[1] == token[0] && values[2] == token[1] && values[3] == token[2] &&
-              values[4] == SECLANG_SPAN_OFFSET(token[3]));
-        CHECK(values[5] == SECLANG_SPAN_LENGTH(token[4]) && values[6] == values[4] + SECLANG_SPAN_LENGTH(token[3]));
+        const uint64_t *one = whole + count++ * SECLANG_TOKEN_WORDS;
+        CHECK(values[1] == one[0] && values[2] == one[1] && values[3] == one[2] &&
+              values[4] == SECLANG_SPAN_OFFSET(one[3]));
+        CHECK(values[5] == SECLANG_SPAN_LENGTH(one[4]) && values[6] == values[4] + SECLANG_SPAN_LENGTH(one[3]));
         memcpy(cursor, values + 6, sizeof cursor);
     }
     CHECK(count == 6 && values[0] == 0 && memcmp(values + 1, cursor, sizeof cursor) == 0 && cursor[0] == strlen(rule));
@@ -364,29 +394,54 @@ static void check_steps(void)
 static void check_actions(void)
 {
     CHECK(actions("id:7,phase:2,deny,msg:'a, b'") == SECLANG_READ && first_values(4, 4));
-    CHECK(record(SECLANG_ACTION_WORDS, 0, SECLANG_ACTION_ID, 7, 0, 0, 0, 0));
-    CHECK(record(SECLANG_ACTION_WORDS, 1, SECLANG_ACTION_PHASE, 2, 0, 0, 0, 0));
-    CHECK(record(SECLANG_ACTION_WORDS, 2, SECLANG_ACTION_DENY, 0, 0, 0, 0, 0));
-    CHECK(record(SECLANG_ACTION_WORDS, 3, SECLANG_ACTION_MSG, 0, span(0, 4), 0, 0, 0) && shows(records[20], "a, b"));
+    CHECK(action(0, SECLANG_ACTION_ID, 7, 0, span(0, 4)));
+    CHECK(action(1, SECLANG_ACTION_PHASE, 2, 0, span(5, 7)));
+    CHECK(action(2, SECLANG_ACTION_DENY, 0, 0, span(13, 4)));
+    CHECK(action(3, SECLANG_ACTION_MSG, 0, span(0, 4), span(18, 10)) && shows(action_word(3, 2), "a, b"));
     CHECK(seclang_phase(records, (size_t)values[0] * SECLANG_ACTION_WORDS) == 2);
     CHECK(seclang_grade(records, (size_t)values[0] * SECLANG_ACTION_WORDS));
-    CHECK(actions("redirect:'/x',skipAfter:'E'") == SECLANG_READ && shows(records[2], "'/x'") &&
-          shows(records[8], "'E'"));
-    CHECK(actions("ctl:a=b=c,initcol:IP=%{x}") == SECLANG_READ && shows(records[2], "a") && shows(records[3], "b=c") &&
-          shows(records[9], "%{x}"));
-    CHECK(actions("expirevar:a=5,expirevar:b=x,t:none") == SECLANG_READ && records[1] == 5 && shows(records[2], "a") &&
-          records[7] == 0);
-    CHECK(record(SECLANG_ACTION_WORDS, 2, SECLANG_ACTION_T, 0, span(2, 4), 0, 0, 0) && shows(records[14], "none"));
-    CHECK(actions("skip:4294967295,status:65535,maturity:255") == SECLANG_READ && records[1] == UINT32_MAX &&
-          records[7] == 65535 && records[13] == 255);
+    CHECK(actions("redirect:'/x',skipAfter:'E'") == SECLANG_READ && shows(action_word(0, 2), "'/x'") &&
+          shows(action_word(1, 2), "'E'"));
+    CHECK(actions("ctl:a=b=c,initcol:IP=%{x}") == SECLANG_READ && shows(action_word(0, 2), "a") &&
+          shows(action_word(0, 3), "b=c") && shows(action_word(1, 3), "%{x}"));
+    CHECK(actions("expirevar:a=5,expirevar:b=x,t:none") == SECLANG_READ && action_word(0, 1) == 5 &&
+          shows(action_word(0, 2), "a") && action_word(1, 1) == 0);
+    CHECK(action(2, SECLANG_ACTION_T, 0, span(2, 4), span(28, 6)) && shows(action_word(2, 2), "none"));
+    CHECK(actions("skip:4294967295,status:65535,maturity:255") == SECLANG_READ && action_word(0, 1) == UINT32_MAX &&
+          action_word(1, 1) == 65535 && action_word(2, 1) == 255);
     CHECK(actions("id:18446744073709551615") == SECLANG_READ && records[1] == UINT64_MAX);
     CHECK(actions("de\\\nny,\\\n  pass") == SECLANG_READ && first_values(2, 0) &&
           memcmp(scratch, "deny,pass", 10) == 0);
     CHECK(seclang_phase(records, 0) == 2 && seclang_grade(records, 0));
-    CHECK(actions("phase:9") == SECLANG_READ && seclang_phase(records, 6) == 9 && !seclang_grade(records, 6));
-    CHECK(actions("phase:5") == SECLANG_READ && seclang_phase(records, 6) == 5 && seclang_grade(records, 6));
+    CHECK(actions("phase:9") == SECLANG_READ && seclang_phase(records, ONE) == 9 && !seclang_grade(records, ONE));
+    CHECK(actions("phase:5") == SECLANG_READ && seclang_phase(records, ONE) == 5 && seclang_grade(records, ONE));
     for (records[1] = 0; records[1] <= 300; records[1]++)
-        CHECK(seclang_grade(records, 6) == (1 <= records[1] && records[1] <= 5));
+        CHECK(seclang_grade(records, ONE) == (1 <= records[1] && records[1] <= 5));
+    /* a word less is no record */
+    CHECK(seclang_phase(records, ONE - 1) == 2 && seclang_grade(records, ONE - 1));
+}
+
+/* The source of a piece is in the list as it is given: over what is taken out of it, and without blanks at its ends. */
+static void check_sources(void)
+{
+    static const uint64_t continued[] = {0, 6, 11, 4}, blank[] = {1, 4, 8, 3}, removed[] = {0, 8, 13, 3};
+    static const uint64_t marked[] = {4, 5, 10, 2, 1, 2}, update[] = {4, 2, 0, 3};
+    CHECK(SECLANG_AT_ACTION_SOURCE == 6 && SECLANG_AT_VARIABLE_SOURCE == 5);
+    CHECK(actions("de\\\nny,\\\n  pass") == SECLANG_READ && sources(records, ONE, 2, continued));
+    CHECK(actions(" deny , log") == SECLANG_READ && sources(records, ONE, 2, blank));
+    CHECK(actions("de\\\r\n ny,,\\\r\tlog") == SECLANG_READ && sources(records, ONE, 2, removed));
+    CHECK(variables(" !a|&TX:k|ip ") == SECLANG_READ && sources(records, SECLANG_VARIABLE_WORDS, 3, marked));
+    CHECK(updates("!TX|ip") == SECLANG_READ && sources(records, SECLANG_VARIABLE_WORDS, 2, update));
+    CHECK(setvar(" a=1\t") == SECLANG_READ && records[SECLANG_AT_ACTION_SOURCE] == span(1, 3));
+    CHECK(setvar("\t \n") == SECLANG_READ && records[SECLANG_AT_ACTION_SOURCE] == span(3, 0));
+    CHECK(setvar("") == SECLANG_READ && records[SECLANG_AT_ACTION_SOURCE] == span(0, 0));
+    CHECK(setvar("'a'") == SECLANG_READ && records[SECLANG_AT_ACTION_SOURCE] == span(0, 3));
+    CHECK(actions("log, bo\\\n gus:1 ") == SECLANG_UNKNOWN_ACTION && spanned_values(1, 5, 5, 10));
+    CHECK(actions("log,\\\n id:x") == SECLANG_ARGUMENT_UNREADABLE && spanned_values(1, 2, 7, 4));
+    CHECK(variables("TX| &Nope:k |!x") == SECLANG_UNKNOWN_VARIABLE && spanned_values(1, 4, 4, 7));
+    CHECK(updates("TX|!x:y") == SECLANG_UNKNOWN_VARIABLE && spanned_values(1, 1, 3, 4));
+    CHECK(operator_of(" !@nope a") == SECLANG_UNKNOWN_OPERATOR && spanned_values(3, 4, 3, 4));
+    CHECK(operator_of("! @ rx") == SECLANG_UNKNOWN_OPERATOR && spanned_values(3, 0, 3, 0));
 }
 
 static bool sets(const char *s, uint64_t kind, int64_t number, const char *collection, const char *key,
@@ -415,18 +470,15 @@ static void check_setvars(void)
 static void check_targets(void)
 {
     CHECK(variables("!ARGS:p|args|&TX:/^a/|ip:x") == SECLANG_READ && first_values(4, 9));
-    CHECK(record(SECLANG_VARIABLE_WORDS, 0, SECLANG_TARGET_VARIABLE, SECLANG_VARIABLE_ARGS, 0, SECLANG_SELECTION_NONE,
-                 0, 0));
-    CHECK(record(SECLANG_VARIABLE_WORDS, 1, SECLANG_TARGET_VARIABLE, SECLANG_VARIABLE_TX, 1, SECLANG_SELECTION_REGEX,
-                 span(0, 2), 0));
-    CHECK(record(SECLANG_VARIABLE_WORDS, 2, SECLANG_TARGET_VARIABLE, SECLANG_VARIABLE_IP, 0, SECLANG_SELECTION_KEY,
-                 span(2, 1), 0));
-    CHECK(record(SECLANG_VARIABLE_WORDS, 3, SECLANG_TARGET_EXCLUSION, 0, 0, 0, span(3, 6), 0) &&
-          shows(records[19], "ARGS:p"));
+    CHECK(target(0, SECLANG_TARGET_VARIABLE, SECLANG_VARIABLE_ARGS, 0, SECLANG_SELECTION_NONE, 0, span(8, 4)));
+    CHECK(target(1, SECLANG_TARGET_VARIABLE, SECLANG_VARIABLE_TX, 1, SECLANG_SELECTION_REGEX, span(0, 2), span(13, 8)));
+    CHECK(target(2, SECLANG_TARGET_VARIABLE, SECLANG_VARIABLE_IP, 0, SECLANG_SELECTION_KEY, span(2, 1), span(22, 4)));
+    CHECK(target(3, SECLANG_TARGET_EXCLUSION, 0, 0, 0, span(3, 6), span(0, 7)) &&
+          shows(records[3 * SECLANG_VARIABLE_WORDS + 4], "ARGS:p"));
     CHECK(variables("!x") == SECLANG_READ && first_values(0, 0));
     CHECK(updates("!ARGS:p") == SECLANG_READ && first_values(1, 6) && records[0] == SECLANG_TARGET_EXCLUSION);
-    CHECK(updates("TX|!x") == SECLANG_UNKNOWN_VARIABLE && first_values(1, 1) && refused_name("x"));
-    CHECK(variables("ARGS:/a|b/") == SECLANG_UNKNOWN_VARIABLE && first_values(1, 2) && refused_name("b/"));
+    CHECK(updates("TX|!x") == SECLANG_UNKNOWN_VARIABLE && spanned_values(1, 1, 3, 2) && refused_name("x"));
+    CHECK(variables("ARGS:/a|b/") == SECLANG_UNKNOWN_VARIABLE && spanned_values(1, 2, 8, 2) && refused_name("b/"));
 }
 
 static void check_operators(void)
@@ -436,7 +488,7 @@ static void check_operators(void)
     CHECK(operator_of("a b") == SECLANG_READ && first_values(0, SECLANG_OPERATOR_RX) && values[2] == 0 &&
           values[3] == 3);
     CHECK(operator_of("@detectSQLi") == SECLANG_READ && first_values(0, SECLANG_OPERATOR_DETECTSQLI) && values[3] == 0);
-    CHECK(operator_of("! @nope x") == SECLANG_UNKNOWN_OPERATOR && first_values(3, 4));
+    CHECK(operator_of("! @nope x") == SECLANG_UNKNOWN_OPERATOR && spanned_values(3, 4, 3, 4));
     CHECK(seclang_matches(false, 5, 9, 5) && !seclang_matches(false, 5, 9, 6));
     CHECK(seclang_matches(true, 5, 9, 9) && seclang_matches(true, 5, 9, 5) && !seclang_matches(true, 5, 9, 10) &&
           !seclang_matches(true, 9, 5, 7));
@@ -475,16 +527,19 @@ static void check_directives(void)
     const uint64_t rule_words[] = {
         SECLANG_DIRECTIVE_RULE, 1, span(0, 39), 0, 1, SECLANG_OPERATOR_PM, span(2, 1), 0, 3, 0, 1};
     const uint64_t marker[] = {SECLANG_DIRECTIVE_MARKER, 3, span(41, 13), span(7, 1), 0, 0, 0, 3, 0, 1, 0};
-    const uint64_t action[] = {SECLANG_DIRECTIVE_ACTION, 4, span(55, 13), 0, 0, 0, 0, 3, 0, 1, 1};
+    const uint64_t acting[] = {SECLANG_DIRECTIVE_ACTION, 4, span(55, 13), 0, 0, 0, 0, 3, 0, 1, 1};
     const uint64_t defaults[] = {SECLANG_DIRECTIVE_DEFAULTS, 5, span(69, 20), 0, 0, 0, 0, 3, 0, 2, 1};
+    static const uint64_t target_sources[] = {11, 4, 16, 4, 8, 2}, act_sources[] = {31, 8, 65, 3, 86, 3};
     const uint64_t unknown[] = {SECLANG_DIRECTIVE_UNKNOWN, 6, span(90, 11), span(8, 7), 0, 0, 0, 3, 0, 3, 0};
     memset(scratch, 'x', ROOM);
     CHECK(directives("SecRule !a|TX:k|ARGS \"!@pm x \" setvar:y\n\nSecMarker 'm'\nSECACTION log\nSecDefaultAction "
                      "log\nInclude a b") == SECLANG_READ);
     CHECK(four_values(5, 3, 3, 15) && memcmp(text, "kaxtxy1mInclude", 16) == 0);
-    CHECK(head(0, rule_words) && head(1, marker) && head(2, action) && head(3, defaults) && head(4, unknown));
+    CHECK(head(0, rule_words) && head(1, marker) && head(2, acting) && head(3, defaults) && head(4, unknown));
     CHECK(heads[5 * SECLANG_DIRECTIVE_WORDS] == 0 && scratch[0] == 0 && scratch[ROOM - 1] == 0);
-    CHECK(targets[0] == SECLANG_TARGET_VARIABLE && shows(targets[4], "k") && shows(targets[14], "a"));
+    CHECK(targets[0] == SECLANG_TARGET_VARIABLE && shows(targets[4], "k") &&
+          shows(targets[2 * SECLANG_VARIABLE_WORDS + 4], "a"));
+    CHECK(sources(targets, SECLANG_VARIABLE_WORDS, 3, target_sources) && sources(acts, ONE, 3, act_sources));
     CHECK(acts[0] == SECLANG_ACTION_SETVAR && shows(acts[2], "tx") && shows(acts[3], "y") && shows(acts[5], "1"));
     CHECK(shows(heads[SECLANG_AT_ARGUMENT], "x") && heads[SECLANG_AT_OPERATOR] == SECLANG_OPERATOR_PM &&
           heads[SECLANG_AT_NEGATED] == 1 && heads[SECLANG_AT_VARIABLES] == 3 && heads[SECLANG_AT_ACTIONS] == 1);
@@ -493,9 +548,25 @@ static void check_directives(void)
           heads[SECLANG_DIRECTIVE_WORDS + SECLANG_AT_FIRST_ACTION] == 1);
     CHECK(heads[SECLANG_AT_KIND] == SECLANG_DIRECTIVE_RULE && heads[SECLANG_AT_LINE] == 1 &&
           SECLANG_SPAN_LENGTH(heads[SECLANG_AT_SPAN]) == 39);
-    CHECK(directives("SecAction phase:5") == SECLANG_READ && four_values(1, 0, 1, 0) && seclang_grade(acts, 6));
-    CHECK(directives("SecAction phase:100") == SECLANG_READ && four_values(1, 0, 1, 0) && !seclang_grade(acts, 6));
+    CHECK(directives("SecAction phase:5") == SECLANG_READ && four_values(1, 0, 1, 0) && seclang_grade(acts, ONE));
+    CHECK(directives("SecAction phase:100") == SECLANG_READ && four_values(1, 0, 1, 0) && !seclang_grade(acts, ONE));
     CHECK(directives("") == SECLANG_READ && four_values(0, 0, 0, 0) && cleared(""));
+}
+
+/* A package's records are underlined there, over what lexer and normaliser take out: an escape that is read is two bytes
+ * for one, and one that keeps its backslash two for two. */
+static void check_package_sources(void)
+{
+    static const uint64_t kept[] = {11, 6, 18, 4}, read[] = {13, 4, 20, 3}, continued[] = {11, 9}, made[] = {11, 4, 20, 3};
+    static const uint64_t whole[] = {11, 9}, bare[] = {10, 6, 20, 3}, marked[] = {13, 5, 20, 4, 9, 2};
+    CHECK(directives("SecAction \"msg:a\\,deny\"") == SECLANG_READ && sources(acts, ONE, 2, kept));
+    CHECK(directives("SecAction \"\\tdeny\\n,log \"") == SECLANG_READ && sources(acts, ONE, 2, read));
+    CHECK(directives("SecAction \"de\\\\\n  ny\"") == SECLANG_READ && sources(acts, ONE, 1, continued));
+    CHECK(directives("SecAction \"deny\\\\\\n,log\"") == SECLANG_READ && sources(acts, ONE, 2, made));
+    CHECK(directives("SecAction \"msg:\\\"a\\\"\"") == SECLANG_READ && sources(acts, ONE, 1, whole));
+    CHECK(directives("SecAction de\\\nny,\\\r\nlog") == SECLANG_READ && sources(acts, ONE, 2, bare));
+    CHECK(directives("SecRule \"!a| &TX:k |ARGS\" a") == SECLANG_READ &&
+          sources(targets, SECLANG_VARIABLE_WORDS, 3, marked));
 }
 
 static void check_faults(void)
@@ -503,26 +574,33 @@ static void check_faults(void)
     CHECK(directives("SecRule ARGS\f") == SECLANG_WRONG_COUNT && values[0] == 1 && cleared(""));
     CHECK(directives("SecRule ARGS \"@rx a\" \\\n# why\n\"deny\"") == SECLANG_UNTAKEN && values[0] == 3 && cleared(""));
     CHECK(directives("SecAction deny\n\f") == SECLANG_STOPPED && values[0] == 2 && cleared(""));
-    CHECK(directives("SecAction Bogus\nSecRule x") == SECLANG_UNKNOWN_ACTION && first_values(1, 0) && values[2] == 5 &&
-          cleared("bogus"));
-    CHECK(directives("\nSecAction log,skipafter") == SECLANG_ARGUMENT_ABSENT && first_values(2, 1) && values[2] == 9 &&
-          cleared("skipAfter"));
-    CHECK(directives("SecRule TX|Nope a") == SECLANG_UNKNOWN_VARIABLE && first_values(1, 1) && values[2] == 4 &&
+    CHECK(directives("SecAction Bogus\nSecRule x") == SECLANG_UNKNOWN_ACTION &&
+          four_values(1, 0, 5, span(10, 5)) && cleared("bogus"));
+    CHECK(directives("\nSecAction log,skipafter") == SECLANG_ARGUMENT_ABSENT &&
+          four_values(2, 1, 9, span(15, 9)) && cleared("skipAfter"));
+    CHECK(directives("SecRule TX|&Nope a") == SECLANG_UNKNOWN_VARIABLE && four_values(1, 1, 4, span(11, 5)) &&
           cleared("Nope"));
-    CHECK(directives("SecRule ARGS \"\\t!@x\"") == SECLANG_UNKNOWN_OPERATOR && first_values(1, 3) && values[2] == 1 &&
+    CHECK(directives("SecRule ARGS \"\\t!@x\"") == SECLANG_UNKNOWN_OPERATOR && four_values(1, 3, 1, span(18, 1)) &&
           cleared(""));
+    CHECK(directives("SecRule ARGS \"@a\\\n  b c\"") == SECLANG_UNKNOWN_OPERATOR &&
+          four_values(1, 1, 2, span(15, 6)) && cleared(""));
+    CHECK(directives("SecRule ARGS \"\\t@ x\"") == SECLANG_UNKNOWN_OPERATOR && four_values(1, 2, 0, span(17, 0)));
+    CHECK(directives("SecAction \"log,\\tid\\\\\n :x \"") == SECLANG_ARGUMENT_UNREADABLE &&
+          four_values(1, 1, 2, span(17, 8)) && cleared("id"));
 }
 
 /* ---- arguments of actions */
 
-/* What a list is refused with, alone and in a package, there in quotation marks where a word would end within it. */
+/* What a list is refused with, alone and in a package, there in quotation marks where a word would end within it. Its
+ * last piece is the bad one. */
 static void check_flaw(uint64_t number, const char *list, uint64_t piece, const char *name)
 {
-    const char *mark = strpbrk(list, "' ") ? "\"" : "";
+    const char *mark = strpbrk(list, "' ") ? "\"" : "", *comma = strrchr(list, ',');
+    const uint64_t at = comma ? (uint64_t)(comma + 1 - list) : 0, len = strlen(list) - at, n = strlen(name);
     char package[160];
     snprintf(package, sizeof package, "SecAction %s%s%s", mark, list, mark);
-    check(actions(list) == number && first_values(piece, strlen(name)) && refused_name(name), list, __LINE__);
-    check(directives(package) == number && first_values(1, piece) && values[2] == strlen(name) && cleared(name),
+    check(actions(list) == number && spanned_values(piece, n, at, len) && refused_name(name), list, __LINE__);
+    check(directives(package) == number && four_values(1, piece, n, span(10 + strlen(mark) + at, len)) && cleared(name),
           package, __LINE__);
 }
 
@@ -577,8 +655,9 @@ static void check_lent(void)
     const uint8_t *s = bytes("SecRule ARGS a deny");
     for (size_t lack = 0; lack < 3; lack++) {
         memset(acts, 1, sizeof acts);
-        CHECK(seclang_directives(s, 19, text, 19, scratch, 19, heads, 11 - (lack == 0), targets, 5 - (lack == 1), acts,
-                                 6 - (lack == 2), values, 10) == SECLANG_NO_ROOM &&
+        CHECK(seclang_directives(s, 19, text, 19, scratch, 19, heads, SECLANG_DIRECTIVE_WORDS - (lack == 0), targets,
+                                 SECLANG_VARIABLE_WORDS - (lack == 1), acts, ONE - (lack == 2), values,
+                                 10) == SECLANG_NO_ROOM &&
               first_values(1, 1) && values[2] == 1 && acts[0] == 0 && text[0] == 0);
     }
     memset(text, 'x', ROOM);
@@ -589,7 +668,8 @@ static void check_lent(void)
     CHECK(seclang_directives(s, 19, text, 19, scratch, 18, heads, 0, targets, 0, acts, 0, values, 10) ==
               SECLANG_SHORT_BUFFER &&
           scratch[0] == 'x');
-    CHECK(seclang_directives(s, 19, text, 19, scratch, 19, heads, 11, targets, 5, acts, 6, values, 4) == SECLANG_READ &&
+    CHECK(seclang_directives(s, 19, text, 19, scratch, 19, heads, SECLANG_DIRECTIVE_WORDS, targets,
+                             SECLANG_VARIABLE_WORDS, acts, ONE, values, 4) == SECLANG_READ &&
           four_values(1, 1, 1, 1) && text[0] == 'a' && text[1] == 0 && text[19] == 'x' && scratch[19] == 'x');
 }
 
@@ -631,25 +711,28 @@ static void check_listings(void)
 
 static void check_numbers(void)
 {
-    uint64_t few[3] = {77, 77, 77};
+    uint64_t few[4] = {77, 77, 77, 77};
     CHECK(operator_of("a\x80") == SECLANG_NOT_ASCII && values[0] == 1);
-    CHECK(seclang_parse_actions(bytes("deny"), 4, text, 4, scratch, 3, records, 6, values, 10) ==
+    CHECK(seclang_parse_actions(bytes("deny"), 4, text, 4, scratch, 3, records, ONE, values, 10) ==
               SECLANG_SHORT_BUFFER &&
           values[0] == 0);
-    CHECK(seclang_parse_setvar(bytes("a"), 1, text, 3, records, 6, values, 10) == SECLANG_SHORT_BUFFER);
-    CHECK(seclang_parse_actions(bytes("deny,pass"), 9, text, 9, scratch, 9, records, 11, values, 10) ==
+    CHECK(seclang_parse_setvar(bytes("a"), 1, text, 3, records, ONE, values, 10) == SECLANG_SHORT_BUFFER);
+    CHECK(seclang_parse_actions(bytes("deny,pass"), 9, text, 9, scratch, 9, records, 2 * ONE - 1, values, 10) ==
               SECLANG_NO_ROOM &&
           values[0] == 2 && records[0] == 0);
-    CHECK(actions("deny,,BOGUS,phase:x") == SECLANG_UNKNOWN_ACTION && first_values(1, 5) && refused_name("bogus"));
-    CHECK(actions("deny,SKIPAFTER") == SECLANG_ARGUMENT_ABSENT && first_values(1, 9) && refused_name("skipAfter"));
+    CHECK(actions("deny,,BOGUS,phase:x") == SECLANG_UNKNOWN_ACTION && spanned_values(1, 5, 6, 5) &&
+          refused_name("bogus"));
+    CHECK(actions("deny,SKIPAFTER") == SECLANG_ARGUMENT_ABSENT && spanned_values(1, 9, 5, 9) &&
+          refused_name("skipAfter"));
     CHECK(seclang_next_token(bytes("a"), 1, 0, 1, 1, true, text, 1, values, SECLANG_VALUES_MOST) == SECLANG_READ);
     CHECK(values[0] == 1 && values[SECLANG_VALUES_MOST - 1] == 0);
     values[0] = 77;
     CHECK(seclang_next_token(bytes("a"), 1, 0, 1, 1, true, text, 1, values, SECLANG_VALUES_MOST - 1) == SECLANG_READ);
     CHECK(values[0] == 77);
     CHECK(seclang_parse_operator(bytes("@rx a"), 5, few, 3) == SECLANG_READ && few[0] == 77 && few[2] == 77);
-    CHECK(seclang_parse_operator(bytes("@x"), 2, few, 3) == SECLANG_UNKNOWN_OPERATOR && few[0] == 1 && few[1] == 1 &&
-          few[2] == 77);
+    CHECK(seclang_parse_operator(bytes("@x"), 2, few, 2) == SECLANG_UNKNOWN_OPERATOR && few[0] == 77 && few[1] == 77);
+    CHECK(seclang_parse_operator(bytes("@x"), 2, few, 4) == SECLANG_UNKNOWN_OPERATOR && few[0] == 1 && few[1] == 1 &&
+          few[2] == span(1, 1) && few[3] == 77);
 }
 
 /* ---- bounds */
@@ -729,9 +812,11 @@ int main(void)
     check_steps();
     check_actions();
     check_setvars();
+    check_sources();
     check_targets();
     check_operators();
     check_directives();
+    check_package_sources();
     check_faults();
     check_widths();
     check_flaws();
