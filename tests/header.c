@@ -553,12 +553,12 @@ static void check_directives(void)
     CHECK(directives("") == SECLANG_READ && four_values(0, 0, 0, 0) && cleared(""));
 }
 
-/* A package's records are underlined there, over what lexer and normaliser take out: an escape that is read is two bytes
- * for one, and one that keeps its backslash two for two. */
+/* A package's records are underlined there, over what lexer and normaliser take out: an escape that is read is two
+ * bytes for one, and one that keeps its backslash two for two. */
 static void check_package_sources(void)
 {
-    static const uint64_t kept[] = {11, 6, 18, 4}, read[] = {13, 4, 20, 3}, continued[] = {11, 9}, made[] = {11, 4, 20, 3};
-    static const uint64_t whole[] = {11, 9}, bare[] = {10, 6, 20, 3}, marked[] = {13, 5, 20, 4, 9, 2};
+    static const uint64_t kept[] = {11, 6, 18, 4}, read[] = {13, 4, 20, 3}, continued[] = {11, 9};
+    static const uint64_t made[] = {11, 4, 20, 3}, whole[] = {11, 9}, bare[] = {10, 6, 20, 3}, marked[] = {13, 5, 20, 4, 9, 2};
     CHECK(directives("SecAction \"msg:a\\,deny\"") == SECLANG_READ && sources(acts, ONE, 2, kept));
     CHECK(directives("SecAction \"\\tdeny\\n,log \"") == SECLANG_READ && sources(acts, ONE, 2, read));
     CHECK(directives("SecAction \"de\\\\\n  ny\"") == SECLANG_READ && sources(acts, ONE, 1, continued));
