@@ -24,7 +24,7 @@ fn main() -> Result<(), Box<dyn Error>> {
         match seclang::parse_actions(list.text()) {
             Err(refusal) => println!("{line}: {refusal}"),
             Ok(actions) => {
-                let id = actions.iter().find_map(|action| if let Action::Id(id) = action { Some(*id) } else { None });
+                let id = actions.iter().find_map(|action| if let Action::Id(id) = action.thing { Some(id) } else { None });
                 println!("{line}: id {}, phase {}", id.map_or("none".to_string(), |id| id.to_string()), seclang::phase(&actions));
             }
         }

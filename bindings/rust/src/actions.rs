@@ -1,10 +1,10 @@
 //! Action lists, and a setvar alone.
 
 use crate::lent::{another, filled, Texts};
-use crate::{raw, ActionCode, Refusal, ValueKind};
+use crate::{raw, ActionCode, Refusal, Sourced, ValueKind};
 
-/// Words of an action record: code, number, a, b, value kind, c.
-pub(crate) const WIDTH: usize = 6;
+/// Words of an action record: code, number, a, b, value kind, c, source.
+pub(crate) const WIDTH: usize = 7;
 
 /// An action of a rule. Texts are as the list has them; msg, tag, rev, ver and logdata lose the quotation marks at both ends.
 #[allow(missing_docs)]
@@ -112,7 +112,11 @@ impl SetVarValue {
 }
 
 impl Action {
-    pub(crate) fn of(record: &[u64], texts: &Texts) -> Self {
+    pub(crate) fn of(record: &[u64], texts: &Texts) -> Sourced<Self> {
+        Sourced::of(Action::said(record, texts), record[WIDTH - 1])
+    }
+
+    fn said(record: &[u64], texts: &Texts) -> Self {
         let number = record[1];
         let (a, b, c) = (|| texts.said(record[2]), || texts.said(record[3]), || texts.said(record[5]));
         let Some(code) = ActionCode::from_code(record[0]) else { another("an action of the code", record[0]) };
@@ -205,41 +209,50 @@ impl Action {
     }
 }
 
-/// The actions of a list, as it stands in a rule.
+impl AsRef<Action> for Action {
+    fn as_ref(&self) -> &Action {
+        self
+    }
+}
+
+/// The actions of a list, as it stands in a rule, each with where it stands in the list.
 ///
 /// ```
 /// use seclang::{parse_actions, Action, Flaw, Refusal};
 ///
-/// assert_eq!(parse_actions("id:7, t:none, deny")?, [Action::Id(7), Action::Transformation("none".to_string()), Action::Deny]);
-/// assert_eq!(parse_actions("deny,bogus"), Err(Refusal::UnknownAction { piece: 1, name: "bogus".to_string() }));
-/// let bad = |flaw| Err(Refusal::BadArgument { flaw, piece: 0, action: "id".to_string() });
-/// assert_eq!(parse_actions("id"), bad(Flaw::Absent));
-/// assert_eq!(parse_actions("id:'7'"), bad(Flaw::Unreadable));
-/// assert_eq!(parse_actions("id:18446744073709551616"), bad(Flaw::TooLarge));
+/// let actions = parse_actions("id:7, t:none, deny")?;
+/// assert_eq!(actions, [Action::Id(7), Action::Transformation("none".to_string()), Action::Deny]);
+/// assert_eq!(actions[1].source, 6..12);
+/// assert_eq!(parse_actions("deny,bogus"), Err(Refusal::UnknownAction { piece: 1, name: "bogus".to_string(), span: 5..10 }));
+/// let bad = |flaw, len| Err(Refusal::BadArgument { flaw, piece: 0, action: "id".to_string(), span: 0..len });
+/// assert_eq!(parse_actions("id"), bad(Flaw::Absent, 2));
+/// assert_eq!(parse_actions("id:'7'"), bad(Flaw::Unreadable, 6));
+/// assert_eq!(parse_actions("id:18446744073709551616"), bad(Flaw::TooLarge, 23));
 /// # Ok::<(), Refusal>(())
 /// ```
-pub fn parse_actions(input: &(impl AsRef<[u8]> + ?Sized)) -> Result<Vec<Action>, Refusal> {
+pub fn parse_actions(input: &(impl AsRef<[u8]> + ?Sized)) -> Result<Vec<Sourced<Action>>, Refusal> {
     let input = input.as_ref();
     let mut scratch = vec![0; input.len().min(crate::LIMIT)];
     let read = filled(input, 0, WIDTH, |text, records, values| raw::parse_actions(input, text, &mut scratch, records, values))?;
     Ok(read.records().map(|record| Action::of(record, &read.texts)).collect())
 }
 
-/// What stands behind `setvar:`.
+/// What stands behind `setvar:`. Its source is the input without blanks at both ends, and its end where nothing else is there.
 ///
 /// ```
 /// use seclang::{parse_setvar, SetVarValue};
 ///
-/// let set = parse_setvar("TX.score=+5")?;
-/// assert_eq!((set.collection.as_str(), set.key.as_str(), set.value), ("tx", "score", SetVarValue::Increment(5)));
+/// let set = parse_setvar(" TX.score=+5")?;
+/// assert_eq!((set.collection.as_str(), set.key.as_str(), &set.value), ("tx", "score", &SetVarValue::Increment(5)));
+/// assert_eq!(set.source, 1..12);
 /// # Ok::<(), seclang::Refusal>(())
 /// ```
-pub fn parse_setvar(input: &(impl AsRef<[u8]> + ?Sized)) -> Result<SetVar, Refusal> {
+pub fn parse_setvar(input: &(impl AsRef<[u8]> + ?Sized)) -> Result<Sourced<SetVar>, Refusal> {
     let input = input.as_ref();
     let read = filled(input, 3, WIDTH, |text, records, values| raw::parse_setvar(input, text, records, values))?;
     let set = read.records().map(|record| Action::of(record, &read.texts)).next();
     match set {
-        Some(Action::SetVar(set)) => Ok(set),
+        Some(Sourced { thing: Action::SetVar(set), source }) => Ok(Sourced { thing: set, source }),
         _ => another("a setvar with records", read.values[0]),
     }
 }

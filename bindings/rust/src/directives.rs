@@ -1,7 +1,7 @@
 //! Whole directives of a package.
 
 use crate::lent::{another, size, span, Texts, Values, NO_ROOM};
-use crate::{actions, raw, tokens, variables, Action, DirectiveCode, OperatorName, Refusal, Targets, TokenKind, LIMIT};
+use crate::{actions, raw, variables, Action, DirectiveCode, OperatorName, Refusal, Sourced, Targets, LIMIT};
 use std::ops::Range;
 
 /// Words of a directive record: kind, line, span in the input, name, negated, operator, its argument, and first and count of its
@@ -29,14 +29,14 @@ pub enum DirectiveKind {
         /// What they are asked.
         operator: RuleOperator,
         /// None where the rule has no third argument.
-        actions: Vec<Action>,
+        actions: Vec<Sourced<Action>>,
     },
     /// `SecAction`
-    Action(Vec<Action>),
+    Action(Vec<Sourced<Action>>),
     /// `SecMarker`, with its argument as it stands, blanks too.
     Marker(String),
     /// `SecDefaultAction`
-    Defaults(Vec<Action>),
+    Defaults(Vec<Sourced<Action>>),
     /// Any other, by its name as written. Its arguments are not looked at.
     Unknown(String),
 }
@@ -107,7 +107,7 @@ impl Package {
 
 impl Directive {
     /// The actions that it names: none for a marker and one that is unknown.
-    pub fn actions(&self) -> &[Action] {
+    pub fn actions(&self) -> &[Sourced<Action>] {
         match &self.kind {
             DirectiveKind::Rule { actions, .. } | DirectiveKind::Action(actions) | DirectiveKind::Defaults(actions) => actions,
             DirectiveKind::Marker(_) | DirectiveKind::Unknown(_) => &[],
@@ -126,26 +126,7 @@ impl Directive {
     }
 }
 
-/// The second argument of the rule in a line. With the number 8 all that was lent is zero, so that the operator's name is read here.
-fn operator_in(input: &[u8], line: usize) -> Result<String, Refusal> {
-    let all = tokens::tokens(input)?.list;
-    let rule = all.iter().position(|token| token.line == line && matches!(token.kind, TokenKind::Directive(_)));
-    let said = rule.and_then(|at| all.get(at + 2)).map(|token| token.text().to_string());
-    Ok(said.unwrap_or_default())
-}
-
-fn refused(number: u64, package: &Package, input: &[u8]) -> Refusal {
-    let values = &package.values;
-    if number != 8 {
-        return Refusal::of_package(number, values, &package.texts.0);
-    }
-    match operator_in(input, size(values[0])) {
-        Ok(said) => Refusal::of_package(number, values, said.as_bytes().get(size(values[1])..).unwrap_or_default()),
-        Err(refusal) => refusal,
-    }
-}
-
-/// The directives of a package, each with its arguments read.
+/// The directives of a package, each with its arguments read. Sources and the spans of refusals are in the package.
 ///
 /// A directive takes the words and strings up to the next line feed, comment or directive: `SecRule` two or three, `SecAction`,
 /// `SecMarker` and `SecDefaultAction` one, in any letter case; any other name as many as there are.
@@ -161,8 +142,9 @@ fn refused(number: u64, package: &Package, input: &[u8]) -> Refusal {
 /// assert_eq!(targets.variables[0].name, VariableName::Args);
 /// assert_eq!((operator.name, operator.argument.as_str()), (OperatorName::Contains, "x"));
 /// assert_eq!(actions[..], [Action::Id(7), Action::Deny]);
+/// assert_eq!(&package[actions[1].source.clone()], "deny");
 ///
-/// let why = Box::new(Refusal::UnknownAction { piece: 1, name: "bogus".to_string() });
+/// let why = Box::new(Refusal::UnknownAction { piece: 1, name: "bogus".to_string(), span: 27..32 });
 /// assert_eq!(directives("SecMarker m\nSecAction deny,bogus"), Err(Refusal::InDirective { line: 2, why }));
 /// assert_eq!(directives("SecMarker a b"), Err(Refusal::WrongCount { line: 1 }));
 /// # Ok::<(), Refusal>(())
@@ -181,7 +163,7 @@ pub fn directives(input: &(impl AsRef<[u8]> + ?Sized)) -> Result<Vec<Directive>,
         number = package.read(input, &mut scratch);
     }
     if number != 0 {
-        return Err(refused(number, &package, input));
+        return Err(Refusal::of_package(number, &package.values, input, &package.texts.0));
     }
     let records = package.directives.chunks_exact(WIDTH).take(size(package.values[0]));
     Ok(records.map(|record| package.directive(record)).collect())

@@ -51,7 +51,7 @@ pub(crate) fn filled(
     }
     match number {
         0 => Ok(Filled { values, texts: Texts(text), records, width }),
-        _ => Err(Refusal::of(number, &values, &text)),
+        _ => Err(Refusal::of(number, &values, input, &text)),
     }
 }
 

@@ -2,7 +2,8 @@
 //! to meet its contract.
 //!
 //! The functions here take any bytes, size what the library is lent, and give Rust types back: [`Directive`], [`Token`], [`Action`],
-//! [`Variable`], [`Operator`], or a [`Refusal`]. [`raw`] has the library's own functions over lent buffers.
+//! [`Variable`], [`Operator`], or a [`Refusal`]. Actions, variables and exclusions know which bytes they were read from ([`Sourced`]),
+//! and a refusal shows its own as a compiler does ([`Refusal::message`]). [`raw`] has the library's own functions over lent buffers.
 //!
 //! ```
 //! use seclang::{Action, OperatorName, TokenKind, VariableName};
@@ -25,6 +26,12 @@
 //! assert_eq!(actions[0], Action::Id(7));
 //! assert_eq!(actions[3], Action::Msg("a, b".to_string()));
 //! assert_eq!(seclang::phase(&actions), 1);
+//!
+//! let refusal = seclang::directives("SecAction \"id:7,dney\"").unwrap_err();
+//! assert_eq!(refusal.message("desk.conf", "SecAction \"id:7,dney\""), "\
+//! desk.conf:1:17: unknown action 'dney'
+//! SecAction \"id:7,dney\"
+//!                 ^~~~");
 //! # Ok::<(), seclang::Refusal>(())
 //! ```
 //!
@@ -38,11 +45,13 @@ mod actions;
 mod codes;
 mod directives;
 mod lent;
+mod messages;
 mod operators;
 #[allow(unsafe_code)]
 pub mod raw;
 mod refusals;
 mod rules;
+mod sources;
 mod tokens;
 mod variables;
 
@@ -52,6 +61,7 @@ pub use directives::{directives, Directive, DirectiveKind, RuleOperator};
 pub use operators::{parse_operator, Operator};
 pub use refusals::{Flaw, Refusal};
 pub use rules::{grade, phase, RuleIdSelector};
+pub use sources::Sourced;
 pub use tokens::{list_text, next_token, plain_tokens, tokens, Cursor, Step, Stop, Token, TokenKind, Tokens};
 pub use variables::{parse_update_targets, parse_variables, Selection, Targets, Variable, XmlTarget};
 
@@ -59,7 +69,7 @@ pub use variables::{parse_update_targets, parse_variables, Selection, Targets, V
 pub const LIMIT: usize = 16_384;
 
 /// The version of the library that this crate was made for.
-pub const VERSION: u64 = 2;
+pub const VERSION: u64 = 3;
 
 /// The version of the library that is linked.
 ///

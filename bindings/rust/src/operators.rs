@@ -24,7 +24,7 @@ pub struct Operator<'a> {
 /// let operator = parse_operator("!@rx a b")?;
 /// assert!(operator.negated);
 /// assert_eq!((operator.name, operator.argument, operator.place), (OperatorName::Rx, "a b", 5));
-/// assert_eq!(parse_operator("@rxx a"), Err(Refusal::UnknownOperator { place: 1, name: "rxx".to_string() }));
+/// assert_eq!(parse_operator("@rxx a"), Err(Refusal::UnknownOperator { place: 1, name: "rxx".to_string(), span: 1..4 }));
 /// # Ok::<(), Refusal>(())
 /// ```
 pub fn parse_operator<'a>(input: &'a (impl AsRef<[u8]> + ?Sized)) -> Result<Operator<'a>, Refusal> {
@@ -32,9 +32,7 @@ pub fn parse_operator<'a>(input: &'a (impl AsRef<[u8]> + ?Sized)) -> Result<Oper
     let mut values = Values::default();
     let number = raw::parse_operator(input, &mut values);
     if number != 0 {
-        // the name of an unknown operator stands at the place that the first value has
-        let name = input.get(size(values[0])..).unwrap_or_default();
-        return Err(Refusal::of(number, &values, name));
+        return Err(Refusal::of(number, &values, input, &[]));
     }
     let [negated, code, place, len, ..] = values;
     let Some(name) = OperatorName::from_code(code) else { another("an operator of the code", code) };

@@ -167,11 +167,11 @@ filler! {
     plain_tokens, seclang_plain_tokens
 }
 filler! {
-    /// A setvar alone: one action record. `text` is asked to be three bytes longer than the input.
+    /// A setvar alone: one action record, of seven words. `text` is asked to be three bytes longer than the input.
     parse_setvar, seclang_parse_setvar
 }
 filler! {
-    /// A list of variables: five words to a record.
+    /// A list of variables: six words to a record.
     parse_variables, seclang_parse_variables
 }
 filler! {
@@ -199,7 +199,7 @@ pub fn next_token(input: &[u8], from: Cursor, text: &mut [u8], values: &mut [u64
     }
 }
 
-/// An action list; `scratch` too is asked to be as long as the input and takes the normalised list.
+/// An action list: seven words to a record. `scratch` too is asked to be as long as the input and takes the normalised list.
 #[inline]
 pub fn parse_actions(input: &[u8], text: &mut [u8], scratch: &mut [u8], records: &mut [u64], values: &mut [u64]) -> u64 {
     // SAFETY: as above.
@@ -219,8 +219,8 @@ pub fn parse_actions(input: &[u8], text: &mut [u8], scratch: &mut [u8], records:
     }
 }
 
-/// The directives of a package; `scratch` too is asked to be as long as the input. Eleven words to a directive record, five to a
-/// variable's and six to an action's.
+/// The directives of a package; `scratch` too is asked to be as long as the input. Eleven words to a directive record, six to a
+/// variable's and seven to an action's.
 #[inline]
 pub fn directives(
     input: &[u8],
@@ -252,7 +252,8 @@ pub fn directives(
     }
 }
 
-/// An operator: by values whether it is negated, its code, and where its argument stands and how long it is.
+/// An operator: by values whether it is negated, its code, and where its argument stands and how long it is; or where an unknown name
+/// stands, how long it is, and both as a span.
 #[inline]
 pub fn parse_operator(input: &[u8], values: &mut [u64]) -> u64 {
     // SAFETY: as above.

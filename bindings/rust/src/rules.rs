@@ -4,19 +4,19 @@ use crate::actions::WIDTH;
 use crate::{raw, Action};
 
 /// Records with what grade and phase look at: codes and numbers.
-fn records(actions: &[Action]) -> Vec<u64> {
-    let words = |action: &Action| -> [u64; WIDTH] { [action.code().code(), action.number(), 0, 0, 0, 0] };
-    actions.iter().flat_map(words).collect()
+fn records(actions: &[impl AsRef<Action>]) -> Vec<u64> {
+    let words = |action: &Action| -> [u64; WIDTH] { [action.code().code(), action.number(), 0, 0, 0, 0, 0] };
+    actions.iter().flat_map(|action| words(action.as_ref())).collect()
 }
 
 /// A rule's phase: the first that its actions name, else 2.
 ///
 /// ```
 /// assert_eq!(seclang::phase(&seclang::parse_actions("id:7,phase:4")?), 4);
-/// assert_eq!(seclang::phase(&[]), 2);
+/// assert_eq!(seclang::phase(&[seclang::Action::Deny]), 2);
 /// # Ok::<(), seclang::Refusal>(())
 /// ```
-pub fn phase(actions: &[Action]) -> u64 {
+pub fn phase(actions: &[impl AsRef<Action>]) -> u64 {
     raw::phase(&records(actions))
 }
 
@@ -27,7 +27,7 @@ pub fn phase(actions: &[Action]) -> u64 {
 /// assert!(!seclang::grade(&seclang::parse_actions("id:7,phase:6")?));
 /// # Ok::<(), seclang::Refusal>(())
 /// ```
-pub fn grade(actions: &[Action]) -> bool {
+pub fn grade(actions: &[impl AsRef<Action>]) -> bool {
     raw::grade(&records(actions))
 }
 

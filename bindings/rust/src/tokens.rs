@@ -165,7 +165,7 @@ pub fn next_token(input: &(impl AsRef<[u8]> + ?Sized), from: Cursor) -> Result<S
             Ok(Step { token: Some(token), next })
         }
         (0, [_, next @ ..]) => Ok(Step { token: None, next: Cursor::of(&next) }),
-        _ => Err(Refusal::of(number, &values, &text)),
+        _ => Err(Refusal::of(number, &values, input, &text)),
     }
 }
 

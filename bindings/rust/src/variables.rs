@@ -2,7 +2,7 @@
 
 use crate::lent::{another, filled, Texts};
 use crate::raw::{self, Filler};
-use crate::{Refusal, VariableName};
+use crate::{Refusal, Sourced, VariableName};
 
 /// What a variable is narrowed to.
 #[derive(Clone, Debug, PartialEq, Eq, Hash)]
@@ -27,22 +27,23 @@ pub struct Variable {
 /// What a list of variables says.
 #[derive(Clone, Debug, Default, PartialEq, Eq, Hash)]
 pub struct Targets {
-    /// In the order of the list.
-    pub variables: Vec<Variable>,
-    /// What stands behind each `!`, in the order of the list. In a rule they hold for every variable of it.
-    pub exclusions: Vec<String>,
+    /// In the order of the list, each read from its whole part, an `&` too.
+    pub variables: Vec<Sourced<Variable>>,
+    /// What stands behind each `!`, in the order of the list; the `!` is part of the source. In a rule they hold for every variable
+    /// of it.
+    pub exclusions: Vec<Sourced<String>>,
 }
 
-/// Words of a variable's or an exclusion's record.
-pub(crate) const WIDTH: usize = 5;
+/// Words of a variable's or an exclusion's record, the source the last.
+pub(crate) const WIDTH: usize = 6;
 
 impl Targets {
     pub(crate) fn of<'a>(records: impl Iterator<Item = &'a [u64]>, texts: &Texts) -> Self {
         let mut targets = Targets::default();
         for record in records {
-            let text = || texts.said(record[4]);
+            let (text, source) = (|| texts.said(record[4]), record[WIDTH - 1]);
             if record[0] == 2 {
-                targets.exclusions.push(text());
+                targets.exclusions.push(Sourced::of(text(), source));
                 continue;
             }
             let Some(name) = VariableName::from_code(record[1]) else { another("a variable of the code", record[1]) };
@@ -52,7 +53,7 @@ impl Targets {
                 2 => Some(Selection::Regex(text())),
                 other => another("a selection of the kind", other),
             };
-            targets.variables.push(Variable { name, counted: record[2] != 0, selection });
+            targets.variables.push(Sourced::of(Variable { name, counted: record[2] != 0, selection }, source));
         }
         targets
     }
@@ -73,7 +74,8 @@ fn read_targets(input: &[u8], reader: Filler) -> Result<Targets, Refusal> {
 /// assert_eq!(targets.variables[0].name, VariableName::Args);
 /// assert!(targets.variables[1].counted);
 /// assert_eq!(targets.variables[1].selection, Some(Selection::Regex("^a".to_string())));
-/// assert_eq!(parse_variables("ARGS|x"), Err(Refusal::UnknownVariable { piece: 1, name: "x".to_string() }));
+/// assert_eq!((targets.exclusions[0].source.clone(), targets.variables[1].source.clone()), (0..7, 13..21));
+/// assert_eq!(parse_variables("ARGS|x"), Err(Refusal::UnknownVariable { piece: 1, name: "x".to_string(), span: 5..6 }));
 /// # Ok::<(), Refusal>(())
 /// ```
 pub fn parse_variables(input: &(impl AsRef<[u8]> + ?Sized)) -> Result<Targets, Refusal> {

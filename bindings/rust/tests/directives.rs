@@ -1,9 +1,10 @@
 //! Whole directives as Rust types: what each takes, the order of faults, and what the crate lends at the edges.
 
 use seclang::{
-    directives, Action, Directive, DirectiveKind, Flaw, OperatorName, Refusal, RuleOperator, Selection, SetVar, SetVarValue, Targets,
+    directives, Action, DirectiveKind, Flaw, OperatorName, Refusal, RuleOperator, Selection, SetVar, SetVarValue, Sourced, Targets,
     Variable, VariableName, LIMIT,
 };
+use std::ops::Range;
 
 fn kinds(package: &str) -> Vec<DirectiveKind> {
     directives(package).unwrap_or_else(|refusal| panic!("{package:?}: {refusal}")).into_iter().map(|directive| directive.kind).collect()
@@ -21,16 +22,20 @@ fn name(text: &str) -> String {
     text.to_string()
 }
 
-fn variable(name: VariableName, selection: Option<Selection>) -> Variable {
-    Variable { name, counted: false, selection }
+fn at<T>(source: Range<usize>, thing: T) -> Sourced<T> {
+    Sourced { thing, source }
+}
+
+fn variable(source: Range<usize>, name: VariableName, selection: Option<Selection>) -> Sourced<Variable> {
+    at(source, Variable { name, counted: false, selection })
 }
 
 #[test]
 fn a_directive_takes_what_stands_behind_it() {
     let rx = |argument: &str| RuleOperator { negated: false, name: OperatorName::Rx, argument: name(argument) };
-    let args = || Targets { variables: vec![variable(VariableName::Args, None)], exclusions: Vec::new() };
+    let args = || Targets { variables: vec![variable(8..12, VariableName::Args, None)], exclusions: Vec::new() };
     let rule = |operator, actions| DirectiveKind::Rule { targets: args(), operator, actions };
-    assert_eq!(kinds("SecRule ARGS\"@rx a\"\"deny\""), [rule(rx("a"), vec![Action::Deny])]);
+    assert_eq!(kinds("SecRule ARGS\"@rx a\"\"deny\""), [rule(rx("a"), vec![at(20..24, Action::Deny)])]);
     assert_eq!(kinds("sec"), [DirectiveKind::Unknown(name("sec"))]);
     assert_eq!(kinds("SecMarker \" a \""), [DirectiveKind::Marker(name(" a "))]);
     assert_eq!(kinds("Include \"a\" b # c\n"), [DirectiveKind::Unknown(name("Include"))]);
@@ -39,8 +44,8 @@ fn a_directive_takes_what_stands_behind_it() {
         [
             rule(rx("a"), Vec::new()),
             DirectiveKind::Marker(name("m")),
-            DirectiveKind::Action(vec![Action::Deny]),
-            DirectiveKind::Defaults(vec![Action::Phase(1), Action::Log]),
+            DirectiveKind::Action(vec![at(37..41, Action::Deny)]),
+            DirectiveKind::Defaults(vec![at(60..67, Action::Phase(1)), at(68..71, Action::Log)]),
         ]
     );
     let empty = DirectiveKind::Rule { targets: Targets::default(), operator: rx(""), actions: Vec::new() };
@@ -51,13 +56,28 @@ fn a_directive_takes_what_stands_behind_it() {
 #[test]
 fn a_rule_has_all_its_parts() {
     let set = SetVar { collection: name("tx"), key: name("y"), value: SetVarValue::String(name("1")) };
-    let variables = vec![variable(VariableName::Tx, Some(Selection::Key(name("k")))), variable(VariableName::Args, None)];
+    let variables = vec![variable(11..15, VariableName::Tx, Some(Selection::Key(name("k")))), variable(16..20, VariableName::Args, None)];
     let rule = DirectiveKind::Rule {
-        targets: Targets { variables, exclusions: vec![name("a")] },
+        targets: Targets { variables, exclusions: vec![at(8..10, name("a"))] },
         operator: RuleOperator { negated: true, name: OperatorName::Pm, argument: name("x") },
-        actions: vec![Action::SetVar(set)],
+        actions: vec![at(31..39, Action::SetVar(set))],
     };
     assert_eq!(kinds("SecRule !a|TX:k|ARGS \"!@pm x \" setvar:y"), [rule]);
+}
+
+/// Pieces are underlined in the package, over what lexer and normaliser take out of them.
+#[test]
+fn sources_are_in_the_package() {
+    let told = |package: &'static str| {
+        let read = directives(package).expect(package);
+        read.iter().flat_map(|directive| directive.actions()).map(|action| &package[action.source.clone()]).collect::<Vec<_>>()
+    };
+    assert_eq!(told("SecAction \"msg:a\\,deny\""), ["msg:a\\", "deny"]);
+    assert_eq!(told("SecAction \"\\tdeny\\n,log \""), ["deny", "log"]);
+    assert_eq!(told("SecAction \"de\\\\\n  ny\""), ["de\\\\\n  ny"]);
+    assert_eq!(told("SecAction \"deny\\\\\\n,log\""), ["deny", "log"]);
+    assert_eq!(told("SecMarker m\nSecAction \"msg:\\\"a\\\",\\\n  t:b\" # c"), ["msg:\\\"a\\\"", "t:b"]);
+    assert_eq!(told("SecAction de\\\nny,\\\r\nlog"), ["de\\\nny", "log"]);
 }
 
 #[test]
@@ -84,26 +104,28 @@ fn counts_strays_and_stops_are_refused() {
 
 #[test]
 fn an_argument_is_refused_with_its_line() {
-    let unknown = |piece, said: &str| Refusal::UnknownAction { piece, name: name(said) };
-    assert_eq!(refusal("SecAction bogus\nSecRule x"), inside(1, unknown(0, "bogus")));
-    assert_eq!(refusal("\n\nSecAction \\\n\"deny,\\\n bogus\""), inside(3, unknown(1, "bogus")));
-    assert_eq!(refusal("SecRule ARGS|Nope @x x"), inside(1, Refusal::UnknownVariable { piece: 1, name: name("Nope") }));
+    let unknown = |piece, said: &str, span| Refusal::UnknownAction { piece, name: name(said), span };
+    assert_eq!(refusal("SecAction bogus\nSecRule x"), inside(1, unknown(0, "bogus", 10..15)));
+    assert_eq!(refusal("\n\nSecAction \\\n\"deny,\\\n bogus\""), inside(3, unknown(1, "bogus", 23..28)));
+    assert_eq!(refusal("SecRule ARGS|Nope @x x"), inside(1, Refusal::UnknownVariable { piece: 1, name: name("Nope"), span: 13..17 }));
     assert_eq!(refusal("SecAction bogus").number(), 5);
     assert_eq!(refusal("\nSecAction bogus").to_string(), "line 2: unknown action 'bogus' in piece 0");
 }
 
 #[test]
 fn an_argument_of_an_action_has_its_flaw() {
-    let bad = |line, flaw, piece, action| inside(line, Refusal::BadArgument { flaw, piece, action: name(action) });
-    assert_eq!(refusal("SecAction id"), bad(1, Flaw::Absent, 0, "id"));
-    assert_eq!(refusal("\nSecRule TX a log,SKIPAFTER"), bad(2, Flaw::Absent, 1, "skipAfter"));
-    for package in ["SecAction id:", "SecAction id:-99999999999999999999", "SecAction id:99999999999999999999x", "SecAction \"id:'1'\""] {
-        assert_eq!(refusal(package), bad(1, Flaw::Unreadable, 0, "id"), "{package}");
+    let bad = |line, flaw, piece, action, span| inside(line, Refusal::BadArgument { flaw, piece, action: name(action), span });
+    assert_eq!(refusal("SecAction id"), bad(1, Flaw::Absent, 0, "id", 10..12));
+    assert_eq!(refusal("\nSecRule TX a log,SKIPAFTER"), bad(2, Flaw::Absent, 1, "skipAfter", 18..27));
+    for list in ["id:", "id:-99999999999999999999", "id:99999999999999999999x", "id:\\\n1x"] {
+        let span = 10..10 + list.len();
+        assert_eq!(refusal(&format!("SecAction {list}")), bad(1, Flaw::Unreadable, 0, "id", span), "{list}");
     }
+    assert_eq!(refusal("SecAction \"id:'1'\""), bad(1, Flaw::Unreadable, 0, "id", 11..17));
     // the mark that is left open takes the line feed into the argument
-    assert_eq!(refusal("SecAction \"id:1\nSecAction log"), bad(1, Flaw::Unreadable, 0, "id"));
-    assert_eq!(refusal("SecAction id:+99999999999999999999"), bad(1, Flaw::TooLarge, 0, "id"));
-    assert_eq!(refusal("#\nSecDefaultAction \"log,severity:'300'\""), bad(2, Flaw::TooLarge, 1, "severity"));
+    assert_eq!(refusal("SecAction \"id:1\nSecAction log"), bad(1, Flaw::Unreadable, 0, "id", 11..29));
+    assert_eq!(refusal("SecAction id:+99999999999999999999"), bad(1, Flaw::TooLarge, 0, "id", 10..34));
+    assert_eq!(refusal("#\nSecDefaultAction \"log,severity:'300'\""), bad(2, Flaw::TooLarge, 1, "severity", 24..38));
     assert!(directives("SecAction expirevar:a=99999999999999999999,setvar:b=+99999999999999999999").is_ok());
     let told = ["SecAction id", "SecAction id:", "SecAction phase:256"].map(refusal);
     assert_eq!(told.iter().map(Refusal::number).collect::<Vec<_>>(), [10, 11, 12]);
@@ -113,11 +135,13 @@ fn an_argument_of_an_action_has_its_flaw() {
 /// The name of an operator is read again, since nothing is left of it in what was lent.
 #[test]
 fn an_operator_is_refused_by_name() {
-    let unknown = |place, said: &str| Refusal::UnknownOperator { place, name: name(said) };
-    assert_eq!(refusal("SecRule ARGS \"@x\" x"), inside(1, unknown(1, "x")));
-    assert_eq!(refusal("SecMarker m\n\nSecRule ARGS \"\\t!@Nope y\""), inside(3, unknown(3, "Nope")));
-    assert_eq!(refusal("SecRule ARGS '@'"), inside(1, unknown(1, "")));
-    assert_eq!(refusal("SecRule \\\n ARGS \\\n \"@within1 a\""), inside(1, unknown(1, "within1")));
+    let unknown = |place, said: &str, span| Refusal::UnknownOperator { place, name: name(said), span };
+    assert_eq!(refusal("SecRule ARGS \"@x\" x"), inside(1, unknown(1, "x", 15..16)));
+    assert_eq!(refusal("SecMarker m\n\nSecRule ARGS \"\\t!@Nope y\""), inside(3, unknown(3, "Nope", 31..35)));
+    assert_eq!(refusal("SecRule ARGS '@'"), inside(1, unknown(1, "", 15..15)));
+    assert_eq!(refusal("SecRule \\\n ARGS \\\n \"@within1 a\""), inside(1, unknown(1, "within1", 21..28)));
+    // as it is read, and as it is written
+    assert_eq!(refusal("SecRule ARGS \"@no\\\n  p\\\"e y\""), inside(1, unknown(1, "nop\"e", 15..25)));
 }
 
 #[test]
@@ -149,9 +173,16 @@ fn the_parts_are_the_single_readers() {
     let package = format!("SecRule ARGS|!ARGS:p \"!@rx a b\" \"{list}\"\nSecAction \"{list}\"\n");
     let read = directives(&package).expect("a package");
     let actions = seclang::parse_actions(list).expect("a list");
-    assert!(read.iter().all(|directive: &Directive| directive.actions() == actions));
+    for (directive, first) in read.iter().zip([package.find(list), package.rfind(list)]) {
+        let first = first.expect("the list");
+        let moved = |action: &Sourced<Action>| at(action.source.start + first..action.source.end + first, action.thing.clone());
+        assert_eq!(directive.actions(), actions.iter().map(moved).collect::<Vec<_>>());
+    }
     let DirectiveKind::Rule { targets, operator, .. } = &read[0].kind else { panic!("a rule") };
-    assert_eq!(Ok(targets.clone()), seclang::parse_variables("ARGS|!ARGS:p"));
+    let single = seclang::parse_variables("ARGS|!ARGS:p").expect("a list");
+    assert_eq!((targets.variables[0].thing.clone(), targets.variables[0].source.clone()), (single.variables[0].thing.clone(), 8..12));
+    assert_eq!((targets.exclusions[0].as_str(), targets.exclusions[0].source.clone()), ("ARGS:p", 13..20));
+    assert_eq!((targets.variables.len(), targets.exclusions.len()), (single.variables.len(), single.exclusions.len()));
     let single = seclang::parse_operator("!@rx a b").expect("an operator");
     assert_eq!((operator.negated, operator.name, operator.argument.as_str()), (single.negated, single.name, single.argument));
 }

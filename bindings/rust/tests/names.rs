@@ -66,7 +66,7 @@ fn each_action_has_its_code() {
 #[test]
 fn each_value_has_its_kind() {
     let kinds: Vec<ValueKind> = ["a=x", "a=1", "a=+1", "a=-1", "!a", "a=%{b}"]
-        .map(|text| seclang::parse_setvar(text).expect("a setvar").value)
+        .map(|text| seclang::parse_setvar(text).expect("a setvar").thing.value)
         .iter()
         .map(SetVarValue::kind)
         .collect();

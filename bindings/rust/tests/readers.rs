@@ -4,13 +4,14 @@ use seclang::{
     list_text, next_token, parse_actions, parse_operator, parse_setvar, parse_update_targets, parse_variables, plain_tokens, tokens,
     Action, Cursor, Flaw, Refusal, RuleIdSelector, SetVar, SetVarValue, Token, XmlTarget, LIMIT,
 };
+use std::ops::Range;
 
 fn set(collection: &str, key: &str, value: SetVarValue) -> SetVar {
     SetVar { collection: collection.to_string(), key: key.to_string(), value }
 }
 
-fn bad_argument(flaw: Flaw, piece: usize, action: &str) -> Refusal {
-    Refusal::BadArgument { flaw, piece, action: action.to_string() }
+fn bad_argument(flaw: Flaw, piece: usize, action: &str, span: Range<usize>) -> Refusal {
+    Refusal::BadArgument { flaw, piece, action: action.to_string(), span }
 }
 
 /// All tokens by single steps, and where the last one stands.
@@ -70,14 +71,15 @@ fn setvars_are_read() {
     assert_eq!(read("a=9223372036854775808"), set("tx", "a", SetVarValue::String("9223372036854775808".to_string())));
     assert_eq!(read("'!tx.a'"), set("tx", "a", SetVarValue::Delete));
     assert_eq!(read(""), set("tx", "", SetVarValue::String("1".to_string())));
-    let [Action::SetVar(inside)] = &parse_actions("setvar:'tx.a=+%{b}'").expect("a list")[..] else { panic!("one setvar") };
-    assert_eq!(*inside, set("tx", "a", SetVarValue::Macro("+%{b}".to_string())));
+    let inside = set("tx", "a", SetVarValue::Macro("+%{b}".to_string()));
+    assert_eq!(parse_actions("setvar:'tx.a=+%{b}'").expect("a list"), [Action::SetVar(inside)]);
+    assert_eq!([read(" a "), read(" \t"), read(""), read("'a'")].map(|set| set.source), [1..2, 2..2, 0..0, 0..3]);
 }
 
 #[test]
 fn ids_are_whole_words() {
-    assert_eq!(parse_actions("id:18446744073709551615"), Ok(vec![Action::Id(u64::MAX)]));
-    assert_eq!(parse_actions("id:18446744073709551616"), Err(bad_argument(Flaw::TooLarge, 0, "id")));
+    assert_eq!(parse_actions("id:18446744073709551615").expect("an id"), [Action::Id(u64::MAX)]);
+    assert_eq!(parse_actions("id:18446744073709551616"), Err(bad_argument(Flaw::TooLarge, 0, "id", 0..23)));
     assert!(RuleIdSelector::Range(1, u64::MAX).matches(u64::MAX) && RuleIdSelector::Single(u64::MAX).matches(u64::MAX));
     assert!(!RuleIdSelector::Range(2, 1).matches(1) && !RuleIdSelector::Single(1).matches(2));
 }
@@ -102,14 +104,44 @@ fn xml_selections_are_told_apart() {
 #[test]
 fn refusals_have_their_values() {
     let name = |name: &str| name.to_string();
-    assert_eq!(parse_actions("deny,,Bogus:1,phase:x"), Err(Refusal::UnknownAction { piece: 1, name: name("bogus") }));
-    assert_eq!(parse_actions("log,phase:'2'"), Err(bad_argument(Flaw::Unreadable, 1, "phase")));
-    assert_eq!(parse_variables("ARGS:/a|b/"), Err(Refusal::UnknownVariable { piece: 1, name: name("b/") }));
-    assert_eq!(parse_update_targets("!x"), Err(Refusal::UnknownVariable { piece: 0, name: name("x") }));
-    assert_eq!(parse_operator(" !@rx\x0ba"), Err(Refusal::UnknownOperator { place: 3, name: name("rx\x0ba") }));
-    assert_eq!(parse_operator("@"), Err(Refusal::UnknownOperator { place: 1, name: name("") }));
+    assert_eq!(parse_actions("deny,,Bogus:1,phase:x"), Err(Refusal::UnknownAction { piece: 1, name: name("bogus"), span: 6..13 }));
+    assert_eq!(parse_actions("log,phase:'2'"), Err(bad_argument(Flaw::Unreadable, 1, "phase", 4..13)));
+    assert_eq!(parse_variables("ARGS:/a|b/"), Err(Refusal::UnknownVariable { piece: 1, name: name("b/"), span: 8..10 }));
+    assert_eq!(parse_update_targets(" !x "), Err(Refusal::UnknownVariable { piece: 0, name: name("x"), span: 1..3 }));
+    assert_eq!(parse_operator(" !@rx\x0ba"), Err(Refusal::UnknownOperator { place: 3, name: name("rx\x0ba"), span: 3..7 }));
+    assert_eq!(parse_operator("@"), Err(Refusal::UnknownOperator { place: 1, name: name(""), span: 1..1 }));
     let shown = parse_actions("bogus").map_err(|refusal| refusal.to_string());
     assert_eq!(shown, Err(name("unknown action 'bogus' in piece 0")));
+}
+
+/// What is underlined: pieces without blanks at their ends, with their marks, over what is taken out.
+#[test]
+fn sources_are_told() {
+    let list = " deny ,de\\\n  ny,\\\r\n\tt:a";
+    let told: Vec<&str> = parse_actions(list).expect("a list").iter().map(|action| &list[action.source.clone()]).collect();
+    assert_eq!(told, ["deny", "de\\\n  ny", "t:a"]);
+    let list = " !a |&TX:k| args\t";
+    for targets in [parse_variables(list), parse_update_targets(&list.replace("!a", "!ip"))] {
+        let targets = targets.expect("a list");
+        let more = targets.exclusions[0].len() - 1;
+        assert_eq!(targets.exclusions[0].source, 1..3 + more);
+        let told: Vec<Range<usize>> = targets.variables.iter().map(|variable| variable.source.clone()).collect();
+        assert_eq!(told, [5 + more..10 + more, 12 + more..16 + more]);
+    }
+}
+
+/// What a host has that lends by itself.
+#[test]
+fn refusals_are_told_by_what_was_left() {
+    assert_eq!(Refusal::from_raw(0, &[], b"", b""), None);
+    assert_eq!((Refusal::from_raw(13, &[1], b"", b""), Refusal::from_raw_package(9, &[0], b"", b"")), (None, None));
+    assert_eq!(Refusal::from_raw(8, &[1, 2, 65_538], b"@no x", b"").map(|refusal| refusal.span()), Some(Some(1..3)));
+    // values that did not fit were not stored
+    assert!(Refusal::from_raw(5, &[], b"bogus", b"bogus").is_some());
+    let numbers: Vec<u64> = (0..20).filter_map(|n| Refusal::from_raw(n, &[0; 10], b"x", b"x")).map(|refusal| refusal.number()).collect();
+    assert_eq!(numbers, [1, 2, 3, 4, 5, 7, 8, 9, 10, 11, 12]);
+    let numbers = (0..20).filter_map(|n| Refusal::from_raw_package(n, &[0; 10], b"x", b"x")).map(|refusal| refusal.number());
+    assert_eq!(numbers.collect::<Vec<_>>(), [1, 2, 3, 4, 5, 7, 8, 10, 11, 12, 13, 14, 15]);
 }
 
 /// Why an argument is refused, by number and in words.
@@ -117,15 +149,15 @@ fn refusals_have_their_values() {
 fn arguments_have_three_flaws() {
     for list in ["id", "ID", "skipAfter", "setvar", "ctl", "severity"] {
         let action = if list == "ID" { "id" } else { list };
-        assert_eq!(parse_actions(list), Err(bad_argument(Flaw::Absent, 0, action)));
+        assert_eq!(parse_actions(list), Err(bad_argument(Flaw::Absent, 0, action, 0..list.len())));
     }
     for argument in ["", "+", "-1", "-99999999999999999999", "99999999999999999999x", "''", "fatal", "1 2"] {
         let list = format!("log,,severity:{argument},bogus");
-        assert_eq!(parse_actions(&list), Err(bad_argument(Flaw::Unreadable, 1, "severity")), "{list}");
+        assert_eq!(parse_actions(&list), Err(bad_argument(Flaw::Unreadable, 1, "severity", 5..14 + argument.len())), "{list}");
     }
     for list in ["id:+99999999999999999999", "skip:4294967296", "status:65536", "phase:256", "severity:'300'", "accuracy:00256"] {
         let action = list.split(':').next().unwrap_or_default();
-        assert_eq!(parse_actions(list), Err(bad_argument(Flaw::TooLarge, 0, action)), "{list}");
+        assert_eq!(parse_actions(list), Err(bad_argument(Flaw::TooLarge, 0, action, 0..list.len())), "{list}");
     }
     assert!(parse_actions("expirevar:a=99999999999999999999,setvar:b=+99999999999999999999,severity:\"+0255'").is_ok());
     let told = ["id", "id:", "id:99999999999999999999"].map(|list| parse_actions(list).expect_err(list));

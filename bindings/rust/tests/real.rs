@@ -1,7 +1,7 @@
 //! Real rules through the typed readers: samples/desk.conf, and the Core Rule Set where it is installed (Debian: modsecurity-crs).
 //! What was read is held against the source, cut here a second time by plain text searches.
 
-use seclang::{Action, ActionCode, Refusal, Selection, SetVarValue, Targets, Token, TokenKind, LIMIT};
+use seclang::{Action, ActionCode, Refusal, Selection, SetVarValue, Sourced, Targets, Token, TokenKind, LIMIT};
 use std::path::{Path, PathBuf};
 
 const FOLDER: &str = "/usr/share/modsecurity-crs";
@@ -68,12 +68,16 @@ fn rendered(targets: &Targets) -> (Vec<String>, Vec<String>) {
         };
         format!("{}{}{selected}", if variable.counted { "&" } else { "" }, variable.name.name().expect("a name"))
     });
-    (variables.collect(), targets.exclusions.iter().map(|text| format!("!{text}")).collect())
+    (variables.collect(), targets.exclusions.iter().map(|text| format!("!{}", text.thing)).collect())
 }
 
 fn check_variables(source: &str) {
     let cut: (Vec<String>, Vec<String>) = source.split('|').map(|part| part.to_string()).partition(|part| !part.starts_with('!'));
-    assert_eq!(rendered(&seclang::parse_variables(source).expect(source)), cut, "{source}");
+    let targets = seclang::parse_variables(source).expect(source);
+    assert_eq!(rendered(&targets), cut, "{source}");
+    let sources = targets.variables.iter().map(|one| &one.source).chain(targets.exclusions.iter().map(|one| &one.source));
+    let underlined: Vec<&str> = sources.map(|part| &source[part.clone()]).collect();
+    assert_eq!(underlined, [cut.0, cut.1].concat(), "{source}");
 }
 
 fn check_operator(source: &str) {
@@ -150,14 +154,28 @@ fn check_action(part: &str, action: &Action) {
     assert!(argument_of(action).eq_ignore_ascii_case(&argument_in(action.code(), argument)), "{part}: {action:?}");
 }
 
+/// The actions of a rule and of its list alone: the same, and underlined the same but where the lexer took something out.
+fn check_sources(rule: &str, in_rule: &[Sourced<Action>], list: &str, in_list: &[Sourced<Action>]) {
+    assert_eq!(in_rule.len(), in_list.len(), "{rule}");
+    for (there, here) in in_rule.iter().zip(in_list) {
+        assert_eq!(there.thing, here.thing, "{rule}");
+        let (written, read) = (&rule[there.source.clone()], &list[here.source.clone()]);
+        assert!(written.contains('\\') || written == read, "{rule}: {written} and {read}");
+    }
+}
+
 /// The same rule by the reader of whole directives: its actions are those of its list, and what is refused is known.
-fn check_directive(source: &str, actions: Result<Vec<Action>, Refusal>) {
+fn check_directive(source: &str, list: &str, actions: Result<Vec<Sourced<Action>>, Refusal>) {
     match (seclang::directives(source), actions) {
         (Ok(read), Ok(actions)) => {
-            assert_eq!((read.len(), read[0].actions(), read[0].line), (1, &actions[..], 1), "{source}");
-            assert_eq!(read[0].bytes, 0..source.len(), "{source}");
+            assert_eq!((read.len(), read[0].line, read[0].bytes.clone()), (1, 1, 0..source.len()), "{source}");
+            check_sources(source, read[0].actions(), list, &actions);
         }
-        (Err(Refusal::InDirective { line, why }), Err(refusal)) => assert_eq!((line, *why), (1, refusal), "{source}"),
+        (Err(Refusal::InDirective { line, why }), Err(refusal)) => {
+            assert_eq!((line, why.to_string()), (1, refusal.to_string()), "{source}");
+            let [there, here] = [(source, &*why), (list, &refusal)].map(|(text, refusal)| &text[refusal.span().expect("a span")]);
+            assert!(there.contains('\\') || there == here, "{source}: {there} and {here}");
+        }
         (read, _) => assert!(known(source) && read == Err(Refusal::WrongCount { line: 1 }), "{source}: {read:?}"),
     }
 }
@@ -184,15 +202,16 @@ impl Seen {
             _ => return,
         };
         self.rules += 1;
-        check_directive(source, seclang::parse_actions(list));
+        check_directive(source, list, seclang::parse_actions(list));
         let Ok(actions) = seclang::parse_actions(list) else { return self.refused.push(source.to_string()) };
         let parts = parts(list);
         assert_eq!(parts.len(), actions.len(), "{list}");
         parts.iter().zip(&actions).for_each(|(part, action)| check_action(part, action));
-        let phase = actions.iter().find_map(|action| if let Action::Phase(n) = action { Some(*n) } else { None });
+        assert!(parts.iter().zip(&actions).all(|(part, action)| list[action.source.clone()] == **part), "{list}");
+        let phase = actions.iter().find_map(|action| if let Action::Phase(n) = action.thing { Some(n) } else { None });
         assert_eq!(seclang::phase(&actions), phase.unwrap_or(2));
         self.actions += actions.len();
-        self.ids.extend(actions.iter().filter_map(|action| if let Action::Id(id) = action { Some(*id) } else { None }));
+        self.ids.extend(actions.iter().filter_map(|action| if let Action::Id(id) = action.thing { Some(id) } else { None }));
     }
 
     fn text(&mut self, text: &str) {
