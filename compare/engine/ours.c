@@ -41,7 +41,8 @@ static bool variables_read(uint64_t number, FILE *said)
     if (refused(number, said))
         return false;
     fprintf(said, ": %" PRIu64 " records", values[0]);
-    for (const uint64_t *record = records; record < records + values[0] * 5; record += 5) {
+    const uint64_t *end = records + values[0] * SECLANG_VARIABLE_WORDS;
+    for (const uint64_t *record = records; record < end; record += SECLANG_VARIABLE_WORDS) {
         if (record[0] == 2)
             fputs(", not", said);
         else
@@ -117,9 +118,9 @@ bool ours_actions(struct text list, FILE *said)
     uint64_t count = values[0];
     for (uint64_t i = 0; i < count; i++) {
         fputs(i == 0 ? ": " : ", ", said);
-        tell_action(records + i * 6, said);
+        tell_action(records + i * SECLANG_ACTION_WORDS, said);
     }
-    size_t words = (size_t)count * 6;
+    size_t words = (size_t)count * SECLANG_ACTION_WORDS;
     fprintf(said, "; phase %" PRIu64, seclang_phase(records, words));
     fputs(seclang_grade(records, words) ? "" : ", no grade", said);
     return true;
@@ -168,7 +169,8 @@ bool ours_directives(struct text input, struct directive *directives, size_t *co
         return false;
     fputs(": ", said);
     struct directive *open = NULL;
-    for (const uint64_t *token = tokens; token < tokens + values[0] * 5; token += 5) {
+    const uint64_t *end = tokens + values[0] * SECLANG_TOKEN_WORDS;
+    for (const uint64_t *token = tokens; token < end; token += SECLANG_TOKEN_WORDS) {
         struct text own = {token_text + token[4] / 65536, (size_t)(token[4] % 65536)};
         fputc(" DWSCN"[token[0]], said);
         if (token[0] == 1 && *count < MOST_DIRECTIVES) {
