@@ -43,21 +43,21 @@ unfolding Alone roomFor entriesOf entries
 Graded words g = grades (entries words) ≡ g
 
 -- `phase:5`, `phase:100`
-pub logging : Graded (12 ∷ 5 ∷ 0 ∷ 0 ∷ 0 ∷ 0 ∷ []) true
+pub logging : Graded (12 ∷ 5 ∷ 0 ∷ 0 ∷ 0 ∷ 0 ∷ 0 ∷ []) true
 unfolding Graded
 logging = refl
 
-pub past-logging : Graded (12 ∷ 100 ∷ 0 ∷ 0 ∷ 0 ∷ 0 ∷ []) false
+pub past-logging : Graded (12 ∷ 100 ∷ 0 ∷ 0 ∷ 0 ∷ 0 ∷ 0 ∷ []) false
 unfolding Graded
 past-logging = refl
 
 -- `phase:5,phase:6`: every phase counts, and not the first alone
-pub later-phase : Graded (12 ∷ 5 ∷ 0 ∷ 0 ∷ 0 ∷ 0 ∷ 12 ∷ 6 ∷ 0 ∷ 0 ∷ 0 ∷ 0 ∷ []) false
+pub later-phase : Graded (12 ∷ 5 ∷ 0 ∷ 0 ∷ 0 ∷ 0 ∷ 9 ∷ 12 ∷ 6 ∷ 0 ∷ 0 ∷ 0 ∷ 0 ∷ 9 ∷ []) false
 unfolding Graded
 later-phase = refl
 
 -- `id:1,id:1`: one id at most
-pub two-ids : Graded (11 ∷ 1 ∷ 0 ∷ 0 ∷ 0 ∷ 0 ∷ 11 ∷ 1 ∷ 0 ∷ 0 ∷ 0 ∷ 0 ∷ []) false
+pub two-ids : Graded (11 ∷ 1 ∷ 0 ∷ 0 ∷ 0 ∷ 0 ∷ 9 ∷ 11 ∷ 1 ∷ 0 ∷ 0 ∷ 0 ∷ 0 ∷ 9 ∷ []) false
 unfolding Graded
 two-ids = refl
 
@@ -66,6 +66,6 @@ pub nothing : Graded [] true
 unfolding Graded
 nothing = refl
 
-pub left-over : Graded (12 ∷ 0 ∷ 0 ∷ 0 ∷ 0 ∷ []) true
+pub left-over : Graded (12 ∷ 0 ∷ 0 ∷ 0 ∷ 0 ∷ 0 ∷ []) true
 unfolding Graded
 left-over = refl
