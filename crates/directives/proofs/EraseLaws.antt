@@ -14,10 +14,10 @@ use Rattle.variables.specs.Layout as Targets
 use Rattle.records.specs.Actions.{Action, actionText, slotText}
 use Rattle.records.specs.Layout as Acts
 use Rattle.directives.specs.Directives.{Body, rule, act, marker, defaults, unknown, Directive, Fault, wrongCount, untaken, stopped, within, Result, bad, good}
-use Rattle.directives.specs.Layout.{Reached, reached, pastBody, kindCode, nameSlot, listedIn, negatedWord, operatorWord, argumentSlot, actionsIn, nameEnd, listedEnd, argumentEnd, bodyText, directiveText, directiveRecord, variableRecords, actionRecords, texts, listedCount, actionCount, listedCounts, actionCounts, directivesFrom, variablesFrom, actionsFrom}
+use Rattle.directives.specs.Layout.{Reached, reached, pastBody, kindCode, nameSlot, listedIn, negatedWord, operatorWord, argumentSlot, actionsIn, nameEnd, listedEnd, argumentEnd, directiveText, directiveRecord, texts, listedCount, actionCount, listedCounts, actionCounts, directivesFrom, variablesFrom, actionsFrom}
 use Rattle.directives.specs.Table.{Outcome, shut, faulty, overfull, filled, faultName, textBy, recordsBy, scratchBy}
 use Rattle.directives.specs.Promises.{Rooms, laidOut, lacks, roomed}
-use Rattle.directives.specs.Parts.{resitedBody, nowhere, erased, erasedFault, erasedAll, blanked, unspanned, unsourcedVariables, unsourcedActions, unspannedFilled, unspannedOutcome}
+use Rattle.directives.specs.Parts.{resitedBody, nowhere, erased, erasedFault, erasedAll, blanked, unspanned, unsourcedVariables, unsourcedActions, unspannedOutcome}
 use Rattle.directives.proofs.SitedLaws.{SameBody, resited-same, resited-name, variables-text}
 
 -- ---- what no span changes

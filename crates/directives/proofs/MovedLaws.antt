@@ -13,7 +13,7 @@ use Rattle.records.specs.Actions.{Action}
 use Rattle.actions.specs.Lists.{normalSite}
 use Rattle.directives.specs.Directives.{Listed, listed, Body, rule, act, marker, defaults, unknown, Fault, wrongCount, untaken, stopped, within, Result, bad, good, variablesRead, operatorRead, actionsRead, Shape, ofRule, ofAction, ofMarker, ofDefaults, ofOther, ruleBy, actBy, told, bodyBy, siteAt, standing, argumentSite, listSite, sited}
 use Rattle.directives.specs.Parts.{resitedBody, mapped}
-use Rattle.directives.proofs.RefusalLaws.{OfVariable, OfOperator, OfAction, Only, variable-only, operator-only, action-only, there-in, variable-there, operator-there, action-there}
+use Rattle.directives.proofs.RefusalLaws.{OfVariable, OfOperator, OfAction, Only, variable-only, operator-only, action-only, variable-there, operator-there, action-there}
 
 -- ---- one site behind another
 

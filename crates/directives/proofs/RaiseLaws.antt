@@ -21,10 +21,10 @@ use Rattle.places.specs.declared.Rule.the-variants as Rule
 use Rattle.places.specs.Sites.{siteOf}
 use Rattle.places.proofs.RaiseLaws.{site-raised}
 use Rattle.directives.specs.Groups.{Item, joined, stray}
-use Rattle.directives.specs.Directives.{Body, Directive, Fault, wrongCount, untaken, stopped, within, Result, bad, good, isMark, between, siteAt, standing, sited, bodyBy, shapeOf, lastPast, placed, directiveOf, itemRead, before, ending, endOf}
+use Rattle.directives.specs.Directives.{Body, Directive, wrongCount, untaken, stopped, within, Result, bad, good, isMark, between, siteAt, sited, bodyBy, shapeOf, lastPast, placed, directiveOf, itemRead, before, ending, endOf}
 use Rattle.directives.specs.Parts.{raisedItem, raisedPart, raisedFault, raisedDirective, mapped, raisedAll}
 use Rattle.directives.proofs.GroupLaws.{AllIn, AllItems}
-use Rattle.directives.proofs.MovedLaws.{movedFault, movedResult, Moves, AllMove, none, also, body-moved, still, result-still}
+use Rattle.directives.proofs.MovedLaws.{movedResult, AllMove, none, also, body-moved, still, result-still}
 
 -- ---- a part of a text that stands in a longer one
 

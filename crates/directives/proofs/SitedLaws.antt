@@ -1,5 +1,5 @@
 -- What no site changes: a body's counts, texts and own words, and a refusal's number and name.
-use mathlib.Core.Path.{_≡_, refl, ap, ap₂}
+use mathlib.Core.Path.{_≡_, refl, ap₂}
 use Prim.Native.Nat.{ℕ, _+_}
 use mathlib.Core.List.{List, _++_}
 use lib.ListN.{length, length-map}
