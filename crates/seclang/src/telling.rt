@@ -10,7 +10,7 @@ ghost use Rattle.variables.specs.Promises as Targeting;
 ghost use Rattle.operators.specs.Promises as Operating;
 ghost use Rattle.listing.specs.Promises as Listing;
 ghost use Rattle.directives.specs.Promises as Directing;
-ghost use Rattle.seclang.specs.Told.{Told};
+ghost use Rattle.seclang.specs.Told.{Told, NearName};
 use actions::Answer as Acted;
 use directives::Answer as Directed;
 use directives::ArgumentFault;
@@ -51,6 +51,14 @@ fn tell_three(number: u64, first: usize, second: usize, third: usize, values: &m
     ensures { λ r. ⌜ Told (given number (first ∷ second ∷ third ∷ [])) (now (values .entry)) (now (values .exit)) r ⌝ }
 {
     let words = [first as u64, second as u64, third as u64];
+    tell(number, &words, values)
+}
+
+// A refused piece: where it is, the length of its name, and its span in the input.
+fn tell_piece(number: u64, piece: usize, name: usize, span: u64, values: &mut [u64]) -> u64
+    ensures { λ r. ⌜ Told (given number (piece ∷ name ∷ span ∷ [])) (now (values .entry)) (now (values .exit)) r ⌝ }
+{
+    let words = [piece as u64, name as u64, span];
     tell(number, &words, values)
 }
 
@@ -152,10 +160,13 @@ pub fn tell_acted(answer: Acted, values: &mut [u64]) -> u64
         Acted::TooLong => tell_one(1, lent::LIMIT, values),
         Acted::NotAscii(place) => tell_one(2, place, values),
         Acted::Short => tell_one(3, 0, values),
-        Acted::UnknownAction { piece, name } => tell_two(5, piece, name, values),
-        Acted::BadArgument { flaw, piece, name } => {
-            tell_two(lent::flaw_number(flaw), piece, name, values)
-        }
+        Acted::UnknownAction { piece, name, span } => tell_piece(5, piece, name, span, values),
+        Acted::BadArgument {
+            flaw,
+            piece,
+            name,
+            span,
+        } => tell_piece(lent::flaw_number(flaw), piece, name, span, values),
         Acted::NoRoom(needed) => tell_one(4, needed, values),
     }
 }
@@ -168,12 +179,13 @@ pub fn tell_targeted(answer: Targeted, values: &mut [u64]) -> u64
         Targeted::TooLong => tell_one(1, lent::LIMIT, values),
         Targeted::NotAscii(place) => tell_one(2, place, values),
         Targeted::Short => tell_one(3, 0, values),
-        Targeted::Unknown { piece, name } => tell_two(7, piece, name, values),
+        Targeted::Unknown { piece, name, span } => tell_piece(7, piece, name, span, values),
         Targeted::NoRoom(needed) => tell_one(4, needed, values),
     }
 }
 
 pub fn tell_operated(answer: Operated, values: &mut [u64]) -> u64
+    requires { ⌜ NearName answer ⌝ }
     ensures { λ r. ⌜ Told (Operating.answerGiven answer) (now (values .entry)) (now (values .exit)) r ⌝ }
 {
     match answer {
@@ -188,7 +200,10 @@ pub fn tell_operated(answer: Operated, values: &mut [u64]) -> u64
         }
         Operated::TooLong => tell_one(1, lent::LIMIT, values),
         Operated::NotAscii(place) => tell_one(2, place, values),
-        Operated::Unknown { place, len } => tell_two(8, place, len, values),
+        Operated::Unknown { place, len } => {
+            let span = lent::span(place as u32, len as u32);
+            tell_piece(8, place, len, span, values)
+        }
     }
 }
 
@@ -229,8 +244,15 @@ fn tell_fault(fault: Fault, values: &mut [u64]) -> u64
 {
     match fault {
         Fault::Line { why, line } => tell_one(line_number(why), line, values),
-        Fault::Argument { why, line, at, len } => {
-            tell_three(argument_number(why), line, at, len, values)
+        Fault::Argument {
+            why,
+            line,
+            at,
+            len,
+            span,
+        } => {
+            let words = [line as u64, at as u64, len as u64, span];
+            tell(argument_number(why), &words, values)
         }
     }
 }
