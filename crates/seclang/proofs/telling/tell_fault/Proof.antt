@@ -9,7 +9,7 @@ returns : tie.Need-returns
 returns c = told-case faultTold (c .before .before .before .before .before .before .fault .given .1) (rw (c .before .before .before .before .line-number .ensures) at (c .before .before .tell-one .ensures))
 
 returns-2 : tie.Need-returns-2
-returns-2 c = told-case faultTold (c .before .before .before .before .before .before .fault2 .given .1) (rw (c .before .before .before .before .argument-number .ensures) at (c .before .before .tell-three .ensures))
+returns-2 c = told-case faultTold (c .before .before .before .before .before .before .before .fault2 .given .1) (rw (c .before .before .before .before .before .argument-number .ensures) at (c .before .before .tell .ensures))
 
 pub tell-fault-spec : {M : Type 1} → statement M
 tell-fault-spec =
@@ -20,6 +20,7 @@ tell-fault-spec =
     (λ c κs. search needs)
     (λ c. search needs)
     (λ c κs. search needs)
+    (λ c. search needs)
     (λ c κs. search needs)
     (λ c. search needs)
     returns

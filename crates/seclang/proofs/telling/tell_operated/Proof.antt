@@ -1,7 +1,8 @@
 -- Each arm tells its own row of the table.
 use borrow.Author.Needs.{needs}
+use native.Mathlib.Omega.{arith}
 use Rattle.operators.specs.Promises.{answerGiven}
-use Rattle.seclang.proofs.ToldLaws.{told-case}
+use Rattle.seclang.proofs.ToldLaws.{told-as, told-case, name-row}
 use Rattle.seclang.proofs.telling.tell_operated.Statement.{statement}
 use Rattle.seclang.proofs.telling.tell_operated.Tie as tie
 
@@ -14,8 +15,14 @@ returns-2 c = told-case answerGiven (c .before .before .before .before .enum-tol
 returns-3 : tie.Need-returns-3
 returns-3 c = told-case answerGiven (c .before .before .before .before .before .answer2 .given .1) (c .before .before .tell-one2 .ensures)
 
+cast-span : tie.Need-cast-span
+cast-span c = let n = rw (c .before .answer3 .given .1) at (c .before .before .before .before .pre) in omega (arith, n .0)
+
+cast-span-2 : tie.Need-cast-span-2
+cast-span-2 c = let n = rw (c .before .answer3 .given .1) at (c .before .before .before .before .pre) in omega (arith, n .1)
+
 returns-4 : tie.Need-returns-4
-returns-4 c = told-case answerGiven (c .before .before .before .before .before .answer3 .given .1) (c .before .before .tell-two .ensures)
+returns-4 c = told-case answerGiven (c .before .before .before .before .before .before .answer3 .given .1) (told-as (name-row (c .before .before .before .before .before .before .answer3 .given .0 .0) (c .before .before .before .before .before .before .answer3 .given .0 .1 .0) (c .before .before .before .before .span .ensures)) (c .before .before .tell-piece .ensures))
 
 pub tell-operated-spec : {M : Type 1} → statement M
 tell-operated-spec =
@@ -30,6 +37,9 @@ tell-operated-spec =
     (λ c. search needs)
     (λ c κs. search needs)
     (λ c. search needs)
+    cast-span
+    cast-span-2
+    (λ c κs. search needs)
     (λ c κs. search needs)
     (λ c. search needs)
     returns
