@@ -9,11 +9,12 @@ use lib.Dec.{ltb}
 use Rattle.ascii.specs.Choice.{pick}
 use Rattle.lent.specs.Sizes.{actionWords, roomFor}
 use Rattle.lent.specs.Gates.{gateOf}
-use Rattle.lent.specs.Table.{noRoom, Outcome, refuses, reads, Filled, textBy, recordsBy}
+use Rattle.lent.specs.Sources.{Part, partWord, Sourced, sourced, sitedAll}
+use Rattle.lent.specs.Table.{noRoom, Outcome, refuses, reads, resited, sitedOutcome, Filled, textBy, recordsBy}
 use Rattle.actions.specs.Normal.{normalised}
-use Rattle.actions.specs.Pieces.{pieces}
+use Rattle.actions.specs.Pieces.{Piece, pieces}
 use Rattle.single_action.specs.Actions.{Action, Single, done, bad, unknown, single}
-use Rattle.actions.specs.Lists.{actionThen, singleThen, actionsFrom, actionsOf}
+use Rattle.actions.specs.Lists.{actionThen, singleThen, actionsFrom, listed, normalSite, actionsOf}
 use Rattle.actions.specs.Promises as A
 use Rattle.actions.specs.declared.Answer.{Answer}
 use Rattle.actions.specs.declared.Answer.the-variants as Answer
@@ -32,33 +33,36 @@ use Rattle.demands.proofs.AnswerLaws.{Answered, Gated, past-gate}
 abbrev AnsweredActions : Outcome Filled → Type 0
 AnsweredActions = Answered actionWords A.answerGiven
 
--- a list's refusal has an answer
-abbrev Told : Outcome (List Action) → Type 0
-Told (refuses f) = AnsweredActions (refuses f)
+-- a list's refusal has an answer, wherever its piece stands
+abbrev Told : Outcome (List (Sourced Action)) → Type 0
+Told (refuses f) = (g : Part → Part) → AnsweredActions (refuses (resited g f))
 Told (reads xs) = Unit {0}
 
-then-told : (x : Action) (o : Outcome (List Action)) → Told o → Told (actionThen x o)
+then-told : (x : Sourced Action) (o : Outcome (List (Sourced Action))) → Told o → Told (actionThen x o)
 then-told x (refuses f) t = t
 then-told x (reads xs) t = tt
 
-single-told : (k : ℕ) (x : Single) (o : Outcome (List Action)) → Told o → Told (singleThen k x o)
-single-told k (done x) o t = then-told x o t
-single-told k (bad flaw name) o t = record { answer = Answer.BadArgument flaw k (length name); is = refl; filling = tt }
-single-told k (unknown name) o t = record { answer = Answer.UnknownAction k (length name); is = refl; filling = tt }
+single-told : (k : ℕ) (y : Part) (x : Single) (o : Outcome (List (Sourced Action))) → Told o → Told (singleThen k y x o)
+single-told k y (done x) o t = then-told (sourced x y) o t
+single-told k y (bad flaw name) o t = λ g. record { answer = Answer.BadArgument flaw k (length name) (partWord (g y)); is = refl; filling = tt }
+single-told k y (unknown name) o t = λ g. record { answer = Answer.UnknownAction k (length name) (partWord (g y)); is = refl; filling = tt }
 
-from-told : (k : ℕ) (ps : List (List ℕ)) → Told (actionsFrom k ps)
+from-told : (k : ℕ) (ps : List Piece) → Told (actionsFrom k ps)
 unfolding actionsFrom
 from-told k [] = tt
-from-told k (p ∷ ps) = single-told k (single p) (actionsFrom (suc k) ps) (from-told (suc k) ps)
+from-told k (p ∷ ps) = single-told k (p .place) (single (p .text)) (actionsFrom (suc k) ps) (from-told (suc k) ps)
 
-room-told : (m : ℕ) (o : Outcome (List Action)) → Told o → AnsweredActions (A.roomed m o)
-room-told m (refuses f) t = t
-room-told m (reads xs) t = go (ltb (roomFor actionWords m) (length xs))
+read-told : (m : ℕ) (xs : List (Sourced Action)) → AnsweredActions (A.roomed m (reads xs))
+read-told m xs = go (ltb (roomFor actionWords m) (length xs))
   where
     go : (b : Bool) → AnsweredActions (pick b (refuses (noRoom (length xs))) (reads (A.laidOut xs)))
     go true = record { answer = Answer.NoRoom (length xs); is = refl; filling = tt }
     go false =
         record { answer = Answer.Read (length xs) _; is = refl; filling = record { count = _; more = _; values = refl; words = words-length 0 xs } }
+
+room-told : (m : ℕ) (g : Part → Part) (o : Outcome (List (Sourced Action))) → Told o → AnsweredActions (A.roomed m (sitedOutcome g o))
+room-told m g (refuses f) t = t g
+room-told m g (reads xs) t = read-told m (sitedAll g xs)
 
 gated : Gated actionWords A.answerGiven
 gated = record { long = (Answer.TooLong, refl); high = λ p. (Answer.NotAscii p, refl); short = (Answer.Short, refl) }
@@ -72,7 +76,7 @@ list-answered : (i : Lent × List ℕ) → AnsweredActions (listOutcome i)
 unfolding A.actionsOutcome actionsOf
 list-answered i =
     past-gate actionWords A.answerGiven gated (A.actionsGate (i .0 .input) (length (i .0 .text)) (length (i .1))) _
-    (room-told (length (i .0 .records)) (actionsOf (i .0 .input)) (from-told 0 (pieces (normalised (i .0 .input)))))
+    (room-told (length (i .0 .records)) (normalSite (i .0 .input)) (listed (normalised (i .0 .input))) (from-told 0 (pieces (normalised (i .0 .input)))))
 
 pub parse-actions-fixed : Fixed (Lent × List ℕ) (Left Answer × List ℕ) parse-actions-promise
 parse-actions-fixed = record {
@@ -115,7 +119,7 @@ alone-answered : (i : Lent) → AnsweredActions (aloneOutcome i)
 unfolding A.setvarOutcome
 alone-answered i =
     past-gate actionWords A.answerGiven gated (gateOf (i .input) (length (i .text)) (length (i .input) + 3)) _
-    (room-told (length (i .records)) (reads (A.setvarAlone (i .input))) tt)
+    (read-told (length (i .records)) (A.setvarAlone (i .input)))
 
 pub parse-setvar-fixed : Fixed Lent (Left Answer) parse-setvar-promise
 parse-setvar-fixed = record {

@@ -50,6 +50,9 @@ use Rattle.lexer.proofs.pass_gate as PassGate
 use Rattle.lexer.proofs.put_token as PutToken
 use Rattle.lexer.proofs.end_reading as EndReading
 use Rattle.plain.proofs.plain_tokens as PlainTokens
+use Rattle.places.proofs.site as SiteAt
+use Rattle.places.proofs.site_word as SiteWordAt
+use Rattle.places.proofs.resite as ResiteAll
 use Rattle.reader.proofs.reader_of as ReaderOf
 use Rattle.reader.proofs.reader_at as ReaderAt
 use Rattle.reader.proofs.next_of as NextOf
@@ -77,8 +80,8 @@ use Rattle.rules.proofs.selecting.RuleIdSelector.matches as Matches
 use Rattle.listing.proofs.list_text as ListText
 use Rattle.listing.proofs.write_listing as WriteListing
 use Rattle.listing.proofs.write_refusal as WriteRefusal
-use Rattle.demands.specs.Demand1.{OfBytes, OfTexts, OfNumbers, OfLent, OfNames, OfLexer, OfSingles, OfParsers, OfDirectives, OfListing, Demand1}
-use Rattle.demands.proofs.FixedLaws.{gives, both-given, finish-fixed, end-reading-fixed, reader-fixed}
+use Rattle.demands.specs.Demand1.{OfBytes, OfTexts, OfNumbers, OfLent, OfNames, OfLexer, OfPlaces, OfSingles, OfParsers, OfDirectives, OfListing, Demand1}
+use Rattle.demands.proofs.FixedLaws.{gives, both-given, finish-fixed, site-word-fixed, resite-fixed, end-reading-fixed, reader-fixed}
 use Rattle.demands.proofs.TokenCalls.{step-in-fixed, next-token-fixed, tokens-fixed, tokens-row}
 use Rattle.demands.proofs.ActionCalls.{parse-actions-fixed, normalise-fixed, read-actions-fixed, parse-setvar-fixed, parse-actions-row, parse-setvar-row}
 use Rattle.demands.proofs.VariableCalls.{read-targets-fixed, parse-variables-fixed, parse-update-targets-fixed, parse-variables-row, parse-update-targets-row}
@@ -167,6 +170,13 @@ of-lexer = record {
   first-token = record { promises = record { tied = λ M 𝓤 H A mem run. refl; met = λ M 𝓤. FirstToken.Met.met 𝓤 }; fixed = next-token-fixed };
 }
 
+of-places : OfPlaces
+of-places = record {
+  site = record { promises = record { tied = λ M 𝓤 H A mem run. refl; met = λ M 𝓤. SiteAt.Met.met 𝓤 }; fixed = λ κs. gives _ };
+  site-word = record { promises = record { tied = λ M 𝓤 H A mem run. refl; met = λ M 𝓤. SiteWordAt.Met.met 𝓤 }; fixed = site-word-fixed };
+  resite = record { promises = record { tied = λ M 𝓤 H A mem run. refl; met = λ M 𝓤. ResiteAll.Met.met 𝓤 }; fixed = resite-fixed };
+}
+
 of-singles : OfSingles
 of-singles = record {
   read-single = record { tied = λ M 𝓤 H A mem run. refl; met = λ M 𝓤. ReadSingle.Met.met 𝓤 };
@@ -208,6 +218,7 @@ demand1 = record {
   of-lent = of-lent;
   of-names = of-names;
   of-lexer = of-lexer;
+  of-places = of-places;
   of-singles = of-singles;
   of-parsers = of-parsers;
   of-directives = of-directives;

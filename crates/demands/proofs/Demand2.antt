@@ -27,7 +27,7 @@ use Rattle.single_action.specs.Actions.{Single, done, bad, unknown, single}
 use Rattle.single_action.specs.Flaws.{invalidActionArgument, parsed}
 use Rattle.single_action.proofs.FlawLaws.{flawed, severity-original}
 use Rattle.actions.specs.Normal.{normalised}
-use Rattle.actions.specs.Pieces.{pieces}
+use Rattle.actions.specs.Pieces.{Piece, pieces}
 use Rattle.actions.specs.Calls.{FirstRefused}
 use Rattle.actions.specs.Lists.{actionsOf}
 use Rattle.actions.specs.Promises as Actions
@@ -175,13 +175,13 @@ refused-for (bad flaw n) name e = let q : n ≡ name = cc in (flaw, ap (bad flaw
 refused-for (done y) name e = let z : _≡_ {A = ℕ} 0 1 = cc in absurd (omega arith)
 refused-for (unknown n) name e = let z : _≡_ {A = ℕ} 0 1 = cc in absurd (omega arith)
 
-first-invalid : (flaw : Flaw) (ps : List (List ℕ)) → FirstRefused (bad flaw) ps → FirstInvalid ps
+first-invalid : (flaw : Flaw) (ps : List Piece) → FirstRefused (bad flaw) ps → FirstInvalid ps
 first-invalid flaw ps x =
     record { passed = x .passed; piece = x .piece; others = x .others; parted = x .parted; before = x .before; name = x .name; error = ap parsed (x .refused) }
 
-first-flawed : (ps : List (List ℕ)) → FirstInvalid ps → (flaw : Flaw) × FirstRefused (bad flaw) ps
+first-flawed : (ps : List Piece) → FirstInvalid ps → (flaw : Flaw) × FirstRefused (bad flaw) ps
 first-flawed ps x =
-    let p = refused-for (single (x .piece)) (x .name) (x .error) in
+    let p = refused-for (single (x .piece .text)) (x .name) (x .error) in
     (p .0, record { passed = x .passed; piece = x .piece; others = x .others; parted = x .parted; before = x .before; name = x .name; refused = p .1 })
 
 -- each flaw's number, exactly when

@@ -50,8 +50,8 @@ module _ (g : Given) (m m′ : Lent) where
   fault-row (Of.wrongCount l) k e t = wrong-count l e (t ∙ none-left m)
   fault-row (Of.untaken l) k e t = untaken l e (t ∙ none-left m)
   fault-row (Of.stopped l) k e t = stopped l e (t ∙ none-left m)
-  fault-row (within l (naming why p name)) k e t = named why l p name e t
-  fault-row (within l (unknownOperator p n)) k e t = no-operator l p n e (t ∙ none-left m)
+  fault-row (within l (naming why p name x)) k e t = named why l p name x e t
+  fault-row (within l (unknownOperator p n x)) k e t = no-operator l p n x e (t ∙ none-left m)
   fault-row (within l tooLong) k e t = absurd k
   fault-row (within l (notAscii p)) k e t = absurd k
   fault-row (within l shortBuffer) k e t = absurd k

@@ -12,7 +12,7 @@ use Rattle.lexer.specs.declared.Cursor.{Cursor}
 use Rattle.lexer.specs.declared.writing.Answer as Lexer
 use Rattle.reader.specs.declared.Reader.{Reader}
 use Rattle.demands.specs.Fixed.{Fixed, Gives}
-use Rattle.demands.specs.Calls.{Left, Wrote, Filling, finish-promise, Ending, end-reading-promise}
+use Rattle.demands.specs.Calls.{Left, Wrote, Filling, finish-promise, Placing, site-word-promise, Replacing, resite-promise, Ending, end-reading-promise}
 
 -- An equation with a definition is total, and no second answer meets it.
 pub gives : {In Out : Type 0} (f : In → Out) → Gives f
@@ -50,6 +50,13 @@ finish-fixed = record {
   total = λ i. (record { answer = overfull (i .width) (i .count) (i .records); text = _; records = _ }, record { told = refl; texts = refl; words = refl });
   once = λ i o p x y. left-same o p (one-answer (x .told) (y .told), one-answer (x .texts) (y .texts), one-answer (x .words) (y .words));
 }
+
+-- spans put where their text was read from
+pub site-word-fixed : Fixed Placing ℕ site-word-promise
+site-word-fixed = record { total = λ i. (_, record { is = refl }); once = λ i o p x y. one-answer (x .is) (y .is) }
+
+pub resite-fixed : Fixed Replacing (List ℕ) resite-promise
+resite-fixed = record { total = λ i. (_, record { words = refl }); once = λ i o p x y. one-answer (x .words) (y .words) }
 
 -- and of a lexer
 pub end-reading-fixed : Fixed Ending (Left Lexer.Answer) end-reading-promise

@@ -20,8 +20,8 @@ Filling width (refuses tooLong) = Unit {0}
 Filling width (refuses (notAscii p)) = Unit {0}
 Filling width (refuses shortBuffer) = Unit {0}
 Filling width (refuses (noRoom n)) = Unit {0}
-Filling width (refuses (naming why k name)) = Unit {0}
-Filling width (refuses (unknownOperator p n)) = ⊥
+Filling width (refuses (naming why k name x)) = Unit {0}
+Filling width (refuses (unknownOperator p n x)) = ⊥
 Filling width (refuses badCursor) = ⊥
 Filling width (reads x) = Counted width x
 
@@ -34,8 +34,8 @@ module _ (width : ℕ) (text records : List ℕ) where
   row-by (refuses (notAscii p)) f = not-ascii p refl (kept _)
   row-by (refuses shortBuffer) f = short refl (kept _)
   row-by (refuses (noRoom n)) f = no-room n refl refl refl
-  row-by (refuses (naming why k name)) f = named why k name refl refl refl
-  row-by (refuses (unknownOperator p n)) f = absurd f
+  row-by (refuses (naming why k name x)) f = named why k name x refl refl refl
+  row-by (refuses (unknownOperator p n x)) f = absurd f
   row-by (refuses badCursor) f = absurd f
   row-by (reads x) f = read (f .count) (f .more) (x .texts) (x .words) (ap (λ (v : List ℕ). given 0 v) (f .values)) (f .words) refl refl
 

@@ -9,12 +9,13 @@ use lib.Dec.{ltb}
 use Rattle.ascii.specs.Choice.{pick}
 use Rattle.lent.specs.Sizes.{variableWords, roomFor}
 use Rattle.lent.specs.Gates.{gateOf}
+use Rattle.lent.specs.Sources.{partWord, Sourced}
 use Rattle.lent.specs.Table.{noRoom, Outcome, refuses, reads, Filled, textBy, recordsBy}
 use Rattle.variables.specs.Parts.{pieces}
 use Rattle.variables.specs.Variables.{Variable, Targets, targets, refused, asWritten, lookedUp, readAll}
 use Rattle.lent.specs.Layout.{wordsOf}
 use Rattle.lent.proofs.LayoutLaws.{words-length}
-use Rattle.variables.specs.Layout.{variableRecord, exclusionRecord, chosenText, itself, selectionTexts, wordsFrom}
+use Rattle.variables.specs.Layout.{variableWhole, exclusionWhole, variableText, exclusionText, selectionTexts, wordsFrom}
 use Rattle.variables.specs.Promises as Vars
 use Rattle.variables.specs.declared.Answer.{Answer}
 use Rattle.variables.specs.declared.Answer.the-variants as Answer
@@ -32,19 +33,19 @@ abbrev AnsweredVariables : Outcome Filled → Type 0
 AnsweredVariables = Answered variableWords Vars.answerGiven
 
 -- variables and exclusions have records of one width
-words-long : (vs : List Variable) (es : List (List ℕ)) → length (wordsFrom 0 vs es) ≡ (length vs + length es) * variableWords
+words-long : (vs : List (Sourced Variable)) (es : List (Sourced (List ℕ))) → length (wordsFrom 0 vs es) ≡ (length vs + length es) * variableWords
 words-long vs es =
     let o = 0 + length (selectionTexts vs) in
-    let e : length (wordsFrom 0 vs es) ≡ length (wordsOf variableRecord chosenText 0 vs) + length (wordsOf exclusionRecord itself o es)
-    = length-append (wordsOf variableRecord chosenText 0 vs) (wordsOf exclusionRecord itself o es) in
+    let e : length (wordsFrom 0 vs es) ≡ length (wordsOf variableWhole variableText 0 vs) + length (wordsOf exclusionWhole exclusionText o es)
+    = length-append (wordsOf variableWhole variableText 0 vs) (wordsOf exclusionWhole exclusionText o es) in
     omega (
       arith,
       e,
-      words-length chosenText variableRecord variableWords (λ o v. refl) 0 vs,
-      words-length itself exclusionRecord variableWords (λ o e. refl) o es,
+      words-length variableText variableWhole variableWords (λ o v. refl) 0 vs,
+      words-length exclusionText exclusionWhole variableWords (λ o e. refl) o es,
     )
 
-room-told : (m : ℕ) (vs : List Variable) (es : List (List ℕ)) → AnsweredVariables (Vars.roomed m vs es)
+room-told : (m : ℕ) (vs : List (Sourced Variable)) (es : List (Sourced (List ℕ))) → AnsweredVariables (Vars.roomed m vs es)
 room-told m vs es = go (ltb (roomFor variableWords m) (length vs + length es))
   where
     go : (b : Bool) → AnsweredVariables (pick b (refuses (noRoom (length vs + length es))) (reads (Vars.laidOut vs es)))
@@ -57,12 +58,12 @@ room-told m vs es = go (ltb (roomFor variableWords m) (length vs + length es))
 
 update-told : (m : ℕ) (t : Targets) → AnsweredVariables (Vars.updated m t)
 update-told m (targets vs es) = room-told m vs es
-update-told m (refused i name) = record { answer = Answer.Unknown i (length name); is = refl; filling = tt }
+update-told m (refused i name x) = record { answer = Answer.Unknown i (length name) (partWord x); is = refl; filling = tt }
 
 hung-told : (m : ℕ) (t : Targets) → AnsweredVariables (Vars.hung m t)
 hung-told m (targets [] es) = room-told m [] []
 hung-told m (targets (v ∷ vs) es) = room-told m (v ∷ vs) es
-hung-told m (refused i name) = record { answer = Answer.Unknown i (length name); is = refl; filling = tt }
+hung-told m (refused i name x) = record { answer = Answer.Unknown i (length name) (partWord x); is = refl; filling = tt }
 
 gated : Gated variableWords Vars.answerGiven
 gated = record { long = (Answer.TooLong, refl); high = λ p. (Answer.NotAscii p, refl); short = (Answer.Short, refl) }

@@ -19,6 +19,8 @@ use Rattle.variables.specs.Cores.{ReadTargets}
 use Rattle.variables.specs.declared.Answer as Variables
 use Rattle.variables.specs.declared.Reached.{Reached}
 use Rattle.variables.specs.declared.singles.Exclusions.{Exclusions}
+use Rattle.places.specs.declared.Rule.{Rule}
+use Rattle.places.specs.Moves.{SiteWord, Resite}
 use Rattle.operators.specs.Promises.{OperatorIn, ParseOperator, OperatorArgument}
 use Rattle.operators.specs.declared.Answer as Operators
 use Rattle.directives.specs.Promises as Whole
@@ -67,6 +69,31 @@ pub record Filling : Type 0 where
 
 abbrev pub finish-promise : Filling → Left Bool → Type 0
 finish-promise i o = Finished (i .used) (i .count) (i .width) (i .text) (o .text) (i .records) (o .records) (o .answer)
+
+-- ---- spans of a text, put where it was read from
+
+-- site_word: the source, the place that the text was read from on and by which rule, and a span word of the text.
+pub record Placing : Type 0 where
+  pub source : List ℕ
+  pub from : ℕ
+  pub rule : Rule
+  pub word : ℕ
+
+abbrev pub site-word-promise : Placing → ℕ → Type 0
+site-word-promise i r = SiteWord (i .source) (i .from) (i .rule) (i .word) r
+
+-- resite: instead of one word, so many records of a width from a place on, whose last words are such spans.
+pub record Replacing : Type 0 where
+  pub source : List ℕ
+  pub from : ℕ
+  pub rule : Rule
+  pub records : List ℕ
+  pub at : ℕ
+  pub count : ℕ
+  pub width : ℕ
+
+abbrev pub resite-promise : Replacing → List ℕ → Type 0
+resite-promise i o = Resite (i .source) (i .from) (i .rule) (i .count) (i .width) (i .at) (i .records) o
 
 -- ---- the readers
 

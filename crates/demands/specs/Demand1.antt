@@ -6,7 +6,7 @@ use mathlib.Core.Path.{_≡_}
 use mathlib.Core.Bool.{Bool, false}
 use mathlib.Core.List.{List}
 use Prim.Native.Nat.{ℕ}
-use lib.ListN.{length, getD}
+use lib.ListN.{length, drop, getD}
 use denote.Ref.{now}
 use Rattle.ascii.specs.Classes.{white, operatorNameEnd, digit}
 use Rattle.ascii.specs.Fold.{lower, upper, same, sameLowered}
@@ -19,6 +19,8 @@ use Rattle.lent.specs.Sizes.{spanWord, spanOffset, spanLength, roomFor, tokenWo
 use Rattle.lent.specs.Buffers.{zeros, stored}
 use Rattle.lent.specs.Endings.{starts as startsAt}
 use Rattle.lent.specs.Table.{flawNumber}
+use Rattle.lent.specs.Sources.{part}
+use Rattle.places.specs.Sites.{siteOf}
 use Rattle.names.specs.Variables.{variableCode, isCollection, isImplemented}
 use Rattle.names.specs.Operators.{operatorCode, requiresArgument}
 use Rattle.names.specs.Severities.{severityCode}
@@ -98,6 +100,9 @@ use Rattle.lexer.proofs.pass_gate as PassGate
 use Rattle.lexer.proofs.put_token as PutToken
 use Rattle.lexer.proofs.end_reading as EndReading
 use Rattle.plain.proofs.plain_tokens as PlainTokens
+use Rattle.places.proofs.site as SiteAt
+use Rattle.places.proofs.site_word as SiteWordAt
+use Rattle.places.proofs.resite as ResiteAll
 use Rattle.reader.proofs.reader_of as ReaderOf
 use Rattle.reader.proofs.reader_at as ReaderAt
 use Rattle.reader.proofs.next_of as NextOf
@@ -126,7 +131,7 @@ use Rattle.listing.proofs.list_text as ListText
 use Rattle.listing.proofs.write_listing as WriteListing
 use Rattle.listing.proofs.write_refusal as WriteRefusal
 use Rattle.demands.specs.Contracts.{Promises, Decides, Answers, Keeps}
-use Rattle.demands.specs.Calls.{Lent, lent, Left, left, Wrote, wrote, Filling, finish-promise, Place, place, Records, Refusal, step-in-promise, next-token-promise, tokens-promise, Ending, end-reading-promise, parse-actions-promise, normalise-promise, read-actions-promise, parse-setvar-promise, parse-variables-promise, parse-update-targets-promise, From, read-targets-promise, operator-in-promise, parse-operator-promise, operator-argument-promise, directives-promise, write-listing-promise, write-refusal-promise, list-text-promise}
+use Rattle.demands.specs.Calls.{Lent, lent, Left, left, Wrote, wrote, Filling, finish-promise, Placing, site-word-promise, Replacing, resite-promise, Place, place, Records, Refusal, step-in-promise, next-token-promise, tokens-promise, Ending, end-reading-promise, parse-actions-promise, normalise-promise, read-actions-promise, parse-setvar-promise, parse-variables-promise, parse-update-targets-promise, From, read-targets-promise, operator-in-promise, parse-operator-promise, operator-argument-promise, directives-promise, write-listing-promise, write-refusal-promise, list-text-promise}
 use Rattle.demands.specs.Rows.{Row}
 use Rattle.demands.specs.DirectiveRows as Directive
 use Rattle.demands.specs.Library.{OfLibrary}
@@ -227,6 +232,25 @@ pub record OfLexer : Type 3 where
   pub first-token : Keeps FirstToken.ended (λ M 𝓤. FirstToken.spec 𝓤) FirstToken.Symbol.routine Place (Wrote Step) next-token-promise
       (λ _ a. place (now (a .0)) fresh (now (a .1 .0))) (λ _ r e. wrote r (now (e .1 .0)))
 
+-- Where the bytes of a text came from: a part of it, one span word, and the last words of records.
+pub record OfPlaces : Type 3 where
+  pub site : Answers SiteAt.ended (λ M 𝓤. SiteAt.spec 𝓤) SiteAt.Symbol.routine
+      (λ _ a. siteOf (a .1 .1 .0) (a .1 .0) (drop (a .1 .0) (now (a .0))) (part (a .1 .1 .1 .0) (a .1 .1 .1 .1 .0)))
+  pub site-word : Keeps SiteWordAt.ended (λ M 𝓤. SiteWordAt.spec 𝓤) SiteWordAt.Symbol.routine Placing ℕ site-word-promise
+      (λ _ a. record { source = now (a .0); from = a .1 .0; rule = a .1 .1 .0; word = a .1 .1 .1 .0 }) (λ _ r e. r)
+  pub resite : Keeps ResiteAll.ended (λ M 𝓤. ResiteAll.spec 𝓤) ResiteAll.Symbol.routine Replacing (List ℕ) resite-promise
+      (λ _ a.
+      record {
+        source = now (a .0);
+        from = a .1 .0;
+        rule = a .1 .1 .0;
+        records = now (a .1 .1 .1 .0);
+        at = a .1 .1 .1 .1 .0;
+        count = a .1 .1 .1 .1 .1 .0;
+        width = a .1 .1 .1 .1 .1 .1 .0;
+      })
+      (λ _ r e. now (e .1 .1 .1 .0))
+
 -- One action, by places in its piece. What is read is fixed, and not the places: equal bytes may stand at two of them.
 -- So these two are the exception: their promise says what a verdict means, and any two verdicts that meet it mean the same.
 pub record OfSingles : Type 3 where
@@ -304,6 +328,7 @@ pub record Demand1 : Type 3 where
   pub of-lent : OfLent
   pub of-names : OfNames
   pub of-lexer : OfLexer
+  pub of-places : OfPlaces
   pub of-singles : OfSingles
   pub of-parsers : OfParsers
   pub of-directives : OfDirectives

@@ -156,14 +156,14 @@ pub record Exact : Type 0 where
 -- ---- the Rust's one error
 
 -- The first piece that the Rust's parse_single_action refuses, with the error InvalidActionArgument and a name.
-pub record FirstInvalid (ps : List (List ℕ)) : Type 0 where
-  pub passed : List (List ℕ)
-  pub piece : List ℕ
-  pub others : List (List ℕ)
+pub record FirstInvalid (ps : List Action.Piece) : Type 0 where
+  pub passed : List Action.Piece
+  pub piece : Action.Piece
+  pub others : List Action.Piece
   pub parted : ps ≡ passed ++ piece ∷ others
   pub before : AllDone passed
   pub name : List ℕ
-  pub error : parsed (single piece) ≡ invalidActionArgument name
+  pub error : parsed (single (piece .text)) ≡ invalidActionArgument name
 
 pub record OneError : Type 0 where
   -- one of the three is given exactly where the Rust's first error is that one

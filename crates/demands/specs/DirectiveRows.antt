@@ -5,6 +5,7 @@ use Prim.Native.Nat.{ℕ, _*_}
 use lib.ListN.{length}
 use Rattle.lent.specs.Sizes.{directiveWords, variableWords, actionWords}
 use Rattle.lent.specs.Buffers.{zeros, padded}
+use Rattle.lent.specs.Sources.{Part, partWord}
 use Rattle.lent.specs.Table.{Given, given, Naming, namingNumber}
 use Rattle.directives.specs.Promises.{Lent, lentOf}
 
@@ -35,10 +36,11 @@ module _ (g : Given) (m m′ : Lent) where
     short : g ≡ given 3 (0 ∷ []) → m′ ≡ m → Row
     -- 4: the records needed of each kind; all zero
     no-room : (d v a : ℕ) → g ≡ given 4 (d ∷ v ∷ a ∷ []) → m′ ≡ allZero m → Row
-    -- 5, 7 and 10 to 12: the line, the piece and the name's length; the text starts with the name, and all else is zero
-    named : (why : Naming) (line piece : ℕ) (name : List ℕ) → g ≡ given (namingNumber why) (line ∷ piece ∷ length name ∷ []) → m′ ≡ zeroBut name m → Row
-    -- 8: the line, the name's place in the argument and its length; all zero
-    no-operator : (line place len : ℕ) → g ≡ given 8 (line ∷ place ∷ len ∷ []) → m′ ≡ allZero m → Row
+    -- 5, 7 and 10 to 12: the line, the piece, the name's length and the span of the piece in the package; the text starts with the name, and all else is zero
+    named : (why : Naming) (line piece : ℕ) (name : List ℕ) (source : Part) → g ≡ given (namingNumber why) (line ∷ piece ∷ length name ∷ partWord source ∷ [])
+        → m′ ≡ zeroBut name m → Row
+    -- 8: the line, the name's place in the argument, its length and its span in the package; all zero
+    no-operator : (line place len : ℕ) (source : Part) → g ≡ given 8 (line ∷ place ∷ len ∷ partWord source ∷ []) → m′ ≡ allZero m → Row
     -- 13, 14 and 15: the line; all zero
     wrong-count : (line : ℕ) → g ≡ given 13 (line ∷ []) → m′ ≡ allZero m → Row
     untaken : (line : ℕ) → g ≡ given 14 (line ∷ []) → m′ ≡ allZero m → Row

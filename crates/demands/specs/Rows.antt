@@ -4,6 +4,7 @@ use mathlib.Core.List.{List, [], _∷_}
 use Prim.Native.Nat.{ℕ, _*_}
 use lib.ListN.{length}
 use Rattle.lent.specs.Buffers.{zeros, padded}
+use Rattle.lent.specs.Sources.{Part, partWord}
 use Rattle.lent.specs.Table.{Given, given, Naming, namingNumber}
 
 -- of a reader with records of so many words
@@ -26,6 +27,7 @@ module _ (width : ℕ) (g : Given) (text text′ records records′ : List ℕ) 
     short : g ≡ given 3 (0 ∷ []) → Untouched → Row
     -- 4: the records needed; text and records all zero
     no-room : (needed : ℕ) → g ≡ given 4 (needed ∷ []) → text′ ≡ zeros (length text) → records′ ≡ zeros (length records) → Row
-    -- 5, 7 and 10 to 12: the piece and the name's length; the text starts with the name, then zeros, and the records are zero
-    named : (why : Naming) (piece : ℕ) (name : List ℕ) → g ≡ given (namingNumber why) (piece ∷ length name ∷ []) → text′ ≡ padded (length text) name
+    -- 5, 7 and 10 to 12: the piece, the name's length and the span of the piece in the input; the text starts with the name, then zeros, and the records are zero
+    named : (why : Naming) (piece : ℕ) (name : List ℕ) (source : Part) → g ≡ given (namingNumber why) (piece ∷ length name ∷ partWord source ∷ [])
+        → text′ ≡ padded (length text) name
         → records′ ≡ zeros (length records) → Row

@@ -1,7 +1,7 @@
 -- The demand of whole directives (document 02, M-100). Directives, records and the first fault in text order are what the definitions say,
 -- and each number is given exactly when document 02 says so. And for a text cut as in demand 3, whose line is blank (spaces, tabs, CRs) or
--- blanks and then a comment: another such line in its place changes no number, value, line, text or word but spans in the input, and
--- refusals stay as they are.
+-- blanks and then a comment: another such line in its place changes no number, value, line, text or word but spans in the input; of a
+-- refusal, nothing but the span.
 use mathlib.Core.Path.{_≡_}
 use mathlib.Core.Bool.{false}
 use mathlib.Core.List.{List, _++_}
@@ -9,6 +9,7 @@ use mathlib.Core.Logic.{_⊎_}
 use Prim.Native.Nat.{ℕ, _≤_, _<_, min}
 use lib.ListN.{length}
 use Rattle.lent.specs.Sizes.{directiveWords, variableWords, actionWords, roomFor}
+use Rattle.lent.specs.Sources.{Part}
 use Rattle.lent.specs.Table.{Given, Naming, noAction, noArgument, noVariable, named, unknownOperator}
 use Rattle.lent.specs.Admission.{Opened}
 use Rattle.lent.specs.declared.refusing.Flaw.the-variants as Flaw
@@ -43,23 +44,24 @@ module _ (s : List ℕ) where
   abbrev pub itemsOf : List Item
   itemsOf = items false (reading s .tokens)
 
-  -- The first bad one in text order has such a fault: with a line; with a line, a piece and a name; with a line, a place and a length.
+  -- The first bad one in text order has such a fault: with a line; with a line, a piece, a name and
+  -- the piece's part of the text; with a line, a place, a length and the part.
   abbrev pub Lined : (ℕ → Fault) → Type 0
-  Lined kind = (l : ℕ) × FirstBad itemsOf (kind l)
+  Lined kind = (l : ℕ) × FirstBad s itemsOf (kind l)
 
   abbrev pub Named : Naming → Type 0
-  Named why = (l : ℕ) × ((p : ℕ) × ((name : List ℕ) × FirstBad itemsOf (within l (named why p name))))
+  Named why = (l : ℕ) × ((p : ℕ) × ((name : List ℕ) × ((x : Part) × FirstBad s itemsOf (within l (named why p name x)))))
 
   abbrev pub Unoperated : Type 0
-  Unoperated = (l : ℕ) × ((p : ℕ) × ((n : ℕ) × FirstBad itemsOf (within l (unknownOperator p n))))
+  Unoperated = (l : ℕ) × ((p : ℕ) × ((n : ℕ) × ((x : Part) × FirstBad s itemsOf (within l (unknownOperator p n x)))))
 
   -- All are good directives, and reading stopped before the end.
   abbrev pub Early : Type 0
-  Early = (ds : List Directive) × (AllGood itemsOf ds × (reading s .stop .place < length s))
+  Early = (ds : List Directive) × (AllGood s itemsOf ds × (reading s .stop .place < length s))
 
   -- All are, reading came to the end, and of the directives this holds.
   abbrev pub Faultless : (List Directive → Type 0) → Type 0
-  Faultless P = (ds : List Directive) × (AllGood itemsOf ds × ((length s ≤ reading s .stop .place) × P ds))
+  Faultless P = (ds : List Directive) × (AllGood s itemsOf ds × ((length s ≤ reading s .stop .place) × P ds))
 
 -- More records are needed than one of the three buffers has room for; or not.
 abbrev pub Crowded : Lent → List Directive → Type 0

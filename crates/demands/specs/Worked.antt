@@ -1,9 +1,11 @@
 -- The twelve texts of document 01 that are marked P, as one table: what is asked, and what the definitions must say.
+-- With each record and refusal goes the part of the text that it was read from (M-104).
 use Prim.Native.String.{String}
 use Prim.Native.Nat.{ℕ}
 use mathlib.Core.Bool.{true, false}
 use mathlib.Core.List.{List, [], _∷_, map}
 use Rattle.ascii.specs.Text.{bytes}
+use Rattle.lent.specs.Sources.{part, Sourced, sourced}
 use Rattle.lent.specs.Table.{Outcome, refuses, reads, unknownAction, badArgument}
 use Rattle.lent.specs.declared.refusing.Flaw.the-variants as Flaw
 use Rattle.lexer.specs.declared.Cursor.{Cursor}
@@ -27,7 +29,7 @@ pub data Question : Type 0 where
 -- What the definitions say.
 pub data Reply : Type 0 where
   of-text : Reading → Reply
-  of-actions : Outcome (List Action) → Reply
+  of-actions : Outcome (List (Sourced Action)) → Reply
   of-variables : Targets → Reply
   of-operator : Op.Reading → Reply
 
@@ -66,18 +68,20 @@ table =
     -- `a` FF `b`: Word `a`, stop 1
     ∷ row (text "a\u{c}b") (read (tok Word 1 1 0 1 "a" ∷ []) (cursor 1 1 2 false))
     -- `phase:'2'`: 6, since document 02 unreadable
-    ∷ row (actions "phase:'2'") (of-actions (refuses (badArgument Flaw.Unreadable 0 (bytes "phase"))))
+    ∷ row (actions "phase:'2'") (of-actions (refuses (badArgument Flaw.Unreadable 0 (bytes "phase") (part 0 9))))
     -- `T:none`: 5 with `t`
-    ∷ row (actions "T:none") (of-actions (refuses (unknownAction 0 (bytes "t"))))
+    ∷ row (actions "T:none") (of-actions (refuses (unknownAction 0 (bytes "t") (part 0 6))))
     -- `severity:255`: accepted
-    ∷ row (actions "severity:255") (of-actions (reads (numbered 13 255 ∷ [])))
+    ∷ row (actions "severity:255") (of-actions (reads (sourced (numbered 13 255) (part 0 12) ∷ [])))
     -- `deny,,bogus,phase:x`: 5, piece 1
-    ∷ row (actions "deny,,bogus,phase:x") (of-actions (refuses (unknownAction 1 (bytes "bogus"))))
+    ∷ row (actions "deny,,bogus,phase:x") (of-actions (refuses (unknownAction 1 (bytes "bogus") (part 6 11))))
     -- `!ARGS:p|args|&TX:/^a/`: two variables, exclusion `ARGS:p`
     ∷ row (variables "!ARGS:p|args|&TX:/^a/")
-    (of-variables (targets (record { code = 0; counts = false; chosen = none } ∷ record { code = 35; counts = true; chosen = regex (bytes "^a") } ∷ []) (bytes "ARGS:p" ∷ [])))
+    (of-variables (targets
+    (sourced (record { code = 0; counts = false; chosen = none }) (part 8 12) ∷ sourced (record { code = 35; counts = true; chosen = regex (bytes "^a") }) (part 13 21) ∷ [])
+    (sourced (bytes "ARGS:p") (part 0 7) ∷ [])))
     -- `ARGS:/a|b/`: 7 with `b/`, piece 1
-    ∷ row (variables "ARGS:/a|b/") (of-variables (refused 1 (bytes "b/")))
+    ∷ row (variables "ARGS:/a|b/") (of-variables (refused 1 (bytes "b/") (part 8 10)))
     -- `!!@rx a`: negated Rx, argument `!@rx a`
     ∷ row (operator "!!@rx a") (of-operator (Op.spec true 0 (bytes "!@rx a")))
     ∷ []
