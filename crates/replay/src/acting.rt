@@ -3,6 +3,7 @@ use crate::sizes;
 use crate::words::print_number;
 use crate::words::print_records;
 use crate::words::print_refusal;
+use crate::words::print_refused;
 use crate::words::print_text;
 use actions::Answer;
 
@@ -19,13 +20,6 @@ fn filled(s: &[u8]) -> usize {
     n
 }
 
-fn print_refused(number: u64, piece: usize, name: usize, text: &[u8]) {
-    print_number(number);
-    print_number(piece as u64);
-    print_number(name as u64);
-    print_text(text, name);
-}
-
 fn print_answer(answer: Answer, text: &[u8], records: &[u64]) {
     match answer {
         Answer::Read { count, text: used } => {
@@ -38,10 +32,13 @@ fn print_answer(answer: Answer, text: &[u8], records: &[u64]) {
         Answer::TooLong => print_refusal(1, lent::LIMIT),
         Answer::NotAscii(place) => print_refusal(2, place),
         Answer::Short => print_refusal(3, 0),
-        Answer::UnknownAction { piece, name } => print_refused(5, piece, name, text),
-        Answer::BadArgument { flaw, piece, name } => {
-            print_refused(lent::flaw_number(flaw), piece, name, text)
-        }
+        Answer::UnknownAction { piece, name, span } => print_refused(5, piece, name, span, text),
+        Answer::BadArgument {
+            flaw,
+            piece,
+            name,
+            span,
+        } => print_refused(lent::flaw_number(flaw), piece, name, span, text),
         Answer::NoRoom(needed) => print_refusal(4, needed),
     }
 }

@@ -9,13 +9,12 @@ use directives::ArgumentFault;
 use directives::Fault;
 use directives::LineFault;
 
-// A number with three values, and behind them so many bytes of the text.
-fn print_three(number: u64, first: usize, second: usize, third: usize, text: &[u8], name: usize) {
+// A number with three values.
+fn print_three(number: u64, first: usize, second: usize, third: usize) {
     print_number(number);
     print_number(first as u64);
     print_number(second as u64);
     print_number(third as u64);
-    print_text(text, name);
 }
 
 fn line_number(why: LineFault) -> u64 {
@@ -26,18 +25,31 @@ fn line_number(why: LineFault) -> u64 {
     }
 }
 
+fn argument_number(why: ArgumentFault) -> u64 {
+    match why {
+        ArgumentFault::UnknownVariable => 7,
+        ArgumentFault::UnknownAction => 5,
+        ArgumentFault::BadArgument(flaw) => lent::flaw_number(flaw),
+        ArgumentFault::UnknownOperator => 8,
+    }
+}
+
 // A name stands in the text after 5, 7 and 10 to 12 alone.
 fn print_fault(fault: Fault, text: &[u8]) {
     match fault {
         Fault::Line { why, line } => print_refusal(line_number(why), line),
-        Fault::Argument { why, line, at, len } => match why {
-            ArgumentFault::UnknownVariable => print_three(7, line, at, len, text, len),
-            ArgumentFault::UnknownAction => print_three(5, line, at, len, text, len),
-            ArgumentFault::BadArgument(flaw) => {
-                print_three(lent::flaw_number(flaw), line, at, len, text, len)
-            }
-            ArgumentFault::UnknownOperator => print_three(8, line, at, len, text, 0),
-        },
+        Fault::Argument {
+            why,
+            line,
+            at,
+            len,
+            span,
+        } => {
+            let number = argument_number(why);
+            print_three(number, line, at, len);
+            print_number(span);
+            print_text(text, if number == 8 { 0 } else { len });
+        }
     }
 }
 
@@ -67,7 +79,10 @@ fn print_answer(answer: Answer, text: &[u8], records: &[u64], variables: &[u64],
             directives: d,
             variables: v,
             actions: a,
-        } => print_three(4, d, v, a, text, 0),
+        } => {
+            print_three(4, d, v, a);
+            io::write_all(1, b"-");
+        }
     }
 }
 

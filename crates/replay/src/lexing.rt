@@ -4,6 +4,7 @@ use crate::sizes;
 use crate::words::print_number;
 use crate::words::print_records;
 use crate::words::print_refusal;
+use crate::words::print_span;
 use crate::words::print_text;
 use lexer::Answer;
 use lexer::Column;
@@ -79,9 +80,7 @@ fn print_lexeme(t: Lexeme) {
     print_number(t.line.0 as u64);
     print_number(t.column.0 as u64);
     if first <= past {
-        print_number(
-            (first as u64 % sizes::SPAN) * sizes::SPAN + (past - first) as u64 % sizes::SPAN,
-        );
+        print_span(first, past - first);
     }
     print_number(t.len as u64);
 }

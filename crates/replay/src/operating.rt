@@ -1,6 +1,7 @@
 // The operator's answers: what it is, with its argument, or where the unknown name stands.
 use crate::words::print_number;
 use crate::words::print_refusal;
+use crate::words::print_span;
 use crate::words::print_text;
 use operators::Answer;
 
@@ -24,6 +25,7 @@ pub fn print_operator(input: &[u8]) {
             print_number(8);
             print_number(place as u64);
             print_number(len as u64);
+            print_span(place, len);
             io::write_all(1, b"-");
         }
     }

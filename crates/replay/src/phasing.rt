@@ -2,6 +2,7 @@
 ghost use Prim.Native.Nat.{_≤_};
 ghost use lib.ListN.{length};
 use crate::hexes;
+use crate::sizes;
 
 // The words of a body, 8 bytes each, the largest first, as many as fit.
 fn words_into(body: &[u8], words: &mut [u64]) -> usize
@@ -22,7 +23,7 @@ fn words_into(body: &[u8], words: &mut [u64]) -> usize
 }
 
 pub fn print_phase(body: &[u8]) {
-    let mut words = [0u64; 384];
+    let mut words = [0u64; sizes::PHASED];
     let n = words_into(body, &mut words);
     io::print_decimal(1, rules::phase(&words[..n]));
 }

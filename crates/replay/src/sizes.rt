@@ -4,15 +4,21 @@ pub const TEXT: usize = lent::LIMIT;
 // What parse_setvar asks for such a text.
 pub const SETVAR: usize = TEXT + 3;
 
-// Words of token and variable records, and of action records.
-pub const RECORDS: usize = 20480;
+// More pieces than a text can have of two bytes and the mark between two.
+const PIECES: usize = 5462;
 
-pub const ACTIONS: usize = 32768;
+// Words of token and variable records, and of action records.
+pub const RECORDS: usize = 24576;
+
+pub const ACTIONS: usize = PIECES * lent::ACTION_WORDS;
 
 // The same for a package of as many directives, and of as many variables, as its bytes can name.
-pub const DIRECTIVES: usize = 45056;
+pub const DIRECTIVES: usize = 4096 * lent::DIRECTIVE_WORDS;
 
-pub const VARIABLES: usize = 27310;
+pub const VARIABLES: usize = PIECES * lent::VARIABLE_WORDS;
+
+// Words of the records that a phase is asked of.
+pub const PHASED: usize = 64 * lent::ACTION_WORDS;
 
 // A span word's base in the stored answers.
 pub const SPAN: u64 = 65536;

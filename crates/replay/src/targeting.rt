@@ -3,6 +3,7 @@ use crate::sizes;
 use crate::words::print_number;
 use crate::words::print_records;
 use crate::words::print_refusal;
+use crate::words::print_refused;
 use crate::words::print_text;
 use variables::Answer;
 
@@ -18,12 +19,7 @@ fn print_answer(answer: Answer, text: &[u8], records: &[u64]) {
         Answer::TooLong => print_refusal(1, lent::LIMIT),
         Answer::NotAscii(place) => print_refusal(2, place),
         Answer::Short => print_refusal(3, 0),
-        Answer::Unknown { piece, name } => {
-            print_number(7);
-            print_number(piece as u64);
-            print_number(name as u64);
-            print_text(text, name);
-        }
+        Answer::Unknown { piece, name, span } => print_refused(7, piece, name, span, text),
         Answer::NoRoom(needed) => print_refusal(4, needed),
     }
 }
