@@ -2,7 +2,7 @@
 use mathlib.Core.Path.{_≡_}
 use mathlib.Core.Bool.{Bool}
 use mathlib.Core.List.{List}
-use Prim.Native.Nat.{ℕ, _+_, _*_, _≤_}
+use Prim.Native.Nat.{ℕ, _+_, _*_, _≤_, _<_}
 use lib.ListN.{length}
 use Rattle.ascii.specs.Choice.{pick}
 use Rattle.lent.specs.Sizes.{actionWords}
@@ -11,6 +11,8 @@ use Rattle.lent.specs.declared.refusing.Flaw.{Flaw}
 use Rattle.lent.specs.Endings.{Finished}
 use Rattle.lent.specs.Sources.{Part, partWord, Sourced}
 use Rattle.lent.specs.Table.{Refusal, unknownAction, badArgument, refuses, reads}
+use Rattle.places.specs.declared.Rule.the-variants.{Joined}
+use Rattle.places.specs.Moves.{Resite}
 use Rattle.single_action.specs.Actions.{Action}
 use Rattle.actions.specs.Lists.{listed}
 use Rattle.actions.specs.Layout.{recordsFrom, texts}
@@ -58,6 +60,11 @@ Listed s offset place text text′ records records′ (Read count used) = ReadAl
 Listed s offset place text text′ records records′ (Bad flaw piece name span) = Stopped (badArgument flaw piece) s text text′ records records′ name span
 Listed s offset place text text′ records records′ (Unknown piece name span) = Stopped (unknownAction piece) s text text′ records records′ name span
 Listed s offset place text text′ records records′ Unfit = ⊥
+
+-- Records of a normalised text of n bytes put into the input.
+pub record Settles (s : List ℕ) (n count : ℕ) (records records′ : List ℕ) : Type 0 where
+  pub moved : n < length s → Resite s 0 Joined count actionWords 0 records records′
+  pub still : length s ≤ n → records′ ≡ records
 
 -- The last step, when so much is written: number 4 where lent's ending says that the records do not fit.
 pub record Ended (used count : ℕ) (text text′ records records′ : List ℕ) (r : Answer) : Type 0 where

@@ -8,7 +8,7 @@ ghost use Rattle.lent.specs.Buffers.{zeros, padded};
 ghost use Rattle.lent.specs.Endings.{starts};
 ghost use Rattle.single_action.specs.Table.{rowAt};
 ghost use Rattle.actions.specs.Normal.{normalised};
-ghost use Rattle.actions.specs.Listing.{badly, strangely, Listed, Ended};
+ghost use Rattle.actions.specs.Listing.{badly, strangely, Listed, Settles, Ended};
 ghost use Rattle.actions.specs.Cores.{ReadActions};
 ghost use Rattle.actions.specs.Promises.{ParseActions, SetvarAlone};
 use crate::Answer;
@@ -158,6 +158,24 @@ fn fill_scratch(input: &[u8], scratch: &mut [u8]) -> usize
     n
 }
 
+// Spans in the normalised text, of n bytes, put into the input; where nothing was taken out nothing moves.
+fn settle(input: &[u8], n: usize, records: &mut [u64], count: usize)
+    ensures { λ r. ⌜ Settles (now (input .entry)) n count (now (records .entry)) (now (records .exit)) ⌝ }
+{
+    if input.len() <= n {
+        return;
+    }
+    places::resite(
+        input,
+        0,
+        Rule::Joined,
+        records,
+        0,
+        count,
+        lent::ACTION_WORDS,
+    );
+}
+
 fn shorter(a: usize, b: usize) -> usize
     ensures { λ r. ⌜ r ≡ min a b ⌝ }
 {
@@ -199,15 +217,7 @@ pub fn parse_actions(
             span: places::site_word(input, 0, Rule::Joined, span),
         },
         Reached::Read { count, offset } => {
-            places::resite(
-                input,
-                0,
-                Rule::Joined,
-                records,
-                0,
-                count,
-                lent::ACTION_WORDS,
-            );
+            settle(input, n, records, count);
             finish(text, offset, records, count)
         }
         // not past the gate

@@ -40,7 +40,7 @@ use Rattle.actions.specs.Lists.{normalSite}
 use Rattle.actions.proofs.NormalLaws.{normalised-length}
 use Rattle.actions.proofs.JoinLaws.{bytes-joined}
 use Rattle.actions.proofs.SourceLaws.{Inside, EachInside}
-use Rattle.actions.proofs.SitingLaws.{inside-narrow, each-narrow, record-wide}
+use Rattle.actions.proofs.SitingLaws.{inside-narrow, each-narrow, record-wide, sited-still, still-all}
 use Rattle.directives.specs.Groups.{argumentBy, argumentsOf}
 use Rattle.directives.specs.Directives.{siteAt, argumentSite, listSite}
 use Rattle.directives.specs.Steps.{onward, placeOf, argumentsAs, takenFrom, Stands, Stand, tokenWord, tokenMoved, textNumber, listAmong, listIn, listText, listWord, listMoved, shrunkBy, listThere}
@@ -167,10 +167,6 @@ list-token name past args = go (eqb (length args) 1)
 -- ---- sources put somewhere
 
 module _ {A : Type 0} where
-  pub sited-still : (xs : List (Sourced A)) → sitedAll (λ (x : Part). x) xs ≡ xs
-  sited-still [] = refl
-  sited-still (x ∷ xs) = ap (λ (l : List (Sourced A)). x ∷ l) (sited-still xs)
-
   pub sited-twice : (f g : Part → Part) (xs : List (Sourced A)) → sitedAll f (sitedAll g xs) ≡ sitedAll (λ (x : Part). f (g x)) xs
   sited-twice f g [] = refl
   sited-twice f g (x ∷ xs) = ap (λ (l : List (Sourced A)). sitedBy (λ (y : Part). f (g y)) x ∷ l) (sited-twice f g xs)
@@ -293,20 +289,6 @@ every-narrow n l (Sources.and-at {x} {xs} h w) = ((omega (arith, h .some), omega
 normal-all-narrow : (t : List ℕ) → length t ≤ limit → (xs : List (Sourced Action)) → AllNarrow (sitedAll (normalSite t) xs)
 normal-all-narrow t l [] = tt
 normal-all-narrow t l (x ∷ xs) = (normal-narrow t l (x .source), normal-all-narrow t l xs)
-
--- where nothing was taken out nothing moves
-normal-still : (t : List ℕ) → shrunkBy t ≡ 0 → (x : Part) → Inside (length (normalised t)) x → normalSite t x ≡ x
-normal-still t e x i =
-    let n : length (textOf Joined t) ≡ length t = omega (arith, ap length (bytes-joined t), normalised-length t, e) in
-    let a : 0 + x .first ≡ x .first = omega arith in
-    let b : 0 + x .past ≡ x .past = omega arith in
-    still-site Joined 0 t n (x .first) (x .past) (omega (arith, i .some)) (omega (arith, i .inside, normalised-length t)) ∙ ap₂ part a b
-
-still-all : (f : Part → Part) (t : List ℕ) → shrunkBy t ≡ 0 → (xs : List (Sourced Action)) → EachInside (length (normalised t)) xs
-    → sitedAll f xs ≡ sitedAll (λ (x : Part). f (normalSite t x)) xs
-still-all f t e [] i = refl
-still-all f t e (x ∷ xs) i =
-    ap₂ (λ (y : Part) (l : List (Sourced Action)). sourced (x .thing) (f y) ∷ l) (sym (normal-still t e (x .source) (i .0))) (still-all f t e xs (i .1))
 
 acts-sited : (f : Part → Part) (old : List ℕ) (i o : ℕ) (xs : List (Sourced Action)) → AllNarrow xs
     → lastChanged (wordBy f) actionWords (length xs) i (storedEach old i (Acts.recordsFrom o xs)) ≡ storedEach old i (Acts.recordsFrom o (sitedAll f xs))

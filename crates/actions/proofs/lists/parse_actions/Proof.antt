@@ -7,7 +7,7 @@ use lib.ListN.{length}
 use lib.Seq.{length-take-le}
 use Rattle.lent.specs.Sizes.{limit}
 use Rattle.actions.proofs.ScratchLaws.{part-fits, part-is}
-use Rattle.actions.proofs.SitingLaws.{span-sited, records-sited}
+use Rattle.actions.proofs.SitingLaws.{span-sited, records-settled}
 use Rattle.actions.proofs.PromiseLaws.{open-rooms, open-starts, actions-too-long, actions-not-ascii, actions-short, actions-read, actions-bad, actions-unknown}
 use Rattle.actions.proofs.lists.parse_actions.Statement.{statement}
 use Rattle.actions.proofs.lists.parse_actions.Tie as tie
@@ -53,7 +53,7 @@ returns-6 : tie.Need-returns-6
 returns-6 c =
     let x = rw (part-is (now (c .before .before .before .before .before .before .before .before .before .before .before .before .before .before .before .before .before .before .before .before .before .before .before .before .before .before .before .before .before .before .before .before .before .before .args .input)) (now (c .before .before .before .before .before .before .before .before .before .before .before .before .before .before .before .before .before .before .before .before .before .before .before .before .before .before .before .before .before .before .before .before .before .before .args .scratch)) (c .before .before .before .before .before .before .before .before .before .before .before .before .before .before .before .before .before .before .before .before .before .before .before .before .fill-scratch .ensures .0) (c .before .before .before .before .before .before .before .before .before .before .before .before .before .before .before .before .before .before .before .before .before .before .before .before .fill-scratch .ensures .1) (opened (c .before .before .before .before .before .before .before .before .before .before .before .before .before .before .before .before .before .before .before .before .before .before) .2)) at (rw (c .before .before .before .before .before .before .before .before .before .before .before .before .count .given .1) at (c .before .before .before .before .before .before .before .before .before .before .before .before .before .before .before .before .before .before .write-actions .ensures)) in
     actions-read (now (c .before .before .before .before .before .before .before .before .before .before .before .before .before .before .before .before .before .before .before .before .before .before .before .before .before .before .before .before .before .before .before .before .before .before .args .input)) (now (c .before .before .before .before .before .before .before .before .before .before .before .before .before .before .before .before .before .before .before .before .before .before .before .before .before .before .before .before .before .before .before .before .before .before .args .text)) (now (c .before .before .before .before .before .before .before .before .before .before .before .before .before .before .before .before .before .before .before .before .before .before .before .before .before .before .before .before .before .before .before .before .before .before .args .scratch)) (now (c .before .before .before .before .before .before .before .before .before .before .before .before .before .before .before .before .before .before .before .before .before .before .before .before .before .before .before .before .before .before .before .before .before .before .args .records)) (c .before .before .before .before .before .before .before .before .before .before .before .before .before .before .before .before .before .before .before .before .before .before .before .before .before .before .before .before .before .shorter .ensures) (c .before .before .before .before .before .before .before .before .before .before .before .before .before .before .before .before .before .before .before .before .before .before .before .before .before .before .before .before .admit .ensures) (c .before .before .before .before .before .before .before .before .before .before .before .before .before .before .before .before .before .before .before .before .before .before .before .before .before .before .enum-told3 .given .1) (c .before .before .before .before .before .before .before .before .before .before .before .before .before .before .before .before .before .before .before .before .before .before .before .before .fill-scratch .ensures .0) x
-    (records-sited (now (c .before .before .before .before .before .before .before .before .before .before .before .before .before .before .before .before .before .before .before .before .before .before .before .before .before .before .before .before .before .before .before .before .before .before .args .input)) (opened (c .before .before .before .before .before .before .before .before .before .before .before .before .before .before .before .before .before .before .before .before .before .before) .0) x (c .before .before .before .before .before .before .before .before .before .resite .ensures)) (c .before .before .before .before .finish .ensures)
+    (records-settled (now (c .before .before .before .before .before .before .before .before .before .before .before .before .before .before .before .before .before .before .before .before .before .before .before .before .before .before .before .before .before .before .before .before .before .before .args .input)) (opened (c .before .before .before .before .before .before .before .before .before .before .before .before .before .before .before .before .before .before .before .before .before .before) .0) x (c .before .before .before .before .before .before .before .before .before .before .before .before .before .before .before .before .before .before .before .before .before .before .before .before .fill-scratch .ensures .1) (c .before .before .before .before .before .before .before .before .before .settle .ensures)) (c .before .before .before .before .finish .ensures)
 
 returns-7 : tie.Need-returns-7
 returns-7 c = absurd (rw (c .enum-told4 .given .1) at (c .before .before .before .before .before .before .write-actions .ensures))
