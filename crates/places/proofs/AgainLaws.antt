@@ -147,6 +147,20 @@ Last own m b (pass m′) = Unit {0}
 Last own m b (keep x m′) = own m b [] ≡ keep x m′
 Last own m b (turn x m′) = own m b [] ≡ turn x m′
 
+-- where a test makes the byte vanish
+picked : (own : Mode → ℕ → List ℕ → Act) (m : Mode) (b : ℕ) (t : Bool) (m′ : Mode) (a : Act) → (t ≡ false → Last own m b a) → Last own m b (pick t (pass m′) a)
+picked own m b true m′ a f = tt
+picked own m b false m′ a f = f refl
+
+-- so that a table that looks one byte ahead is read alone as in its place
+lasts-ahead : (does own : Mode → ℕ → List ℕ → Act) → ((m : Mode) (b x : ℕ) (r r′ : List ℕ) → own m b (x ∷ r′) ≡ does m b (x ∷ r))
+    → ((m : Mode) (b : ℕ) (r : List ℕ) → Last own m b (does m b r)) → Ahead does own
+lasts-ahead does own heads lasts = record {
+  same-head = heads;
+  last-keep = λ m b r x m′ e. subst (Last own m b) e (lasts m b r);
+  last-turn = λ m b r x m′ e. subst (Last own m b) e (lasts m b r);
+}
+
 module _ (m : Mode) (b : ℕ) (r : List ℕ) where
   none-ahead : (t u : Bool) → and t u ≡ false → and t false ≡ false
   none-ahead true u e = refl
@@ -154,33 +168,18 @@ module _ (m : Mode) (b : ℕ) (r : List ℕ) where
 
   join-last : joining m b [] ≡ plainJoin b [] → Last joining m b (plainJoin b r)
   unfolding lineNext
-  join-last same = go (and (eqb b 92) (lineNext r)) refl
-    where
-      go : (t : Bool) → and (eqb b 92) (lineNext r) ≡ t → Last joining m b (pick t (pass escaped) (keep b plain))
-      go true e = tt
-      go false e = same ∙ rw (none-ahead (eqb b 92) (lineNext r) e)
+  join-last same =
+      picked joining m b (and (eqb b 92) (lineNext r)) escaped (keep b plain) (λ e. same ∙ rw (none-ahead (eqb b 92) (lineNext r) e))
 
   join-last-margin : joining m b [] ≡ marginJoin b [] → Last joining m b (marginJoin b r)
-  join-last-margin same = go (skipped b) refl
-    where
-      go : (t : Bool) → skipped b ≡ t → Last joining m b (pick t (pass margin) (plainJoin b r))
-      go true e = tt
-      go false e = join-last (same ∙ rw e)
+  join-last-margin same = picked joining m b (skipped b) margin (plainJoin b r) (λ e. join-last (same ∙ rw e))
 
 join-lasts : (m : Mode) (b : ℕ) (r : List ℕ) → Last joining m b (joining m b r)
 unfolding joining
 join-lasts plain b r = join-last plain b r refl
-join-lasts escaped b r = go (eqb b 10)
-  where
-    go : (t : Bool) → Last joining escaped b (pick t (pass margin) (pass afterCr))
-    go true = tt
-    go false = tt
+join-lasts escaped b r = picked joining escaped b (eqb b 10) margin (pass afterCr) (λ e. tt)
 join-lasts stayed b r = join-last stayed b r refl
-join-lasts afterCr b r = go (eqb b 10) refl
-  where
-    go : (t : Bool) → eqb b 10 ≡ t → Last joining afterCr b (pick t (pass margin) (marginJoin b r))
-    go true e = tt
-    go false e = join-last-margin afterCr b r (rw e)
+join-lasts afterCr b r = picked joining afterCr b (eqb b 10) margin (marginJoin b r) (λ e. join-last-margin afterCr b r (rw e))
 join-lasts margin b r = join-last-margin margin b r refl
 
 join-head : (m : Mode) (b x : ℕ) (r r′ : List ℕ) → joining m b (x ∷ r′) ≡ joining m b (x ∷ r)
@@ -192,11 +191,7 @@ join-head afterCr b x r r′ = refl
 join-head margin b x r r′ = refl
 
 join-ahead : Ahead (act Joined) (alone Joined)
-join-ahead = record {
-  same-head = join-head;
-  last-keep = λ m b r x m′ e. subst (Last joining m b) e (join-lasts m b r);
-  last-turn = λ m b r x m′ e. subst (Last joining m b) e (join-lasts m b r);
-}
+join-ahead = lasts-ahead (act Joined) (alone Joined) join-head join-lasts
 
 module _ (m : Mode) (b : ℕ) (r : List ℕ) where
   quote-last : quotingBy true m b [] ≡ plainQuote true b [] → Last (quotingBy true) m b (plainQuote false b r)
@@ -209,27 +204,16 @@ module _ (m : Mode) (b : ℕ) (r : List ℕ) where
       go false e u = same ∙ rw e
 
   quote-last-margin : quotingBy true m b [] ≡ marginQuote true b [] → Last (quotingBy true) m b (marginQuote false b r)
-  quote-last-margin same = go (or (eqb b 32) (eqb b 9)) refl
-    where
-      go : (t : Bool) → or (eqb b 32) (eqb b 9) ≡ t → Last (quotingBy true) m b (pick t (pass margin) (plainQuote false b r))
-      go true e = tt
-      go false e = quote-last (same ∙ rw e)
+  quote-last-margin same = picked (quotingBy true) m b (or (eqb b 32) (eqb b 9)) margin (plainQuote false b r) (λ e. quote-last (same ∙ rw e))
 
 quote-lasts : (m : Mode) (b : ℕ) (r : List ℕ) → Last (quotingBy true) m b (quotingBy false m b r)
 unfolding quotingBy
 quote-lasts plain b r = quote-last plain b r refl
-quote-lasts escaped b r = go (eqb b 10) refl (eqb b 13) refl
-  where
-    go : (t : Bool) → eqb b 10 ≡ t → (u : Bool) → eqb b 13 ≡ u → Last (quotingBy true) escaped b (pick t (pass margin) (pick u (pass afterCr) (turn (headOf (unescaped b)) plain)))
-    go true e u f = tt
-    go false e true f = tt
-    go false e false f = rw (e, f)
+quote-lasts escaped b r =
+    picked (quotingBy true) escaped b (eqb b 10) margin (pick (eqb b 13) (pass afterCr) (turn (headOf (unescaped b)) plain))
+    (λ e. picked (quotingBy true) escaped b (eqb b 13) afterCr (turn (headOf (unescaped b)) plain) (λ f. rw (e, f)))
 quote-lasts stayed b r = refl
-quote-lasts afterCr b r = go (eqb b 10) refl
-  where
-    go : (t : Bool) → eqb b 10 ≡ t → Last (quotingBy true) afterCr b (pick t (pass margin) (marginQuote false b r))
-    go true e = tt
-    go false e = quote-last-margin afterCr b r (rw e)
+quote-lasts afterCr b r = picked (quotingBy true) afterCr b (eqb b 10) margin (marginQuote false b r) (λ e. quote-last-margin afterCr b r (rw e))
 quote-lasts margin b r = quote-last-margin margin b r refl
 
 pub quote-head : (m : Mode) (b x : ℕ) (r r′ : List ℕ) → quotingBy true m b (x ∷ r′) ≡ quotingBy false m b (x ∷ r)
@@ -241,11 +225,7 @@ quote-head afterCr b x r r′ = refl
 quote-head margin b x r r′ = refl
 
 quote-ahead : Ahead (act Quoted) (alone Quoted)
-quote-ahead = record {
-  same-head = quote-head;
-  last-keep = λ m b r x m′ e. subst (Last (quotingBy true) m b) e (quote-lasts m b r);
-  last-turn = λ m b r x m′ e. subst (Last (quotingBy true) m b) e (quote-lasts m b r);
-}
+quote-ahead = lasts-ahead (act Quoted) (alone Quoted) quote-head quote-lasts
 
 -- a word looks two bytes ahead: the bytes of a line end come with its backslash
 one-owed : (r : List ℕ) (n : ℕ) → lineEnd r ≡ 1 → lineEnd (take (upto wording afterCr r (suc n)) r) ≡ 1
