@@ -146,14 +146,9 @@ fn stays_before(b: u8) -> bool
     ensures { λ r. ⌜ r ≡ stays b ⌝ }
 {
     match b {
-        10 => false,
-        13 => false,
-        34 => false,
-        39 => false,
-        92 => false,
-        110 => false,
-        114 => false,
-        116 => false,
+        10 | 13 => false,
+        34 | 39 | 92 => false,
+        110 | 114 | 116 => false,
         _ => true,
     }
 }
