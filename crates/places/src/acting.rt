@@ -44,11 +44,11 @@ fn plain_join(s: &[u8], at: usize) -> Step
     requires { ⌜ at < length (now s) ⌝ }
     ensures { λ r. ⌜ r ≡ stepOf (plainJoin (getD (now (s .entry)) at 0) (drop (at + 1) (now (s .entry)))) ⌝ }
 {
-    if s[at] == 92 {
-        if line_next(s, at + 1) {
-            return Step::Pass(Mode::Escaped);
-        }
+    if s[at] != 92 {
         return Step::Keep(Mode::Plain);
+    }
+    if line_next(s, at + 1) {
+        return Step::Pass(Mode::Escaped);
     }
     Step::Keep(Mode::Plain)
 }
