@@ -1,25 +1,20 @@
 -- Normalising by spans: the bytes up to the next backslash stand for themselves.
 use mathlib.Core.Path.{_≡_, _∙_, refl, sym, ap, subst}
-use mathlib.Core.Logic.{_⊎_, ⊎-elim}
 use mathlib.Core.Bool.{Bool, true, false}
 use mathlib.Core.List.{List, [], _∷_, _++_}
-use Prim.Native.Nat.{ℕ, _+_, _-_, _≤_, _<_}
+use Prim.Native.Nat.{ℕ, _+_, _-_, _≤_}
 use native.Mathlib.Numerals.{one-add}
 use native.Mathlib.Omega.{arith}
 use lib.ListN.{length, take, drop, length-drop}
 use lib.Seq.{drop-drop, length-take-le}
 use lib.Dec.{eqb}
-use borrow.Author.Tests.{ne-eqb, eqb-false}
 use Rattle.ascii.specs.Choice.{pick}
-use Rattle.ascii.specs.Classes.{white}
-use Rattle.ascii.proofs.ByteLaws.{inside, below, above}
 use Rattle.lent.specs.Buffers.{stored}
 use Rattle.lent.proofs.BufferLaws.{Written, written-stored, front-stored}
 use Rattle.ascii.specs.Trim.{leading}
 use Rattle.ascii.specs.Splits.{firstOf}
 use Rattle.ascii.proofs.SplitLaws.{first-fits}
 use Rattle.actions.specs.Steps.{Passed}
-use Rattle.places.specs.Tables.{skipped}
 use Rattle.actions.specs.Normal.{plain, modeAfter, textGiven, normalisedFrom}
 use Rattle.actions.proofs.NormalLoop.{Normalising}
 
@@ -56,21 +51,3 @@ module _ {s old new : List ℕ} {i n : ℕ} (room : length s ≤ length old) (x 
       let e : i + (r - i) ≡ r = omega (arith, p .place) in
       let y : Normalising s old (stored new n (take (r - i) (drop i s))) plain (i + (r - i)) (n + (r - i)) = span-on (r - i) (omega (arith, p .place)) in
       (omega (arith, p .place), rw (p .text) (subst (λ (j : ℕ). Normalising s old (stored new n (take (r - i) (drop i s))) plain j (n + (r - i))) e y))
-
--- ---- the whitespace of a margin
-
-module _ (b : ℕ) where
-  pub skipped-range : 11 ≤ b → b ≤ 13 → skipped b ≡ true
-  unfolding white
-  skipped-range h k = rw (ne-eqb b 10 (omega arith), inside 9 13 b (omega arith) (omega arith))
-
-  pub skipped-not : (b ≡ 9 → ⊥) → (b < 11) ⊎ (13 < b) → (b ≡ 32 → ⊥) → skipped b ≡ false
-  unfolding white
-  skipped-not n h m = go (eqb b 10) refl
-    where
-      low : b < 11 → (b ≡ 10 → ⊥) → white b ≡ false
-      low h k = rw (below 9 13 b (omega arith), ne-eqb b 32 m)
-
-      go : (t : Bool) → eqb b 10 ≡ t → pick t false (white b) ≡ false
-      go true e = refl
-      go false e = ⊎-elim (λ l. low l (eqb-false b 10 e)) (λ l. rw (above 9 13 b (omega arith) (omega arith), ne-eqb b 32 m)) h

@@ -5,8 +5,8 @@ use Prim.Native.Nat.{_<_}
 use native.Mathlib.Omega.{arith}
 use borrow.Author.Needs.{needs}
 use Rattle.ascii.specs.Classes.{white}
+use Rattle.places.proofs.ActLaws.{skipped-range, skipped-not}
 use Rattle.actions.specs.Normal.{textGiven, modeAfter}
-use Rattle.actions.proofs.PlainLaws.{skipped-range, skipped-not}
 use Rattle.actions.proofs.normalising.margin_act.Statement.{statement}
 use Rattle.actions.proofs.normalising.margin_act.Tie as tie
 
