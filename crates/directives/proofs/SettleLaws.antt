@@ -4,11 +4,10 @@ use mathlib.Core.Path.{_≡_, _∙_, refl, sym, ap, subst}
 use mathlib.Core.Logic.{⊎-elim}
 use mathlib.Core.Bool.{Bool, true, false}
 use mathlib.Core.List.{List, [], _∷_, _++_, append-assoc}
-use Prim.Native.Nat.{ℕ, zero, suc, _+_, _-_, _≤_, _<_}
+use Prim.Native.Nat.{ℕ, zero, suc, _+_, _≤_, _<_}
 use native.Mathlib.Omega.{arith}
-use native.Mathlib.Numerals.{unary-clauses}
 use lib.ListN.{length, take, drop, getD, length-append, take-append-drop}
-use lib.Seq.{length-take-le, take-nil}
+use lib.Seq.{length-take-le}
 use lib.Dec.{eqb, ltb}
 use borrow.Author.Tests.{le-leb, eqb-true, ltb-true}
 use Rattle.ascii.specs.Choice.{pick, or}
@@ -23,6 +22,7 @@ use Rattle.lexer.specs.Tokens.{Token}
 use Rattle.lexer.specs.Layout as Lexed
 use Rattle.lexer.specs.Steps.{part}
 use Rattle.lexer.specs.Calls.{Reached as Arrived}
+use Rattle.operators.proofs.PlaceLaws.{drop-take}
 use Rattle.directives.specs.Directives.{isMark, between, siteAt}
 use Rattle.directives.specs.Steps.{Laid, endsAt, argumentsAs, takenFrom, Took, Stands, Stand, tokenWord, textNumber, listAmong, listIn, listText, Heard, Listing, listThere, listWord, spanMoved, heldList}
 use Rattle.directives.specs.declared.ArgumentFault.{ArgumentFault}
@@ -36,18 +36,6 @@ use Rattle.directives.proofs.ArgumentFault.{the-type}
 use Rattle.directives.proofs.LaidLaws.{part-of}
 
 -- ---- a token of the input
-
-drop-take : (k n : ℕ) (l : List ℕ) → drop k (take n l) ≡ take (n - k) (drop k l)
-drop-take zero n l = simp unary-clauses
-drop-take (suc k) n [] = ap (drop (suc k)) (take-nil n) ∙ sym (take-nil (n - suc k))
-drop-take (suc k) zero (x ∷ l) =
-    let z : 0 - suc k ≡ 0 = omega arith in
-    rw z (sym (take-zero (drop k l)))
-  where
-    take-zero : (l : List ℕ) → take 0 l ≡ []
-    take-zero [] = refl
-    take-zero (x ∷ l) = refl
-drop-take (suc k) (suc n) (x ∷ l) = simp unary-clauses (drop-take k n l)
 
 module _ {s : List ℕ} {t : Part} (h : Stands s t) where
   -- the input up to the token's end

@@ -34,7 +34,7 @@ sign-fits t = go (starts 33 t) refl
 
 -- ---- rests of the trimmed text
 
-drop-take : (k n : ℕ) (l : List ℕ) → drop k (take n l) ≡ take (n - k) (drop k l)
+pub drop-take : (k n : ℕ) (l : List ℕ) → drop k (take n l) ≡ take (n - k) (drop k l)
 drop-take zero n l = simp unary-clauses
 drop-take (suc k) n [] = ap (drop (suc k)) (take-nil n) ∙ sym (take-nil (n - suc k))
 drop-take (suc k) zero (x ∷ l) =
