@@ -21,6 +21,7 @@ use Rattle.directives.specs.Promises.{answerGiven, Rooms, roomsOf, Lent,
 use Rattle.directives.specs.Parts.{Idle, erasedFault, erasedAll, unspanned, unsourcedVariables, unsourcedActions, unspannedOutcome, unspannedReply, Fits, Called, Alike, SameTold}
 use Rattle.directives.specs.declared.LineFault.the-variants.{WrongCount, Untaken, Stopped}
 use Rattle.directives.specs.declared.ArgumentFault.the-variants.{UnknownVariable, UnknownOperator, UnknownAction, BadArgument}
+use Rattle.directives.specs.declared.Fault.{Fault as Told}
 use Rattle.directives.specs.declared.Fault.the-variants as Told
 use Rattle.directives.specs.declared.Answer.{Answer}
 use Rattle.directives.specs.declared.Answer.the-variants as Answer
@@ -84,20 +85,23 @@ spanless (a ∷ b ∷ c ∷ d ∷ r) = a ∷ b ∷ c ∷ 0 ∷ r
 abbrev unspannedGiven : Given → Given
 unspannedGiven g = given (g .number) (pick (eqb (g .number) 0) (g .values) (spanless (g .values)))
 
+told-unspanned : (f : Told) → answerGiven (unspannedReply (Answer.Refused f)) ≡ unspannedGiven (answerGiven (Answer.Refused f))
+told-unspanned (Told.Line WrongCount line) = refl
+told-unspanned (Told.Line Untaken line) = refl
+told-unspanned (Told.Line Stopped line) = refl
+told-unspanned (Told.Argument UnknownVariable line piece name span) = refl
+told-unspanned (Told.Argument UnknownOperator line place len span) = refl
+told-unspanned (Told.Argument UnknownAction line piece name span) = refl
+told-unspanned (Told.Argument (BadArgument Flaw.Absent) line piece name span) = refl
+told-unspanned (Told.Argument (BadArgument Flaw.Unreadable) line piece name span) = refl
+told-unspanned (Told.Argument (BadArgument Flaw.TooLarge) line piece name span) = refl
+
 reply-unspanned : (r : Answer) → answerGiven (unspannedReply r) ≡ unspannedGiven (answerGiven r)
 reply-unspanned (Answer.Read d v a t) = refl
 reply-unspanned Answer.TooLong = refl
 reply-unspanned (Answer.NotAscii place) = refl
 reply-unspanned Answer.Short = refl
-reply-unspanned (Answer.Refused (Told.Line WrongCount line)) = refl
-reply-unspanned (Answer.Refused (Told.Line Untaken line)) = refl
-reply-unspanned (Answer.Refused (Told.Line Stopped line)) = refl
-reply-unspanned (Answer.Refused (Told.Argument UnknownVariable line piece name span)) = refl
-reply-unspanned (Answer.Refused (Told.Argument UnknownOperator line place len span)) = refl
-reply-unspanned (Answer.Refused (Told.Argument UnknownAction line piece name span)) = refl
-reply-unspanned (Answer.Refused (Told.Argument (BadArgument Flaw.Absent) line piece name span)) = refl
-reply-unspanned (Answer.Refused (Told.Argument (BadArgument Flaw.Unreadable) line piece name span)) = refl
-reply-unspanned (Answer.Refused (Told.Argument (BadArgument Flaw.TooLarge) line piece name span)) = refl
+reply-unspanned (Answer.Refused f) = told-unspanned f
 reply-unspanned (Answer.NoRoom d v a) = refl
 
 fault-unspanned : (f : Fault) → faultGiven (erasedFault f) ≡ unspannedGiven (faultGiven f)
