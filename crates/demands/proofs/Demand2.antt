@@ -11,7 +11,8 @@ use lib.ListN.{length}
 use lib.Dec.{ltb}
 use borrow.Author.Tests.{lt-ltb, le-ltb, ltb-true, ltb-false}
 use Rattle.lent.specs.Sizes.{actionWords, roomFor}
-use Rattle.lent.specs.Table.{Given, flawNumber, Outcome, reads, Filled, givenBy, textBy, recordsBy}
+use Rattle.lent.specs.Table.{Given, flawNumber, unknownAction, badArgument, Outcome, refuses, reads, sitedOutcome, Filled, givenBy, textBy, recordsBy}
+use Rattle.lent.specs.Sources.{Sourced}
 use Rattle.lent.specs.declared.gating.Gate.{Gate}
 use Rattle.lent.specs.declared.gating.Gate.the-variants.{Open}
 use Rattle.lent.specs.Admission.{Opened}
@@ -23,28 +24,30 @@ use Rattle.lent.proofs.RowLaws.{Row, row, OneOf, Numbered, Exactly, absent, dif
 use Rattle.lexer.specs.Promises as Lexer
 use Rattle.lexer.proofs.ReadLaws.{tokens-0, tokens-1, tokens-2, tokens-3, tokens-4}
 use Rattle.lexer.proofs.PromiseLaws.{next-token-0, next-token-1, next-token-2, next-token-3, next-token-9, next-token-reads}
-use Rattle.single_action.specs.Actions.{Single, done, bad, unknown, single}
+use Rattle.single_action.specs.Actions.{Action, Single, done, bad, unknown, single}
 use Rattle.single_action.specs.Flaws.{invalidActionArgument, parsed}
 use Rattle.single_action.proofs.FlawLaws.{flawed, severity-original}
 use Rattle.actions.specs.Normal.{normalised}
 use Rattle.actions.specs.Pieces.{Piece, pieces}
 use Rattle.actions.specs.Calls.{FirstRefused}
-use Rattle.actions.specs.Lists.{actionsOf}
+use Rattle.actions.specs.Lists.{normalSite, actionsOf}
 use Rattle.actions.specs.Promises as Actions
 use Rattle.actions.specs.declared.Answer as Listed
-use Rattle.actions.proofs.NumberLaws.{parse-actions-numbers}
+use Rattle.actions.proofs.NumberLaws.{first-refused, bad-way, unknown-way, parse-actions-numbers}
 use Rattle.variables.specs.Parts as Variable
 use Rattle.variables.specs.Variables.{asWritten, lookedUp, readAll}
 use Rattle.variables.specs.Promises as Variables
 use Rattle.variables.specs.declared.Answer as Read
 use Rattle.variables.specs.declared.singles.Exclusions.{Exclusions}
 use Rattle.variables.proofs.PromiseLaws as Targets
+use Rattle.variables.proofs.MeantLaws.{refused-there}
 use Rattle.operators.specs.Operators.{operator}
 use Rattle.operators.specs.Promises as Operators
 use Rattle.operators.proofs.PromiseLaws.{parse-operator-0, parse-operator-1, parse-operator-2, parse-operator-8}
 use Rattle.listing.proofs.JsonLaws.{printed-json}
 use Rattle.demands.specs.Calls.{Lent, Left, parse-setvar-promise}
-use Rattle.demands.specs.Demand2.{Equals, tokensIn, Equal, Past, ActionsExact, SetvarExact, TargetsExact, Exact, FirstInvalid, OneError, Demand2}
+use Rattle.demands.specs.Demand2.{Equals, tokensIn, Equal, Past, ActionsExact, SetvarExact, TargetsExact, Exact, FirstInvalid, OneError, Sources, Demand2}
+use Rattle.demands.proofs.SourcelessLaws.{actions-old, actions-new, variables-old, variables-new}
 
 -- ---- what is given back and left
 
@@ -201,5 +204,31 @@ one-error = record {
   severity = severity-original;
 }
 
+-- ---- what M-104 added
+
+unknown-new : (s : List ℕ) (x : FirstRefused unknown (pieces (normalised s)))
+    → actionsOf s ≡ refuses (unknownAction (length (x .passed)) (x .name) (normalSite s (x .piece .place)))
+unfolding actionsOf
+unknown-new s x = ap (λ (o : Outcome (List (Sourced Action))). sitedOutcome (normalSite s) o) (first-refused unknown-way (pieces (normalised s)) x)
+
+bad-new : (flaw : Flaw) (s : List ℕ) (x : FirstRefused (bad flaw) (pieces (normalised s)))
+    → actionsOf s ≡ refuses (badArgument flaw (length (x .passed)) (x .name) (normalSite s (x .piece .place)))
+unfolding actionsOf
+bad-new flaw s x = ap (λ (o : Outcome (List (Sourced Action))). sitedOutcome (normalSite s) o) (first-refused (bad-way flaw) (pieces (normalised s)) x)
+
+sources : Sources
+sources = record {
+  action-words = λ o x. refl;
+  variable-words = λ o x. refl;
+  exclusion-words = λ o x. refl;
+  actions-old = actions-old;
+  variables-old = variables-old;
+  actions-new = actions-new;
+  variables-new = variables-new;
+  unknown-new = unknown-new;
+  bad-new = bad-new;
+  missing-new = λ x s m. refused-there x m;
+}
+
 pub demand2 : Demand2
-demand2 = record { equal = equal; exact = exact; one-error = one-error }
+demand2 = record { equal = equal; exact = exact; one-error = one-error; sources = sources }

@@ -12,6 +12,7 @@ pub mod Demand1
 pub mod Worked
 pub mod Demand3
 pub mod Plain
+pub mod SourcelessLaws
 pub mod Demand2
 pub mod WholeDirectives
 pub mod NoSix

@@ -3,9 +3,10 @@
 -- Said here of every reader that document 01 names, in two parts (of whole directives: `WholeDirectives`). What is given back and left
 -- is what the definitions say (`Equals`): `reading`, `actionsOf`, `setvar`, `readAll` and `operator` are the Rust's rules. And each number
 -- is given exactly when documents 01 and 02 say so (`Exact`). Where the Rust has one error for an action's argument, document 02 has three
--- numbers: these are mapped to it (`OneError`).
+-- numbers: these are mapped to it (`OneError`). What M-104 added, the last word of a record and the last value of a refusal, the Rust has not:
+-- all else is held against its rules, which know of no places, and these are the pieces' places by their definition (`Sources`).
 use mathlib.Core.Path.{_≡_}
-use mathlib.Core.List.{List, _∷_, _++_}
+use mathlib.Core.List.{List, [], _∷_, _++_, map}
 use mathlib.Core.Logic.{_↔_}
 use Prim.Native.Nat.{ℕ, _+_, _≤_, _<_, min}
 use lib.ListN.{length, drop}
@@ -14,7 +15,8 @@ use Rattle.ascii.specs.Choice.{pick}
 use Rattle.ascii.specs.Handed.{Standing}
 use Rattle.lent.specs.Sizes.{limit, tokenWords, actionWords, variableWords, roomFor}
 use Rattle.lent.specs.Buffers.{padded}
-use Rattle.lent.specs.Table.{Given, given, flawNumber, noRoom, Outcome, refuses, reads, Filled, givenBy, textBy, recordsBy}
+use Rattle.lent.specs.Sources.{partWord, Sourced}
+use Rattle.lent.specs.Table.{Given, given, flawNumber, noRoom, unknownAction, badArgument, Outcome, refuses, reads, Filled, givenBy, textBy, recordsBy}
 use Rattle.lent.specs.Admission.{FirstAt, Opened, Shortened}
 use Rattle.lent.specs.declared.refusing.Flaw.{Flaw}
 use Rattle.lent.specs.declared.refusing.Flaw.the-variants as Flaw
@@ -26,14 +28,18 @@ use Rattle.lexer.specs.declared.writing.Answer as Tokens
 use Rattle.actions.specs.Normal.{normalised}
 use Rattle.actions.specs.Pieces as Action
 use Rattle.single_action.specs.Table.{Row}
-use Rattle.single_action.specs.Actions.{bad, unknown, single}
+use Rattle.single_action.specs.Actions.{Action as OneAction, bad, unknown, single}
 use Rattle.single_action.specs.Flaws.{Flawed, invalidActionArgument, parsed, severityOurs, severityTheirs}
-use Rattle.actions.specs.Lists.{actionsOf}
+use Rattle.actions.specs.Lists.{normalSite, actionsOf}
+use Rattle.actions.specs.Layout.{actionRecord, fullRecord}
 use Rattle.actions.specs.Calls.{AllDone, FirstRefused}
 use Rattle.actions.specs.Promises as Actions
 use Rattle.actions.specs.declared.Answer as Listed
 use Rattle.variables.specs.Parts as Variable
+use Rattle.variables.specs.Variables as Of
 use Rattle.variables.specs.Variables.{asWritten, lookedUp, readAll}
+use Rattle.variables.specs.Layout.{variableRecord, exclusionRecord, variableWhole, exclusionWhole}
+use Rattle.variables.specs.Steps.{excludingOf}
 use Rattle.variables.specs.Calls as Targets
 use Rattle.variables.specs.Promises as Variables
 use Rattle.variables.specs.declared.Answer as Read
@@ -45,6 +51,7 @@ use Rattle.operators.specs.Promises as Operators
 use Rattle.operators.specs.declared.Answer as Parsed
 use Rattle.listing.specs.Grammar.{JsonText}
 use Rattle.listing.specs.Listings.{printed}
+use Rattle.demands.specs.Sourceless.{actionTexts, variableTexts, sources, bare, rustActions, bareTargets, rustTargets, variablePlaces, exclusionPlaces}
 use Rattle.demands.specs.Calls.{Lent, Left, Wrote, Place, next-token-promise, tokens-promise, parse-actions-promise, parse-setvar-promise, parse-variables-promise, parse-update-targets-promise, parse-operator-promise, operator-argument-promise}
 
 -- ---- what is given back and left
@@ -173,7 +180,32 @@ pub record OneError : Type 0 where
   -- that a severity word is looked for only where the text denotes no number changes nothing: the Rust's parse_severity, to the letter
   pub severity : (r : Row) (t : List ℕ) → severityOurs r t ≡ severityTheirs r t
 
+-- ---- what M-104 added
+
+pub record Sources : Type 0 where
+  -- a record: its words of document 01, and behind them the span of the part that it was read from
+  pub action-words : (o : ℕ) (x : Sourced OneAction) → fullRecord o x ≡ actionRecord o (x .thing) ++ (partWord (x .source) ∷ [])
+  pub variable-words : (o : ℕ) (x : Sourced Of.Variable) → variableWhole o x ≡ variableRecord o (x .thing) ++ (partWord (x .source) ∷ [])
+  pub exclusion-words : (o : ℕ) (x : Sourced (List ℕ)) → exclusionWhole o x ≡ exclusionRecord o (x .thing) ++ (partWord (x .source) ∷ [])
+  -- but for these parts, what is read and what is refused is what the Rust's loops make of the pieces' texts
+  pub actions-old : (s : List ℕ) → bare (actionsOf s) ≡ rustActions 0 (actionTexts (normalised s))
+  pub variables-old : (x : Exclusions) (s : List ℕ) → bareTargets (readAll (excludingOf x) (Variable.pieces s)) ≡ rustTargets x (variableTexts s)
+  -- and these are the pieces' places: of an action, where its piece of the normalised text came from
+  pub actions-new : (s : List ℕ) (xs : List (Sourced OneAction)) → actionsOf s ≡ reads xs
+      → sources xs ≡ map (λ (p : Action.Piece). normalSite s (p .place)) (Action.pieces (normalised s))
+  pub variables-new : (x : Exclusions) (s : List ℕ) (vs : List (Sourced Of.Variable)) (es : List (Sourced (List ℕ)))
+      → readAll (excludingOf x) (Variable.pieces s) ≡ Of.targets vs es
+      → (sources vs ≡ variablePlaces (Variable.pieces s)) × (sources es ≡ exclusionPlaces (Variable.pieces s))
+  -- of a refusal, that of the first piece refused
+  pub unknown-new : (s : List ℕ) (x : FirstRefused unknown (Action.pieces (normalised s)))
+      → actionsOf s ≡ refuses (unknownAction (length (x .passed)) (x .name) (normalSite s (x .piece .place)))
+  pub bad-new : (flaw : Flaw) (s : List ℕ) (x : FirstRefused (bad flaw) (Action.pieces (normalised s)))
+      → actionsOf s ≡ refuses (badArgument flaw (length (x .passed)) (x .name) (normalSite s (x .piece .place)))
+  pub missing-new : (x : Exclusions) (s : List ℕ) (m : Targets.Missing x (Variable.pieces s))
+      → readAll (excludingOf x) (Variable.pieces s) ≡ Of.refused (length (m .passed)) (m .text) (m .this .place)
+
 pub record Demand2 : Type 0 where
   pub equal : Equal
   pub exact : Exact
   pub one-error : OneError
+  pub sources : Sources

@@ -8,6 +8,7 @@ pub mod Demand1
 pub mod Worked
 pub mod Demand3
 pub mod Plain
+pub mod Sourceless
 pub mod Demand2
 pub mod WholeDirectives
 pub mod NoSix
