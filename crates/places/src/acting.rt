@@ -4,7 +4,7 @@ ghost use mathlib.Core.Bool.{false};
 ghost use mathlib.Core.List.{[]};
 ghost use Prim.Native.Nat.{_+_, _<_};
 ghost use lib.ListN.{length, drop, getD};
-ghost use Rattle.lexer.specs.Rules.{lineEnd};
+ghost use Rattle.lexer.specs.Rules.{feedNext, lineEnd};
 ghost use Rattle.places.specs.Tables.{lineNext, plainJoin, marginJoin, joining, plainWord, wording, stays, staysNext, plainQuote, marginQuote, quotingBy, act};
 ghost use Rattle.places.specs.Steps.{stepOf};
 use crate::Rule;
@@ -89,6 +89,16 @@ fn join_act(mode: Mode, s: &[u8], at: usize) -> Step
     }
 }
 
+// Behind a CR, how many bytes a line end has with a line feed at a place.
+fn feed_next(s: &[u8], at: usize) -> usize
+    ensures { λ r. ⌜ r ≡ feedNext (drop at (now (s .entry))) ⌝ }
+{
+    if s.len() <= at {
+        return 0;
+    }
+    if s[at] == 10 { 2 } else { 0 }
+}
+
 // How many bytes of a line end stand at a place: LF, or CR LF.
 fn line_end(s: &[u8], at: usize) -> usize
     ensures { λ r. ⌜ r ≡ lineEnd (drop at (now (s .entry))) ⌝ }
@@ -96,18 +106,11 @@ fn line_end(s: &[u8], at: usize) -> usize
     if s.len() <= at {
         return 0;
     }
-    let b = s[at];
-    if b == 10 {
-        return 1;
+    match s[at] {
+        10 => 1,
+        13 => feed_next(s, at + 1),
+        _ => 0,
     }
-    if b == 13 {
-        if at + 1 < s.len() {
-            if s[at + 1] == 10 {
-                return 2;
-            }
-        }
-    }
-    0
 }
 
 fn plain_word(s: &[u8], at: usize) -> Step
