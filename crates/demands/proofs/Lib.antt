@@ -15,4 +15,7 @@ pub mod Plain
 pub mod SourcelessLaws
 pub mod Demand2
 pub mod WholeDirectives
+pub mod TokenTexts
+pub mod UnderlineLaws
+pub mod Underline
 pub mod NoSix

@@ -11,4 +11,5 @@ pub mod Plain
 pub mod Sourceless
 pub mod Demand2
 pub mod WholeDirectives
+pub mod Underline
 pub mod NoSix
