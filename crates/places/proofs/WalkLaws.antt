@@ -10,17 +10,18 @@ use lib.Seq.{take-all, getD-take, getD-drop, length-take-le}
 use lib.Dec.{eqb, ltb, leb}
 use borrow.Author.Tests.{ne-eqb, eqb-false, lt-ltb, le-ltb, leb-true, leb-false, ltb-true, ltb-false}
 use Rattle.ascii.specs.Choice.{pick}
+use Rattle.ascii.specs.Classes.{white}
 use Rattle.ascii.specs.Trim.{leading}
 use Rattle.ascii.specs.Splits.{firstOf as sought}
 use Rattle.ascii.proofs.ListLaws.{next-byte}
 use Rattle.ascii.proofs.SplitLaws.{first-fits}
 use Rattle.lent.specs.Sources.{part}
 use Rattle.places.specs.Cells.{Cell, cell, firstOf, pastOf}
-use Rattle.places.specs.Scans.{Mode, plain, Act, pass, keep, turn, scanBy, scan}
+use Rattle.places.specs.Scans.{Mode, plain, margin, Act, pass, keep, turn, scanBy, scan}
 use Rattle.places.specs.Tables.{Rule, Joined, Word, Quoted, joining, wording, quotingBy, act}
 use Rattle.places.specs.Sites.{cellsOf, behind, siteIn}
 use Rattle.places.specs.Moves.{Site}
-use Rattle.places.specs.Steps.{Step, Pass, Keep, Turn, Stand, stepOf, begun, Stands, Paid, Plain, Onward, Moved, Reached, Sites, wanted}
+use Rattle.places.specs.Steps.{Step, Pass, Keep, Turn, Stand, Found, stepOf, begun, Stands, Paid, Plain, Spaces, Blank, Onward, CameFrom, Moved, Reached, Sites, wanted}
 
 -- ---- a list of cells at a place
 
@@ -48,6 +49,10 @@ nextBy (Turn m) w = record { count = w .count + 1; place = w .place + 1; mode = 
 -- and of a run of plain bytes
 abbrev pub jumpBy : ℕ → Stand → Stand
 jumpBy n w = record { count = w .count + n; place = w .place + n; mode = plain; first = w .place + n - 1; last = w .place + n }
+
+-- and of a run of spaces that give nothing
+abbrev pub skipBy : ℕ → Stand → Stand
+skipBy n w = record { count = w .count; place = w .place + n; mode = margin; first = w .first; last = w .last }
 
 -- in the plain mode any byte but a backslash stands for itself, by every rule
 pub plain-keeps : (rule : Rule) (b : ℕ) (r : List ℕ) → (b ≡ 92 → ⊥) → act rule plain b r ≡ keep b plain
@@ -77,13 +82,16 @@ module _ (rule : Rule) (s : List ℕ) (k : ℕ) where
         sym (x .rest) ∙ ap (scan (act rule) (w .mode) (w .place)) (next-byte s (w .place) h)
         ∙ ap (λ (a : Act). scanBy a (w .place) (λ m. scan (act rule) m (suc (w .place)) rest)) e
 
-    passed : (m : Mode) → act rule (w .mode) byte rest ≡ pass m → Stands rule s k (nextBy (Pass m) w)
-    passed m e = record {
-      inside = x .inside;
-      rest = sym (opened (pass m) e ∙ rw (add-one (w .place)));
-      ends = x .ends;
-      starts = x .starts;
-    }
+    passed : (m : Mode) (w′ : Stand) → act rule (w .mode) byte rest ≡ pass m
+        → w′ .count ≡ w .count → w′ .place ≡ suc (w .place) → w′ .mode ≡ m → w′ .first ≡ w .first → w′ .last ≡ w .last → Stands rule s k w′
+    passed m w′ e n p o f l =
+        let q : rest ≡ drop (suc (w .place)) s = rw (add-one (w .place)) in
+        record {
+          inside = omega (arith, x .inside, n);
+          rest = rw (n, p, o) (ap (scan (act rule) m (suc (w .place))) (sym q) ∙ sym (opened (pass m) e));
+          ends = l ∙ x .ends ∙ ap (behind k cells) (sym n);
+          starts = λ d z. rw (n, f) (x .starts d (omega (arith, z, n)));
+        }
 
     -- a byte that gives the cell c
     gave : (c : Cell) (m : Mode) (w′ : Stand) → drop (w .count) cells ≡ c ∷ scan (act rule) m (suc (w .place)) rest
@@ -113,7 +121,7 @@ module _ (rule : Rule) (s : List ℕ) (k : ℕ) where
     next-stands = go (act rule (w .mode) byte rest) refl
       where
         go : (a : Act) → act rule (w .mode) byte rest ≡ a → Stands rule s k (nextBy (stepOf a) w)
-        go (pass m) e = passed m e
+        go (pass m) e = passed m (nextBy (Pass m) w) e refl (omega arith) refl refl refl
         go (keep y m) e = kept y m (nextBy (Keep m) w) e (omega arith) (omega arith) refl refl (omega arith)
         go (turn y m) e = turned y m (nextBy (Turn m) w) e (omega arith) (omega arith) refl refl (omega arith)
 
@@ -129,6 +137,16 @@ module _ (rule : Rule) (s : List ℕ) (k : ℕ) where
       let y : Stands rule s k v = jump-stands w x o n (omega arith) (λ i j. z i (omega arith)) in
       kept v y (omega arith) (getD s (w .place + suc n) 0) plain (jumpBy (suc (suc n)) w) (plain-keeps rule _ _ (z (suc n) (omega arith)))
       (omega arith) (omega arith) refl (omega arith) (omega arith)
+
+  skip-stands : (w : Stand) → Stands rule s k w → w .mode ≡ margin → (n : ℕ) → w .place + n ≤ length s
+      → ((i : ℕ) → i < n → (t : List ℕ) → act rule margin (getD s (w .place + i) 0) t ≡ pass margin) → Stands rule s k (skipBy n w)
+  skip-stands w x o zero h z =
+      let e : w .place + 0 ≡ w .place = omega arith in
+      record { inside = x .inside; rest = rw e (rw (sym o) (x .rest)); ends = x .ends; starts = x .starts }
+  skip-stands w x o (suc n) h z =
+      let v = skipBy n w in
+      let y : Stands rule s k v = skip-stands w x o n (omega arith) (λ i j. z i (omega arith)) in
+      passed v y (omega arith) margin (skipBy (suc n) w) (z n (omega arith) _) refl (omega arith) refl refl refl
 
   -- ---- a part
 
@@ -151,19 +169,19 @@ module _ (rule : Rule) (s : List ℕ) (k : ℕ) where
             let p : take past cells ≡ take (w .count) cells = take-all past cells (omega arith) ∙ sym (take-all (w .count) cells l) in
             ap (pastOf k) p ∙ sym (x .ends)
 
-  module _ (first past : ℕ) (a z : Stand) (x : Stands rule s k a) (y : Stands rule s k z) (few : z .count ≤ past) (ended : z .count < past → length s ≤ z .place) where
-    pub site-full : first < past → a .count ≡ first + 1 → Site s k rule first past (part (a .first) (z .last))
+  module _ (first past : ℕ) (z : Stand) (y : Stands rule s k z) (few : z .count ≤ past) (ended : z .count < past → length s ≤ z .place) where
+    pub site-full : (f : ℕ) → first < past → CameFrom rule s k (first + 1) f → Site s k rule first past (part f (z .last))
     unfolding siteIn
-    site-full h e =
-        let g : a .count - 1 ≡ first = omega arith in
+    site-full f h g =
+        let i : first + 1 - 1 ≡ first = omega arith in
         let b = behind-is z y past few ended in
-        let f : firstOf (behind k cells past) (drop first cells) ≡ a .first = ap (λ (n : ℕ). firstOf (behind k cells past) (drop n cells)) (sym g) ∙ x .starts (behind k cells past) (omega arith) in
-        sym (rw (lt-ltb first past h, f, b))
+        let e : firstOf (behind k cells past) (drop first cells) ≡ f = ap (λ (n : ℕ). firstOf (behind k cells past) (drop n cells)) (sym i) ∙ g (behind k cells past) in
+        sym (rw (lt-ltb first past h, e, b))
 
-    pub site-none : first < past → a .count ≤ first → (a .count < first + 1 → length s ≤ a .place) → Site s k rule first past (part (z .last) (z .last))
+    pub site-none : first < past → z .count ≤ first → Site s k rule first past (part (z .last) (z .last))
     unfolding siteIn firstOf
-    site-none h e f =
-        let l = exhausted a x (f (omega arith)) in
+    site-none h e =
+        let l = exhausted z y (ended (omega arith)) in
         let b = behind-is z y past few ended in
         sym (rw (lt-ltb first past h, drop-of-length-le cells {i = first} (omega arith), b))
 
@@ -183,16 +201,72 @@ module _ (rule : Rule) (s : List ℕ) (w : Stand) (h : w .place < length s) (p :
       go (Turn m) g = record { stands = g; paid = omega arith; onward = omega arith; few = omega arith }
 
   pub moved-one : {n : ℕ} {r : Stand} → w .count < n → Onward rule s w r → Moved rule s w n r
-  moved-one l x = record { stands = x .stands; paid = x .paid; onward = x .onward; few = omega (arith, x .few, l) }
+  moved-one {r = r} l x = record {
+    stands = x .stands;
+    paid = x .paid;
+    onward = x .onward;
+    few = omega (arith, x .few, l);
+    low = omega (arith, x .few);
+    each = λ k y j a b d.
+        let e : j ≡ r .count = omega (arith, a, b, x .few) in
+        let f : r .first - (r .count - j) ≡ r .first = omega arith in
+        rw e (x .stands k y .starts d (omega arith)) ∙ sym f;
+  }
+
+  -- of a run each byte came from its own place
+  run-each : (k : ℕ) → Stands rule s k w → w .mode ≡ plain → (i m : ℕ) → i ≤ m → w .place + suc m ≤ length s
+      → ((i : ℕ) → i < suc m → getD s (w .place + i) 0 ≡ 92 → ⊥) → CameFrom rule s k (w .count + suc i) (w .place + suc m - 1 - (w .count + suc m - (w .count + suc i)))
+  run-each k y o i m l h z d =
+      let e : w .place + suc i - 1 ≡ w .place + suc m - 1 - (w .count + suc m - (w .count + suc i)) = omega arith in
+      jump-stands rule s k w y o i (omega arith) (λ t u. z t (omega arith)) .starts d (omega arith) ∙ e
 
   pub moved-run : (n run : ℕ) → w .count < n → w .mode ≡ plain → Plain s (w .place) (n - w .count) run → 0 < run → Moved rule s w n (jumpBy run w)
   moved-run n zero l o x z = absurd (omega arith)
-  moved-run n (suc j) l o x z = record {
-    stands = λ k y. jump-stands rule s k w y o j (x .inside) (x .none);
+  moved-run n (suc m) l o x z = record {
+    stands = λ k y. jump-stands rule s k w y o m (x .inside) (x .none);
     paid = omega arith;
     onward = omega arith;
     few = omega (arith, x .few, l);
+    low = omega arith;
+    each = λ k y j a b.
+        let i = j - w .count - 1 in
+        let e : w .count + suc i ≡ j = omega (arith, a) in
+        subst (λ (j : ℕ). CameFrom rule s k j (w .place + suc m - 1 - (w .count + suc m - j))) e (run-each k y o i m (omega (arith, b, e)) (x .inside) (x .none));
   }
+
+  pub moved-blank : (n run : ℕ) → w .count < n → w .mode ≡ margin → Blank rule s (w .place) run → 0 < run → Moved rule s w n (skipBy run w)
+  moved-blank n run l o x z = record {
+    stands = λ k y. skip-stands rule s k w y o run (x .inside) (x .nothing);
+    paid = omega arith;
+    onward = omega arith;
+    few = omega (arith, l);
+    low = omega arith;
+    each = λ k y j a b d. absurd (omega (arith, a, b));
+  }
+
+-- ---- spaces
+
+pub no-space : {s : List ℕ} {place : ℕ} → place ≤ length s → Spaces s place (place - place)
+no-space h = record { inside = omega arith; all = λ i l. absurd (omega arith) }
+
+pub one-space : {s : List ℕ} {place i : ℕ} → place ≤ i → i < length s → getD s i 0 ≡ 32 → Spaces s place (i - place) → Spaces s place (i + 1 - place)
+one-space {s} {place} {i} h l e x = record { inside = omega arith; all = λ j k. go j k (ltb j (i - place)) refl }
+  where
+    go : (j : ℕ) → j < i + 1 - place → (t : Bool) → ltb j (i - place) ≡ t → getD s (place + j) 0 ≡ 32
+    go j k true f = x .all j (ltb-true j (i - place) f)
+    go j k false f = let g = ltb-false j (i - place) f in let q : place + j ≡ i = omega (arith, g, k, h) in rw q e
+
+pub no-blank : {rule : Rule} {s : List ℕ} {place : ℕ} → place ≤ length s → Blank rule s place 0
+no-blank h = record { inside = omega arith; nothing = λ i l t. absurd (omega arith) }
+
+-- by the two rules that have margins a space there gives nothing
+pub joined-blank : {s : List ℕ} {place r : ℕ} → Spaces s place r → Blank Joined s place r
+unfolding joining white
+joined-blank x = record { inside = x .inside; nothing = λ i j t. rw (x .all i j) refl }
+
+pub quoted-blank : {s : List ℕ} {place r : ℕ} → Spaces s place r → Blank Quoted s place r
+unfolding quotingBy
+quoted-blank x = record { inside = x .inside; nothing = λ i j t. rw (x .all i j) refl }
 
 -- the bytes before the first one sought are others
 before-first : (m : ℕ) (l : List ℕ) (i : ℕ) → i < sought m l → getD l i 0 ≡ m → ⊥
@@ -216,17 +290,38 @@ run-plain s place most n r h k e =
     }
 
 -- what a walk to n bytes keeps
-pub record Reaching (rule : Rule) (s : List ℕ) (w : Stand) (n : ℕ) (r : Stand) : Type 0 where
+pub record Reaching (rule : Rule) (s : List ℕ) (w : Stand) (stop n noted : ℕ) (r : Stand) : Type 0 where
   pub stands : (k : ℕ) → Stands rule s k w → Stands rule s k r
   pub paid : Paid r
   pub few : r .count ≤ n
+  pub note : (k : ℕ) → Stands rule s k w → 0 < stop → stop ≤ r .count → CameFrom rule s k stop noted
 
-module _ {rule : Rule} {s : List ℕ} {w : Stand} {n : ℕ} where
-  pub reaching-on : {at r : Stand} → Reaching rule s w n at → Moved rule s at n r → Reaching rule s w n r
-  reaching-on x y = record { stands = λ k z. y .stands k (x .stands k z); paid = y .paid; few = y .few }
+module _ {rule : Rule} {s : List ℕ} {w : Stand} {stop n : ℕ} where
+  pub reaching-from : Paid w → w .count ≤ stop → w .count ≤ n → Reaching rule s w stop n (w .first) w
+  reaching-from p a b = record {
+    stands = λ k x. x;
+    paid = p;
+    few = b;
+    note = λ k x z l d. let e : stop ≡ w .count = omega (arith, a, l) in rw e (x .starts d (omega (arith, z, l, a)));
+  }
 
-  pub reached : {at : Stand} → Reaching rule s w n at → (at .count < n → length s ≤ at .place) → Reached rule s w n at
-  reached x e = record { stands = x .stands; paid = x .paid; few = x .few; ended = e }
+  pub reaching-on : {noted : ℕ} {at r : Stand} → Reaching rule s w stop n noted at → Moved rule s at n r
+      → Reaching rule s w stop n (pick (leb stop (at .count)) noted (pick (ltb (r .count) stop) noted (r .first - (r .count - stop)))) r
+  reaching-on {noted} {at} {r} x y = record {
+    stands = λ k z. y .stands k (x .stands k z);
+    paid = y .paid;
+    few = y .few;
+    note = λ k z o l. go (leb stop (at .count)) refl (ltb (r .count) stop) refl k z o l;
+  }
+    where
+      go : (t : Bool) → leb stop (at .count) ≡ t → (u : Bool) → ltb (r .count) stop ≡ u → (k : ℕ) → Stands rule s k w → 0 < stop → stop ≤ r .count
+          → CameFrom rule s k stop (pick t noted (pick u noted (r .first - (r .count - stop))))
+      go true e u f k z o l = x .note k z o (leb-true stop (at .count) e)
+      go false e true f k z o l = absurd (omega (arith, l, ltb-true (r .count) stop f))
+      go false e false f k z o l = y .each k (x .stands k z) stop (leb-false stop (at .count) e) l
+
+  pub reached : {noted : ℕ} {at : Stand} → Reaching rule s w stop n noted at → (at .count < n → length s ≤ at .place) → Reached rule s w stop n (record { stand = at; noted = noted })
+  reached x e = record { stands = x .stands; paid = x .paid; few = x .few; ended = e; note = x .note }
 
 -- the walk that a part is sought from
 pub resumed-stands : (rule : Rule) (s : List ℕ) (k : ℕ) (w : Stand) (n : ℕ) → Stands rule s k w → Paid w
@@ -244,35 +339,20 @@ wanted-fits first past = go (ltb first past) refl
     go true e = let l = ltb-true first past e in omega arith
     go false e = omega arith
 
--- a walk from `from` up to the part's first byte, and on to its last
-module _ {rule : Rule} {s : List ℕ} {k : ℕ} (first past : ℕ) {stop : ℕ} {from a z : Stand} (o : Stands rule s k from) (w : stop ≡ wanted first past)
-    (x : Reached rule s from stop a) (y : Reached rule s a past z) where
-  abbrev standsA : Stands rule s k a
-  standsA = x .stands k o
+-- a walk from `from` up to the part's last byte, with a note of its first
+module _ {rule : Rule} {s : List ℕ} {k : ℕ} (first past : ℕ) {stop : ℕ} {from : Stand} {r : Found} (o : Stands rule s k from) (w : stop ≡ wanted first past)
+    (x : Reached rule s from stop past r) where
+  abbrev stands : Stands rule s k (r .stand)
+  stands = x .stands k o
 
-  abbrev standsZ : Stands rule s k z
-  standsZ = y .stands k standsA
+  pub sites-full : first < past → first < r .stand .count → Sites s k rule first past (record { part = part (r .noted) (r .stand .last); stand = r .stand })
+  sites-full h e =
+      let f : stop ≡ first + 1 = w ∙ rw (lt-ltb first past h) in
+      let g : CameFrom rule s k (first + 1) (r .noted) = subst (λ (j : ℕ). CameFrom rule s k j (r .noted)) f (x .note k o (omega (arith, f)) (omega (arith, f, e))) in
+      record { site = site-full rule s k first past (r .stand) stands (x .few) (x .ended) (r .noted) h g; stands = stands; paid = x .paid }
 
-  first-wanted : first < past → stop ≡ first + 1
-  first-wanted h = w ∙ rw (lt-ltb first past h)
+  pub sites-none : first < past → r .stand .count ≤ first → Sites s k rule first past (record { part = part (r .stand .last) (r .stand .last); stand = r .stand })
+  sites-none h e = record { site = site-none rule s k first past (r .stand) stands (x .few) (x .ended) h e; stands = stands; paid = x .paid }
 
-  pub sites-full : first < past → first < a .count → Sites s k rule first past (record { part = part (a .first) (z .last); stand = z })
-  sites-full h e = record {
-    site = site-full rule s k first past a z standsA standsZ (y .few) (y .ended) h (omega (arith, first-wanted h, x .few, e));
-    stands = standsZ;
-    paid = y .paid;
-  }
-
-  pub sites-none : first < past → a .count ≤ first → Sites s k rule first past (record { part = part (z .last) (z .last); stand = z })
-  sites-none h e = record {
-    site = site-none rule s k first past a z standsA standsZ (y .few) (y .ended) h e (λ l. x .ended (omega (arith, first-wanted h, l)));
-    stands = standsZ;
-    paid = y .paid;
-  }
-
-  pub sites-empty : past ≤ first → Sites s k rule first past (record { part = part (z .last) (z .last); stand = z })
-  sites-empty h = record {
-    site = site-empty rule s k first past a z standsA standsZ (y .few) (y .ended) h;
-    stands = standsZ;
-    paid = y .paid;
-  }
+  pub sites-empty : past ≤ first → Sites s k rule first past (record { part = part (r .stand .last) (r .stand .last); stand = r .stand })
+  sites-empty h = record { site = site-empty rule s k first past (r .stand) stands (x .few) (x .ended) h; stands = stands; paid = x .paid }

@@ -6,13 +6,14 @@ use lib.ListN.{length, drop, getD}
 use lib.Dec.{ltb}
 use Rattle.ascii.specs.Choice.{pick}
 use Rattle.places.specs.Cells.{firstOf}
-use Rattle.places.specs.Scans.{Act, pass, keep, turn, plain, scan}
+use Rattle.places.specs.Scans.{Act, pass, keep, turn, plain, margin, scan}
 use Rattle.places.specs.Tables.{Rule, act}
 use Rattle.places.specs.Sites.{cellsOf, behind, siteWord}
 use Rattle.places.specs.Moves.{Site, lastChanged}
 pub use Rattle.places.specs.declared.acting.Step.{Step}
 pub use Rattle.places.specs.declared.acting.Step.the-variants.{Pass, Keep, Turn}
 pub use Rattle.places.specs.declared.walking.Stand.{Stand}
+pub use Rattle.places.specs.declared.walking.Found.{Found}
 pub use Rattle.places.specs.declared.walking.Sited.{Sited}
 pub use Rattle.places.specs.declared.moving.Moved.{Moved as MovedWord}
 
@@ -46,6 +47,16 @@ pub record Plain (s : List ℕ) (place most r : ℕ) : Type 0 where
   pub inside : place + r ≤ length s
   pub none : (i : ℕ) → i < r → getD s (place + i) 0 ≡ 92 → ⊥
 
+-- So many bytes from the place on are spaces.
+pub record Spaces (s : List ℕ) (place r : ℕ) : Type 0 where
+  pub inside : place + r ≤ length s
+  pub all : (i : ℕ) → i < r → getD s (place + i) 0 ≡ 32
+
+-- So many give nothing behind an escaped line end.
+pub record Blank (rule : Rule) (s : List ℕ) (place r : ℕ) : Type 0 where
+  pub inside : place + r ≤ length s
+  pub nothing : (i : ℕ) → i < r → (t : List ℕ) → act rule margin (getD s (place + i) 0) t ≡ pass margin
+
 -- The walk went on: it stands wherever it stood before.
 pub record Onward (rule : Rule) (s : List ℕ) (w r : Stand) : Type 0 where
   pub stands : (k : ℕ) → Stands rule s k w → Stands rule s k r
@@ -53,19 +64,26 @@ pub record Onward (rule : Rule) (s : List ℕ) (w r : Stand) : Type 0 where
   pub onward : w .place < r .place
   pub few : r .count ≤ w .count + 1
 
--- By at least one byte of the source, and not past n of the text.
+-- The byte that is passed with j of them came from f on.
+abbrev pub CameFrom : Rule → List ℕ → ℕ → ℕ → ℕ → Type 0
+CameFrom rule s k j f = (d : ℕ) → firstOf d (drop (j - 1) (cellsOf rule k (drop k s))) ≡ f
+
+-- By at least one byte of the source, and not past n of the text. Those passed stand one behind another.
 pub record Moved (rule : Rule) (s : List ℕ) (w : Stand) (n : ℕ) (r : Stand) : Type 0 where
   pub stands : (k : ℕ) → Stands rule s k w → Stands rule s k r
   pub paid : Paid r
   pub onward : w .place < r .place
   pub few : r .count ≤ n
+  pub low : r .count ≤ w .count + 1 + r .first
+  pub each : (k : ℕ) → Stands rule s k w → (j : ℕ) → w .count < j → j ≤ r .count → CameFrom rule s k j (r .first - (r .count - j))
 
--- Up to n bytes of the text, or the end of the source.
-pub record Reached (rule : Rule) (s : List ℕ) (w : Stand) (n : ℕ) (r : Stand) : Type 0 where
-  pub stands : (k : ℕ) → Stands rule s k w → Stands rule s k r
-  pub paid : Paid r
-  pub few : r .count ≤ n
-  pub ended : r .count < n → length s ≤ r .place
+-- Up to n bytes of the text, or the end of the source, with a note of the byte that was passed with `stop` of them.
+pub record Reached (rule : Rule) (s : List ℕ) (w : Stand) (stop n : ℕ) (r : Found) : Type 0 where
+  pub stands : (k : ℕ) → Stands rule s k w → Stands rule s k (r .stand)
+  pub paid : Paid (r .stand)
+  pub few : r .stand .count ≤ n
+  pub ended : r .stand .count < n → length s ≤ r .stand .place
+  pub note : (k : ℕ) → Stands rule s k w → 0 < stop → stop ≤ r .stand .count → CameFrom rule s k stop (r .noted)
 
 -- ---- a part
 

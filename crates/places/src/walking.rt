@@ -1,11 +1,11 @@
 // A walk along the bytes that a text was read from: where each byte of the text came from.
 ghost use mathlib.Core.Path.{_≡_};
-ghost use Prim.Native.Nat.{_-_, _≤_, _<_};
+ghost use Prim.Native.Nat.{_+_, _-_, _≤_, _<_};
 ghost use lib.ListN.{length};
-ghost use lib.Dec.{ltb};
+ghost use lib.Dec.{ltb, leb};
 ghost use Rattle.ascii.specs.Choice.{pick};
 ghost use Rattle.places.specs.Moves.{Site};
-ghost use Rattle.places.specs.Steps.{Stands, Paid, Plain, Onward, Moved, Reached, Sites, begun, wanted};
+ghost use Rattle.places.specs.Steps.{Stands, Paid, Plain, Spaces, Blank, Onward, Moved, Reached, Sites, begun, wanted};
 use crate::Rule;
 use crate::acting::Mode;
 use crate::acting::Step;
@@ -19,6 +19,12 @@ pub struct Stand {
     pub mode: Mode,
     pub first: usize,
     pub last: usize,
+}
+
+// Where a walk stands, and where the byte came from that it was to note on its way.
+pub struct Found {
+    pub stand: Stand,
+    pub noted: usize,
 }
 
 // A part's place in the input, and where the walk stands that found it.
@@ -61,6 +67,33 @@ fn plain_run(s: &[u8], place: usize, most: usize) -> usize
     ascii::first_of(&s[place..past], 92)
 }
 
+// How many spaces stand at a place.
+fn spaces(s: &[u8], place: usize) -> usize
+    requires { ⌜ place ≤ length (now s) ⌝ }
+    ensures { λ r. ⌜ Spaces (now (s .entry)) place r ⌝ }
+{
+    let mut i = place;
+    while i < s.len() {
+        if s[i] != 32 {
+            break;
+        }
+        i += 1;
+    }
+    i - place
+}
+
+// How many of them give nothing behind an escaped line end; a word has no such blanks.
+fn blank_run(s: &[u8], rule: Rule, place: usize) -> usize
+    requires { ⌜ place ≤ length (now s) ⌝ }
+    ensures { λ r. ⌜ Blank rule (now (s .entry)) place r ⌝ }
+{
+    match rule {
+        Rule::Joined => spaces(s, place),
+        Rule::Word => 0,
+        Rule::Quoted => spaces(s, place),
+    }
+}
+
 // One byte of the source more.
 fn stepped(s: &[u8], rule: Rule, w: Stand) -> Stand
     requires { ⌜ (w .place < length (now s)) × Paid w ⌝ }
@@ -94,7 +127,8 @@ fn stepped(s: &[u8], rule: Rule, w: Stand) -> Stand
     }
 }
 
-// At least one byte of the source more: all up to the next backslash at once, where they stand for themselves.
+// At least one byte of the source more: all up to the next backslash at once, where they stand for themselves, and all spaces where they
+// give nothing.
 fn moved(s: &[u8], rule: Rule, w: Stand, n: usize) -> Stand
     requires { ⌜ (w .place < length (now s)) × Paid w × (w .count < n) ⌝ }
     ensures { λ r. ⌜ Moved rule (now (s .entry)) w n r ⌝ }
@@ -114,22 +148,51 @@ fn moved(s: &[u8], rule: Rule, w: Stand, n: usize) -> Stand
             };
         }
     }
+    if let Mode::Margin = mode {
+        let run = blank_run(s, rule, place);
+        if 0 < run {
+            return Stand {
+                count: w.count,
+                place: place + run,
+                mode: Mode::Margin,
+                first: w.first,
+                last: w.last,
+            };
+        }
+    }
     stepped(s, rule, w)
 }
 
-// On until n bytes of the text are passed, or the source ends.
-pub fn pass_to(s: &[u8], rule: Rule, w: Stand, n: usize) -> Stand
-    requires { ⌜ Paid w × (w .count ≤ n) ⌝ }
-    ensures { λ r. ⌜ Reached rule (now (s .entry)) w n r ⌝ }
+// Where the byte came from that is passed with `stop` of them, once it is: bytes that are passed at once stand one behind another.
+fn noted_by(noted: usize, stop: usize, passed: usize, next: Stand) -> usize
+    requires { ⌜ next .count ≤ passed + 1 + next .first ⌝ }
+    ensures { λ r. ⌜ r ≡ pick (leb stop passed) noted (pick (ltb (next .count) stop) noted (next .first - (next .count - stop))) ⌝ }
 {
+    if stop <= passed {
+        return noted;
+    }
+    if next.count < stop {
+        return noted;
+    }
+    next.first - (next.count - stop)
+}
+
+// On until n bytes of the text are passed, or the source ends.
+fn pass_to(s: &[u8], rule: Rule, w: Stand, stop: usize, n: usize) -> Found
+    requires { ⌜ Paid w × (w .count ≤ stop) × (w .count ≤ n) ⌝ }
+    ensures { λ r. ⌜ Reached rule (now (s .entry)) w stop n r ⌝ }
+{
+    let mut noted = w.first;
     let mut at = w;
     while at.count < n {
         if s.len() <= at.place {
             break;
         }
-        at = moved(s, rule, at, n);
+        let next = moved(s, rule, at, n);
+        noted = noted_by(noted, stop, at.count, next);
+        at = next;
     }
-    at
+    Found { stand: at, noted }
 }
 
 // How many bytes are passed where the part's first one is, or, of an empty part, the one before it.
@@ -156,14 +219,14 @@ pub fn site_from(s: &[u8], k: usize, rule: Rule, w: Stand, first: usize, past: u
 {
     let stop = first_stop(first, past);
     let from = resumed(k, w, stop);
-    let at = pass_to(s, rule, from, stop);
-    let end = pass_to(s, rule, at, past);
+    let found = pass_to(s, rule, from, stop, past);
+    let end = found.stand;
     let last = end.last;
     if first < past {
-        if first < at.count {
+        if first < end.count {
             return Sited {
                 part: Part {
-                    first: at.first,
+                    first: found.noted,
                     past: last,
                 },
                 stand: end,

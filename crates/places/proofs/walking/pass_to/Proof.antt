@@ -2,27 +2,30 @@
 use Prim.Native.Nat.{_-_}
 use native.Mathlib.Omega.{arith}
 use lib.ListN.{length}
-use Rattle.places.proofs.WalkLaws.{Reaching, reaching-on, reached}
+use Rattle.places.proofs.WalkLaws.{Reaching, reaching-from, reaching-on, reached}
 use Rattle.places.proofs.walking.pass_to.Statement.{statement}
 use Rattle.places.proofs.walking.pass_to.Tie as tie
 
 abbrev Inv-loop : tie.InvT-loop
-Inv-loop s rule n at₀ at = Reaching rule s at₀ n at
+Inv-loop s rule stop n noted₀ at₀ noted at = Reaching rule s at₀ stop n noted at
 
 abbrev μ-loop : tie.MeasureT-loop
-μ-loop s rule n at₀ at = length s - at .place
+μ-loop s rule stop n noted₀ at₀ noted at = length s - at .place
 
 loop-holds : tie.Need-loop-holds Inv-loop μ-loop
-loop-holds c = let p = c .before .pre in record { stands = λ k x. x; paid = p .0; few = p .1 }
+loop-holds c = let p = c .before .pre in reaching-from (p .0) (p .1) (p .2)
 
 moved-requires : tie.Need-moved-requires Inv-loop μ-loop
 moved-requires c κs = let l = c .before .before .before .before .loop in (c .if2 .left, l .inv .paid, c .before .before .if1 .taken)
 
+noted-by-requires : tie.Need-noted-by-requires Inv-loop μ-loop
+noted-by-requires c κs = c .moved .ensures .low
+
 loop-less : tie.Need-loop-less Inv-loop μ-loop
-loop-less c = omega (arith, c .moved .ensures .onward, c .before .if2 .left)
+loop-less c = omega (arith, c .before .moved .ensures .onward, c .before .before .if2 .left)
 
 loop-again : tie.Need-loop-again Inv-loop μ-loop
-loop-again c = reaching-on (c .before .before .before .before .before .loop .inv) (c .moved .ensures)
+loop-again c = rw (c .noted-by .ensures) (reaching-on (c .before .before .before .before .before .before .loop .inv) (c .before .moved .ensures))
 
 returns : tie.Need-returns Inv-loop μ-loop
 returns c = reached (c .before .before .loop .inv) (λ l. absurd (omega (arith, l, c .if1 .left)))
@@ -38,6 +41,7 @@ pass-to-spec =
     μ-loop
     loop-holds
     moved-requires
+    noted-by-requires
     loop-less
     loop-again
     returns

@@ -1,4 +1,4 @@
--- Two walks, to the part's first byte and to its last.
+-- A walk to the part's last byte, with a note of its first.
 use mathlib.Core.Path.{sym, subst}
 use Prim.Native.Nat.{_≤_}
 use native.Mathlib.Omega.{arith}
@@ -18,19 +18,19 @@ from-stands c =
     (resumed-stands (a .args .rule) (now (a .args .s)) (a .args .k) (a .args .w) n (a .pre .0) (a .pre .1))
 
 pass-to-requires : tie.Need-pass-to-requires
-pass-to-requires c κs = let x = from-stands c in (x .1, x .2)
-
-pass-to-requires-2 : tie.Need-pass-to-requires-2
-pass-to-requires-2 c κs = let a = c .before .before .before .before .args in (c .pass-to .ensures .paid, omega (arith, c .pass-to .ensures .few, c .before .before .first-stop .ensures, wanted-fits (a .first) (a .past)))
+pass-to-requires c κs =
+    let a = c .before .before .before .args in
+    let x = from-stands c in
+    (x .1, x .2, omega (arith, x .2, c .before .first-stop .ensures, wanted-fits (a .first) (a .past)))
 
 returns : tie.Need-returns
-returns c = let a = c .before .before .before .before .before .before .before .before .args in sites-full (a .first) (a .past) (from-stands (c .before .before .before .before .before) .0) (c .before .before .before .before .before .before .first-stop .ensures) (c .before .before .before .before .pass-to .ensures) (c .before .before .before .pass-to2 .ensures) (c .before .before .if1 .taken) (c .if2 .taken)
+returns c = let a = c .before .before .before .before .before .before .before .before .args in sites-full (a .first) (a .past) (from-stands (c .before .before .before .before .before) .0) (c .before .before .before .before .before .before .first-stop .ensures) (c .before .before .before .before .pass-to .ensures) (c .before .before .if1 .taken) (c .if2 .taken)
 
 returns-2 : tie.Need-returns-2
-returns-2 c = let a = c .before .before .before .before .before .before .before .before .args in sites-none (a .first) (a .past) (from-stands (c .before .before .before .before .before) .0) (c .before .before .before .before .before .before .first-stop .ensures) (c .before .before .before .before .pass-to .ensures) (c .before .before .before .pass-to2 .ensures) (c .before .before .if1 .taken) (c .if2 .left)
+returns-2 c = let a = c .before .before .before .before .before .before .before .before .args in sites-none (a .first) (a .past) (from-stands (c .before .before .before .before .before) .0) (c .before .before .before .before .before .before .first-stop .ensures) (c .before .before .before .before .pass-to .ensures) (c .before .before .if1 .taken) (c .if2 .left)
 
 returns-3 : tie.Need-returns-3
-returns-3 c = let a = c .before .before .before .before .before .before .args in sites-empty (a .first) (a .past) (from-stands (c .before .before .before) .0) (c .before .before .before .before .first-stop .ensures) (c .before .before .pass-to .ensures) (c .before .pass-to2 .ensures) (c .if1 .left)
+returns-3 c = let a = c .before .before .before .before .before .before .args in sites-empty (a .first) (a .past) (from-stands (c .before .before .before) .0) (c .before .before .before .before .first-stop .ensures) (c .before .before .pass-to .ensures) (c .if1 .left)
 
 pub site-from-spec : {M : Type 1} → statement M
 site-from-spec =
@@ -39,7 +39,6 @@ site-from-spec =
     (λ c κs. search needs)
     (λ c κs. search needs)
     pass-to-requires
-    pass-to-requires-2
     returns
     returns-2
     returns-3)
