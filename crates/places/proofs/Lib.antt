@@ -1,5 +1,6 @@
 pub mod ActLaws
 pub mod WalkLaws
+pub mod RunLaws
 pub mod SiteLaws
 pub mod MoveLaws
 pub mod LastLaws

@@ -8,7 +8,7 @@ use native.Mathlib.Omega.{arith}
 use lib.ListN.{length, take, drop, getD, length-drop, drop-of-length-le}
 use lib.Seq.{take-all, getD-take, getD-drop, length-take-le}
 use lib.Dec.{eqb, ltb, leb}
-use borrow.Author.Tests.{ne-eqb, eqb-false, lt-ltb, le-ltb, leb-true, leb-false, ltb-true, ltb-false}
+use borrow.Author.Tests.{ne-eqb, eqb-true, eqb-false, lt-ltb, le-ltb, leb-true, leb-false, ltb-true, ltb-false}
 use Rattle.ascii.specs.Choice.{pick}
 use Rattle.ascii.specs.Classes.{white}
 use Rattle.ascii.specs.Trim.{leading}
@@ -21,7 +21,7 @@ use Rattle.places.specs.Scans.{Mode, plain, margin, Act, pass, keep, tur
 use Rattle.places.specs.Tables.{Rule, Joined, Word, Quoted, joining, wording, quotingBy, act}
 use Rattle.places.specs.Sites.{cellsOf, behind, siteIn}
 use Rattle.places.specs.Moves.{Site}
-use Rattle.places.specs.Steps.{Step, Pass, Keep, Turn, Stand, Found, stepOf, begun, Stands, Paid, Plain, Spaces, Blank, Onward, CameFrom, Moved, Reached, Sites, wanted}
+use Rattle.places.specs.Steps.{Step, Pass, Keep, Turn, Stand, Found, stepOf, begun, Stands, Paid, Plain, Onward, CameFrom, Moved, Reached, Sites, wanted, Begins, Blank, skipBy}
 
 -- ---- a list of cells at a place
 
@@ -50,16 +50,26 @@ nextBy (Turn m) w = record { count = w .count + 1; place = w .place + 1; mode = 
 abbrev pub jumpBy : ℕ → Stand → Stand
 jumpBy n w = record { count = w .count + n; place = w .place + n; mode = plain; first = w .place + n - 1; last = w .place + n }
 
--- and of a run of spaces that give nothing
-abbrev pub skipBy : ℕ → Stand → Stand
-skipBy n w = record { count = w .count; place = w .place + n; mode = margin; first = w .first; last = w .last }
-
 -- in the plain mode any byte but a backslash stands for itself, by every rule
-pub plain-keeps : (rule : Rule) (b : ℕ) (r : List ℕ) → (b ≡ 92 → ⊥) → act rule plain b r ≡ keep b plain
+pub plain-keeps : (rule : Rule) (b : ℕ) (t : List ℕ) → (b ≡ 92 → ⊥) → act rule plain b t ≡ keep b plain
 unfolding joining wording quotingBy
-plain-keeps Joined b r n = rw (ne-eqb b 92 n)
-plain-keeps Word b r n = rw (ne-eqb b 92 n)
-plain-keeps Quoted b r n = rw (ne-eqb b 92 n)
+plain-keeps Joined b t n = rw (ne-eqb b 92 n)
+plain-keeps Word b t n = rw (ne-eqb b 92 n)
+plain-keeps Quoted b t n = rw (ne-eqb b 92 n)
+
+-- and in a margin any that is no white byte either
+black : (b w : ℕ) → white b ≡ false → white w ≡ true → eqb b w ≡ false
+black b w e f = go (eqb b w) refl
+  where
+    go : (t : Bool) → eqb b w ≡ t → t ≡ false
+    go true g = sym (subst (λ (x : ℕ). white x ≡ true) (sym (eqb-true b w g)) f) ∙ e
+    go false g = refl
+
+pub margin-keeps : (rule : Rule) (b : ℕ) (t : List ℕ) → white b ≡ false → (b ≡ 92 → ⊥) → act rule margin b t ≡ keep b plain
+unfolding joining wording quotingBy white
+margin-keeps Joined b t w n = rw (black b 10 w refl, w, ne-eqb b 92 n)
+margin-keeps Word b t w n = rw (ne-eqb b 92 n)
+margin-keeps Quoted b t w n = rw (black b 32 w refl, black b 9 w refl, ne-eqb b 92 n)
 
 module _ (rule : Rule) (s : List ℕ) (k : ℕ) where
   abbrev cells : List Cell
@@ -82,7 +92,7 @@ module _ (rule : Rule) (s : List ℕ) (k : ℕ) where
         sym (x .rest) ∙ ap (scan (act rule) (w .mode) (w .place)) (next-byte s (w .place) h)
         ∙ ap (λ (a : Act). scanBy a (w .place) (λ m. scan (act rule) m (suc (w .place)) rest)) e
 
-    passed : (m : Mode) (w′ : Stand) → act rule (w .mode) byte rest ≡ pass m
+    pub passed : (m : Mode) (w′ : Stand) → act rule (w .mode) byte rest ≡ pass m
         → w′ .count ≡ w .count → w′ .place ≡ suc (w .place) → w′ .mode ≡ m → w′ .first ≡ w .first → w′ .last ≡ w .last → Stands rule s k w′
     passed m w′ e n p o f l =
         let q : rest ≡ drop (suc (w .place)) s = rw (add-one (w .place)) in
@@ -125,20 +135,21 @@ module _ (rule : Rule) (s : List ℕ) (k : ℕ) where
         go (keep y m) e = kept y m (nextBy (Keep m) w) e (omega arith) (omega arith) refl refl (omega arith)
         go (turn y m) e = turned y m (nextBy (Turn m) w) e (omega arith) (omega arith) refl refl (omega arith)
 
-  jump-stands : (w : Stand) → Stands rule s k w → w .mode ≡ plain → (n : ℕ) → w .place + suc n ≤ length s
+  -- a run of bytes that are no backslash, of which the first stands for itself
+  jump-stands : (w : Stand) → Stands rule s k w → Begins (w .mode) (getD s (w .place) 0) true → (n : ℕ) → w .place + suc n ≤ length s
       → ((i : ℕ) → i < suc n → getD s (w .place + i) 0 ≡ 92 → ⊥) → Stands rule s k (jumpBy (suc n) w)
-  jump-stands w x o zero h z =
+  jump-stands w x g zero h z =
       let e : w .place + 0 ≡ w .place = omega arith in
       let b : getD s (w .place) 0 ≡ 92 → ⊥ = subst (λ (i : ℕ). getD s i 0 ≡ 92 → ⊥) e (z 0 (omega arith)) in
-      kept w x (omega arith) (getD s (w .place) 0) plain (jumpBy 1 w) (rw o (plain-keeps rule _ _ b))
+      kept w x (omega arith) (getD s (w .place) 0) plain (jumpBy 1 w) (g refl rule _ b)
       (omega arith) (omega arith) refl (omega arith) (omega arith)
-  jump-stands w x o (suc n) h z =
+  jump-stands w x g (suc n) h z =
       let v = jumpBy (suc n) w in
-      let y : Stands rule s k v = jump-stands w x o n (omega arith) (λ i j. z i (omega arith)) in
+      let y : Stands rule s k v = jump-stands w x g n (omega arith) (λ i j. z i (omega arith)) in
       kept v y (omega arith) (getD s (w .place + suc n) 0) plain (jumpBy (suc (suc n)) w) (plain-keeps rule _ _ (z (suc n) (omega arith)))
       (omega arith) (omega arith) refl (omega arith) (omega arith)
 
-  skip-stands : (w : Stand) → Stands rule s k w → w .mode ≡ margin → (n : ℕ) → w .place + n ≤ length s
+  pub skip-stands : (w : Stand) → Stands rule s k w → w .mode ≡ margin → (n : ℕ) → w .place + n ≤ length s
       → ((i : ℕ) → i < n → (t : List ℕ) → act rule margin (getD s (w .place + i) 0) t ≡ pass margin) → Stands rule s k (skipBy n w)
   skip-stands w x o zero h z =
       let e : w .place + 0 ≡ w .place = omega arith in
@@ -214,16 +225,16 @@ module _ (rule : Rule) (s : List ℕ) (w : Stand) (h : w .place < length s) (p :
   }
 
   -- of a run each byte came from its own place
-  run-each : (k : ℕ) → Stands rule s k w → w .mode ≡ plain → (i m : ℕ) → i ≤ m → w .place + suc m ≤ length s
+  run-each : (k : ℕ) → Stands rule s k w → Begins (w .mode) (getD s (w .place) 0) true → (i m : ℕ) → i ≤ m → w .place + suc m ≤ length s
       → ((i : ℕ) → i < suc m → getD s (w .place + i) 0 ≡ 92 → ⊥) → CameFrom rule s k (w .count + suc i) (w .place + suc m - 1 - (w .count + suc m - (w .count + suc i)))
-  run-each k y o i m l h z d =
+  run-each k y g i m l h z d =
       let e : w .place + suc i - 1 ≡ w .place + suc m - 1 - (w .count + suc m - (w .count + suc i)) = omega arith in
-      jump-stands rule s k w y o i (omega arith) (λ t u. z t (omega arith)) .starts d (omega arith) ∙ e
+      jump-stands rule s k w y g i (omega arith) (λ t u. z t (omega arith)) .starts d (omega arith) ∙ e
 
-  pub moved-run : (n run : ℕ) → w .count < n → w .mode ≡ plain → Plain s (w .place) (n - w .count) run → 0 < run → Moved rule s w n (jumpBy run w)
-  moved-run n zero l o x z = absurd (omega arith)
-  moved-run n (suc m) l o x z = record {
-    stands = λ k y. jump-stands rule s k w y o m (x .inside) (x .none);
+  pub moved-run : (n run : ℕ) → w .count < n → Begins (w .mode) (getD s (w .place) 0) true → Plain s (w .place) (n - w .count) run → 0 < run → Moved rule s w n (jumpBy run w)
+  moved-run n zero l g x z = absurd (omega arith)
+  moved-run n (suc m) l g x z = record {
+    stands = λ k y. jump-stands rule s k w y g m (x .inside) (x .none);
     paid = omega arith;
     onward = omega arith;
     few = omega (arith, x .few, l);
@@ -231,42 +242,18 @@ module _ (rule : Rule) (s : List ℕ) (w : Stand) (h : w .place < length s) (p :
     each = λ k y j a b.
         let i = j - w .count - 1 in
         let e : w .count + suc i ≡ j = omega (arith, a) in
-        subst (λ (j : ℕ). CameFrom rule s k j (w .place + suc m - 1 - (w .count + suc m - j))) e (run-each k y o i m (omega (arith, b, e)) (x .inside) (x .none));
+        subst (λ (j : ℕ). CameFrom rule s k j (w .place + suc m - 1 - (w .count + suc m - j))) e (run-each k y g i m (omega (arith, b, e)) (x .inside) (x .none));
   }
 
-  pub moved-blank : (n run : ℕ) → w .count < n → w .mode ≡ margin → Blank rule s (w .place) run → 0 < run → Moved rule s w n (skipBy run w)
-  moved-blank n run l o x z = record {
-    stands = λ k y. skip-stands rule s k w y o run (x .inside) (x .nothing);
+  pub moved-blank : (n run : ℕ) → w .count < n → Blank rule s (w .mode) (w .place) run → 0 < run → Moved rule s w n (skipBy run w)
+  moved-blank n run l x z = record {
+    stands = λ k y. x .skips z k w refl refl y;
     paid = omega arith;
     onward = omega arith;
     few = omega (arith, l);
     low = omega arith;
     each = λ k y j a b d. absurd (omega (arith, a, b));
   }
-
--- ---- spaces
-
-pub no-space : {s : List ℕ} {place : ℕ} → place ≤ length s → Spaces s place (place - place)
-no-space h = record { inside = omega arith; all = λ i l. absurd (omega arith) }
-
-pub one-space : {s : List ℕ} {place i : ℕ} → place ≤ i → i < length s → getD s i 0 ≡ 32 → Spaces s place (i - place) → Spaces s place (i + 1 - place)
-one-space {s} {place} {i} h l e x = record { inside = omega arith; all = λ j k. go j k (ltb j (i - place)) refl }
-  where
-    go : (j : ℕ) → j < i + 1 - place → (t : Bool) → ltb j (i - place) ≡ t → getD s (place + j) 0 ≡ 32
-    go j k true f = x .all j (ltb-true j (i - place) f)
-    go j k false f = let g = ltb-false j (i - place) f in let q : place + j ≡ i = omega (arith, g, k, h) in rw q e
-
-pub no-blank : {rule : Rule} {s : List ℕ} {place : ℕ} → place ≤ length s → Blank rule s place 0
-no-blank h = record { inside = omega arith; nothing = λ i l t. absurd (omega arith) }
-
--- by the two rules that have margins a space there gives nothing
-pub joined-blank : {s : List ℕ} {place r : ℕ} → Spaces s place r → Blank Joined s place r
-unfolding joining white
-joined-blank x = record { inside = x .inside; nothing = λ i j t. rw (x .all i j) refl }
-
-pub quoted-blank : {s : List ℕ} {place r : ℕ} → Spaces s place r → Blank Quoted s place r
-unfolding quotingBy
-quoted-blank x = record { inside = x .inside; nothing = λ i j t. rw (x .all i j) refl }
 
 -- the bytes before the first one sought are others
 before-first : (m : ℕ) (l : List ℕ) (i : ℕ) → i < sought m l → getD l i 0 ≡ m → ⊥

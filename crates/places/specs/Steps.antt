@@ -1,13 +1,14 @@
 -- What the code does with a table: a step of it, and where a walk along the source stands.
 use mathlib.Core.Path.{_≡_}
 use Prim.Native.Nat.{ℕ, _+_, _-_, _≤_, _<_}
+use mathlib.Core.Bool.{Bool, true}
 use mathlib.Core.List.{List}
 use lib.ListN.{length, drop, getD}
 use lib.Dec.{ltb}
 use Rattle.ascii.specs.Choice.{pick}
 use Rattle.places.specs.Cells.{firstOf}
-use Rattle.places.specs.Scans.{Act, pass, keep, turn, plain, margin, scan}
-use Rattle.places.specs.Tables.{Rule, act}
+use Rattle.places.specs.Scans.{Mode, Act, pass, keep, turn, plain, margin, scan}
+use Rattle.places.specs.Tables.{Rule, Joined, Quoted, act}
 use Rattle.places.specs.Sites.{cellsOf, behind, siteWord}
 use Rattle.places.specs.Moves.{Site, lastChanged}
 pub use Rattle.places.specs.declared.acting.Step.{Step}
@@ -47,15 +48,38 @@ pub record Plain (s : List ℕ) (place most r : ℕ) : Type 0 where
   pub inside : place + r ≤ length s
   pub none : (i : ℕ) → i < r → getD s (place + i) 0 ≡ 92 → ⊥
 
+-- This byte, if it is no backslash, stands for itself in the mode, by every rule, and the mode behind it is the plain one.
+abbrev pub Begins : Mode → ℕ → Bool → Type 0
+Begins m b r = r ≡ true → (rule : Rule) (t : List ℕ) → (b ≡ 92 → ⊥) → act rule m b t ≡ keep b plain
+
 -- So many bytes from the place on are spaces.
 pub record Spaces (s : List ℕ) (place r : ℕ) : Type 0 where
   pub inside : place + r ≤ length s
   pub all : (i : ℕ) → i < r → getD s (place + i) 0 ≡ 32
 
--- So many give nothing behind an escaped line end.
-pub record Blank (rule : Rule) (s : List ℕ) (place r : ℕ) : Type 0 where
+-- They are a backslash, a line feed and spaces.
+pub record Feed (s : List ℕ) (place r : ℕ) : Type 0 where
+  pub more : ℕ
+  pub all : r ≡ 2 + more
+  pub slash : getD s place 0 ≡ 92
+  pub feed : getD s (place + 1) 0 ≡ 10
+  pub spaces : Spaces s (place + 2) more
+
+pub record Continued (s : List ℕ) (place r : ℕ) : Type 0 where
   pub inside : place + r ≤ length s
-  pub nothing : (i : ℕ) → i < r → (t : List ℕ) → act rule margin (getD s (place + i) 0) t ≡ pass margin
+  pub feed : 0 < r → Feed s place r
+
+-- They give nothing, and a walk that stood before them in this mode stands in the margin behind them.
+abbrev pub skipBy : ℕ → Stand → Stand
+skipBy n w = record { count = w .count; place = w .place + n; mode = margin; first = w .first; last = w .last }
+
+pub record Blank (rule : Rule) (s : List ℕ) (m : Mode) (place r : ℕ) : Type 0 where
+  pub inside : place + r ≤ length s
+  pub skips : 0 < r → (k : ℕ) (w : Stand) → w .mode ≡ m → w .place ≡ place → Stands rule s k w → Stands rule s k (skipBy r w)
+
+-- By both rules that have a margin.
+abbrev pub Blanks : List ℕ → Mode → ℕ → ℕ → Type 0
+Blanks s m place r = Blank Joined s m place r × Blank Quoted s m place r
 
 -- The walk went on: it stands wherever it stood before.
 pub record Onward (rule : Rule) (s : List ℕ) (w r : Stand) : Type 0 where

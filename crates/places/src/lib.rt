@@ -1,6 +1,7 @@
 // Where the bytes of a text that was read came from (document 02, M-104): a walk along the bytes that it was read from.
 mod acting;
 mod moving;
+mod running;
 mod walking;
 
 pub use moving::resite;

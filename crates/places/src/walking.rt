@@ -5,11 +5,14 @@ ghost use lib.ListN.{length};
 ghost use lib.Dec.{ltb, leb};
 ghost use Rattle.ascii.specs.Choice.{pick};
 ghost use Rattle.places.specs.Moves.{Site};
-ghost use Rattle.places.specs.Steps.{Stands, Paid, Plain, Spaces, Blank, Onward, Moved, Reached, Sites, begun, wanted};
+ghost use Rattle.places.specs.Steps.{Stands, Paid, Onward, Moved, Reached, Sites, begun, wanted};
 use crate::Rule;
 use crate::acting::Mode;
 use crate::acting::Step;
 use crate::acting::act_of;
+use crate::running::begins;
+use crate::running::blank_run;
+use crate::running::plain_run;
 use ascii::Part;
 
 // `count` bytes of the text are passed, its source is read up to `place`, and the byte passed last is from `first` up to `last`.
@@ -52,48 +55,6 @@ fn before(place: usize) -> usize
     if place == 0 { 0 } else { place - 1 }
 }
 
-fn least(a: usize, b: usize) -> usize
-    ensures { λ r. ⌜ (r ≤ a) × (r ≤ b) ⌝ }
-{
-    if a < b { a } else { b }
-}
-
-// How many bytes stand before the next backslash, of the next `most`.
-fn plain_run(s: &[u8], place: usize, most: usize) -> usize
-    requires { ⌜ place < length (now s) ⌝ }
-    ensures { λ r. ⌜ Plain (now (s .entry)) place most r ⌝ }
-{
-    let past = place + least(most, s.len() - place);
-    ascii::first_of(&s[place..past], 92)
-}
-
-// How many spaces stand at a place.
-fn spaces(s: &[u8], place: usize) -> usize
-    requires { ⌜ place ≤ length (now s) ⌝ }
-    ensures { λ r. ⌜ Spaces (now (s .entry)) place r ⌝ }
-{
-    let mut i = place;
-    while i < s.len() {
-        if s[i] != 32 {
-            break;
-        }
-        i += 1;
-    }
-    i - place
-}
-
-// How many of them give nothing behind an escaped line end; a word has no such blanks.
-fn blank_run(s: &[u8], rule: Rule, place: usize) -> usize
-    requires { ⌜ place ≤ length (now s) ⌝ }
-    ensures { λ r. ⌜ Blank rule (now (s .entry)) place r ⌝ }
-{
-    match rule {
-        Rule::Joined => spaces(s, place),
-        Rule::Word => 0,
-        Rule::Quoted => spaces(s, place),
-    }
-}
-
 // One byte of the source more.
 fn stepped(s: &[u8], rule: Rule, w: Stand) -> Stand
     requires { ⌜ (w .place < length (now s)) × Paid w ⌝ }
@@ -127,15 +88,24 @@ fn stepped(s: &[u8], rule: Rule, w: Stand) -> Stand
     }
 }
 
-// At least one byte of the source more: all up to the next backslash at once, where they stand for themselves, and all spaces where they
-// give nothing.
+// At least one byte of the source more: all that give nothing at once, and all up to the next backslash, where they stand for themselves.
 fn moved(s: &[u8], rule: Rule, w: Stand, n: usize) -> Stand
     requires { ⌜ (w .place < length (now s)) × Paid w × (w .count < n) ⌝ }
     ensures { λ r. ⌜ Moved rule (now (s .entry)) w n r ⌝ }
 {
     let place = w.place;
     let mode = w.mode;
-    if let Mode::Plain = mode {
+    let blank = blank_run(s, rule, mode, place);
+    if 0 < blank {
+        return Stand {
+            count: w.count,
+            place: place + blank,
+            mode: Mode::Margin,
+            first: w.first,
+            last: w.last,
+        };
+    }
+    if begins(mode, s[place]) {
         let run = plain_run(s, place, n - w.count);
         if 0 < run {
             let past = place + run;
@@ -145,18 +115,6 @@ fn moved(s: &[u8], rule: Rule, w: Stand, n: usize) -> Stand
                 mode: Mode::Plain,
                 first: past - 1,
                 last: past,
-            };
-        }
-    }
-    if let Mode::Margin = mode {
-        let run = blank_run(s, rule, place);
-        if 0 < run {
-            return Stand {
-                count: w.count,
-                place: place + run,
-                mode: Mode::Margin,
-                first: w.first,
-                last: w.last,
             };
         }
     }

@@ -7,8 +7,8 @@ use lib.ListN.{take, drop}
 use Rattle.ascii.specs.Splits.{firstOf}
 use Rattle.places.proofs.WalkLaws.{run-plain}
 use borrow.Author.Needs.{needs}
-use Rattle.places.proofs.walking.plain_run.Statement.{statement}
-use Rattle.places.proofs.walking.plain_run.Tie as tie
+use Rattle.places.proofs.running.plain_run.Statement.{statement}
+use Rattle.places.proofs.running.plain_run.Tie as tie
 
 returns : tie.Need-returns
 returns c =

@@ -4,9 +4,9 @@ use native.Mathlib.Omega.{arith}
 use borrow.Author.Needs.{needs}
 use lib.ListN.{length}
 use Rattle.places.specs.Steps.{Spaces}
-use Rattle.places.proofs.WalkLaws.{no-space, one-space}
-use Rattle.places.proofs.walking.spaces.Statement.{statement}
-use Rattle.places.proofs.walking.spaces.Tie as tie
+use Rattle.places.proofs.RunLaws.{no-space, one-space}
+use Rattle.places.proofs.running.spaces.Statement.{statement}
+use Rattle.places.proofs.running.spaces.Tie as tie
 
 abbrev Inv-loop : tie.InvT-loop
 Inv-loop s place i₀ i = (place ≤ i) × Spaces s place (i - place)
