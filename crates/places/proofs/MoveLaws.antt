@@ -1,6 +1,6 @@
 -- Last words changed, record by record: what the loop keeps, and how it ends.
 use mathlib.Core.Path.{_≡_, _∙_, refl, sym, ap}
-use mathlib.Core.List.{List}
+use mathlib.Core.List.{List, [], _∷_}
 use Prim.Native.Nat.{ℕ, zero, suc, _+_, _-_, _≤_, _<_}
 use native.Mathlib.Numerals.{add-one}
 use native.Mathlib.Nat.{sub-zero}
@@ -102,6 +102,11 @@ module _ {s : List ℕ} {k : ℕ} {rule : Rule} {word : ℕ} where
 
   pub word-done : {r : ℕ} → length s ≤ limit → k ≤ length s → r ≡ siteWord rule k (drop k s) word → SiteWord s k rule word r
   word-done h l e = record { is = rw (le-leb (length s) limit h, le-leb k (length s) l) e }
+
+-- a word by itself is a record of one word
+pub only-word : (f : ℕ → ℕ) (word : ℕ) {words : List ℕ} → words ≡ lastChanged f 1 1 0 (word ∷ []) → getD words 0 0 ≡ f word
+unfolding lastChanged
+only-word f word e = ap (λ (l : List ℕ). getD l 0 0) e
 
 -- of records
 module _ {s : List ℕ} {k : ℕ} {rule : Rule} {count width at : ℕ} {records : List ℕ} where

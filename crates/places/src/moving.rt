@@ -30,19 +30,6 @@ fn word_site(s: &[u8], k: usize, rule: Rule, w: Stand, word: u64) -> Moved
     }
 }
 
-// One span of the text that was read by a rule from the place k on, put where it came from.
-pub fn site_word(s: &[u8], k: usize, rule: Rule, word: u64) -> u64
-    ensures { λ r. ⌜ SiteWord (now (s .entry)) k rule word r ⌝ }
-{
-    if lent::LIMIT < s.len() {
-        return word;
-    }
-    if s.len() < k {
-        return word;
-    }
-    word_site(s, k, rule, start(k), word).word
-}
-
 // The last words of `count` records from a place on, up to the first record that is not there whole.
 fn words_sited(
     s: &[u8],
@@ -73,6 +60,21 @@ fn words_sited(
         i += width;
         n += 1;
     }
+}
+
+// One span of the text that was read by a rule from the place k on, put where it came from: a record of one word.
+pub fn site_word(s: &[u8], k: usize, rule: Rule, word: u64) -> u64
+    ensures { λ r. ⌜ SiteWord (now (s .entry)) k rule word r ⌝ }
+{
+    if lent::LIMIT < s.len() {
+        return word;
+    }
+    if s.len() < k {
+        return word;
+    }
+    let mut only = [word];
+    words_sited(s, k, rule, &mut only, 0, 1, 1);
+    only[0]
 }
 
 // The last word of each record there, a span of the text that was read by a rule from the place k on, put where it came from.
