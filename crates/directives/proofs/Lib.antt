@@ -25,6 +25,7 @@ pub mod ListLaws
 pub mod ArgumentLaws
 pub mod SettleLaws
 pub mod SiteLaws
+pub mod WhyLaws
 pub mod SettledLaws
 pub mod BodyLaws
 pub mod ShapeLaws

@@ -24,7 +24,8 @@ use Rattle.lexer.specs.Steps.{part}
 use Rattle.lexer.specs.Calls.{Reached as Arrived}
 use Rattle.operators.proofs.PlaceLaws.{drop-take}
 use Rattle.directives.specs.Directives.{isMark, between, siteAt}
-use Rattle.directives.specs.Steps.{Laid, endsAt, argumentsAs, takenFrom, Took, Stands, Stand, tokenWord, textNumber, listAmong, listIn, listText, Heard, Listing, listThere, listWord, spanMoved, heldList}
+use Rattle.directives.specs.Steps.{Laid, endsAt, argumentsAs, takenFrom, Took, heldList}
+use Rattle.directives.specs.Settling.{Stands, Stand, tokenWord, textNumber, listAmong, listIn, listText, Heard, Listing, listThere, listWord, spanMoved}
 use Rattle.directives.specs.declared.ArgumentFault.{ArgumentFault}
 use Rattle.directives.specs.declared.ArgumentFault.the-variants.{UnknownVariable, UnknownOperator, UnknownAction, BadArgument}
 use Rattle.directives.specs.declared.arguments.Arguments.{Arguments}

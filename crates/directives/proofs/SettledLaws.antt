@@ -2,7 +2,7 @@
 use mathlib.Core.Path.{_≡_, refl, sym, ap, ap₂, _∙_, subst}
 use mathlib.Core.Bool.{Bool, true, false}
 use mathlib.Core.List.{List, [], _∷_, map}
-use Prim.Native.Nat.{ℕ, _+_, _-_, _*_, _≤_, _<_}
+use Prim.Native.Nat.{ℕ, _+_, _*_, _≤_}
 use native.Mathlib.Omega.{arith}
 use lib.ListN.{length, getD}
 use lib.Dec.{ltb}
@@ -10,9 +10,7 @@ use Rattle.ascii.specs.Choice.{pick}
 use Rattle.lent.specs.Sizes.{limit, variableWords, actionWords}
 use Rattle.lent.specs.Buffers.{zeros, padded, storedEach}
 use Rattle.lent.specs.Sources.{Part, partWord, Sourced, sitedAll}
-use Rattle.lent.specs.Table.{Given, given, flawNumber, Refusal, tooLong, notAscii, shortBuffer, noRoom, named, noAction, noArgument, noVariable, unknownOperator, badCursor, resited, refused, Outcome, refuses, reads}
-use Rattle.lent.specs.declared.refusing.Flaw.{Flaw}
-use Rattle.lent.specs.declared.refusing.Flaw.the-variants as Flaw
+use Rattle.lent.specs.Table.{Given, given, Refusal, tooLong, notAscii, shortBuffer, noRoom, named, noAction, noArgument, noVariable, unknownOperator, badCursor, resited, refused, Outcome, refuses, reads}
 use Rattle.places.specs.Moves.{lastChanged}
 use Rattle.places.proofs.LastLaws.{Narrow, AllNarrow}
 use Rattle.lexer.specs.declared.Cursor.{Cursor}
@@ -35,14 +33,13 @@ use Rattle.actions.specs.Pieces.{pieces}
 use Rattle.actions.proofs.CountLaws.{Counted, from-counted}
 use Rattle.actions.proofs.SourceLaws.{Inside, EachInside, AllInside, listed-inside}
 use Rattle.directives.specs.Directives.{Listed, Body, rule, act, marker, defaults, unknown, Fault, wrongCount, untaken, stopped, within, Result, bad, good, variablesRead, listedBy, operatorRead, actionsRead, Shape, ofRule, ofAction, ofMarker, ofDefaults, ofOther, ruleBy, actBy, told, bodyBy, argumentSite, listSite, listNumber, sitedBody, refusalSite, sitedFault}
-use Rattle.directives.specs.Layout.{Reached, nameEnd, argumentEnd, bodyText}
-use Rattle.directives.specs.Table.{faultGiven, faultName}
-use Rattle.directives.specs.Promises.{lineNumber, argumentNumber, faultTold, naming}
-use Rattle.directives.specs.Steps.{Laid, takenFrom, argumentsAs, placeOf, textNumber, listAmong, listIn, listText, listThere, shrunkBy, tokenWord, listWord, tokenMoved, listMoved, spanMoved, faultMoved, Settled, reachedBy, shrunkFor, entryOf, listedEach, actedEach, Faulted, Wrote}
+use Rattle.directives.specs.Layout.{Reached, nameEnd, argumentEnd}
+use Rattle.directives.specs.Table.{faultGiven}
+use Rattle.directives.specs.Promises.{argumentNumber, faultTold, naming}
+use Rattle.directives.specs.Steps.{Laid, takenFrom, argumentsAs, shrunkBy, reachedBy, shrunkFor, entryOf, listedEach, actedEach, Faulted, Wrote}
+use Rattle.directives.specs.Settling.{textNumber, listAmong, listIn, listText, listThere, tokenWord, listWord, tokenMoved, listMoved, spanMoved, faultMoved, Settled}
 use Rattle.directives.specs.declared.ArgumentFault.{ArgumentFault}
 use Rattle.directives.specs.declared.ArgumentFault.the-variants.{UnknownVariable, UnknownOperator, UnknownAction, BadArgument}
-use Rattle.directives.specs.declared.LineFault.{LineFault}
-use Rattle.directives.specs.declared.LineFault.the-variants.{WrongCount, Untaken, Stopped}
 use Rattle.directives.specs.declared.Fault.{Fault as Told}
 use Rattle.directives.specs.declared.Fault.the-variants as Told
 use Rattle.directives.specs.declared.arguments.Arguments.{Arguments}
@@ -50,8 +47,9 @@ use Rattle.directives.specs.declared.parts.Tally.{Tally}
 use Rattle.directives.specs.declared.parts.Entry.{Entry}
 use Rattle.directives.specs.declared.parts.Judged.{Judged}
 use Rattle.directives.specs.declared.parts.Judged.the-variants as Judged
+use Rattle.directives.proofs.WhyLaws.{flaw-high, argument-low, line-high, refused-low, why-variable, why-operator, OfList, why-list}
 use Rattle.directives.proofs.SitedLaws.{SameBody, sited-same, resited-number, fault-name}
-use Rattle.directives.proofs.SiteLaws.{number-within, list-within, list-token, span-settled, list-span-settled, variables-settled, every-narrow, actions-settled}
+use Rattle.directives.proofs.SiteLaws.{list-within, list-token, span-settled, list-span-settled, variables-settled, every-narrow, actions-settled}
 
 -- ---- where sources stand before they are put into the input
 
@@ -185,68 +183,6 @@ number g = g .number
 
 four : {n m a b c d a′ b′ c′ d′ : ℕ} → n ≡ m → a ≡ a′ → b ≡ b′ → c ≡ c′ → d ≡ d′ → given n (a ∷ b ∷ c ∷ d ∷ []) ≡ given m (a′ ∷ b′ ∷ c′ ∷ d′ ∷ [])
 four e f g h i = rw (e, f, g, h, i)
-
-flaw-high : (flaw : Flaw) → 10 ≤ flawNumber flaw
-flaw-high Flaw.Absent = omega arith
-flaw-high Flaw.Unreadable = omega arith
-flaw-high Flaw.TooLarge = omega arith
-
-flaw-low : (flaw : Flaw) → flawNumber flaw ≤ 12
-flaw-low Flaw.Absent = omega arith
-flaw-low Flaw.Unreadable = omega arith
-flaw-low Flaw.TooLarge = omega arith
-
-argument-low : (why : ArgumentFault) → argumentNumber why ≤ 12
-argument-low UnknownVariable = omega arith
-argument-low UnknownOperator = omega arith
-argument-low UnknownAction = omega arith
-argument-low (BadArgument flaw) = flaw-low flaw
-
-line-high : (why : LineFault) → 13 ≤ lineNumber why
-line-high WrongCount = omega arith
-line-high Untaken = omega arith
-line-high Stopped = omega arith
-
-refused-low : (f : Refusal) → refused f .number ≤ 12
-refused-low tooLong = omega arith
-refused-low (notAscii p) = omega arith
-refused-low shortBuffer = omega arith
-refused-low (noRoom p) = omega arith
-refused-low (named noAction p n x) = omega arith
-refused-low (named (noArgument flaw) p n x) = flaw-low flaw
-refused-low (named noVariable p n x) = omega arith
-refused-low (unknownOperator p l x) = omega arith
-refused-low badCursor = omega arith
-
--- the number tells the fault
-why-variable : (why : ArgumentFault) → argumentNumber why ≡ 7 → why ≡ UnknownVariable
-why-variable UnknownVariable e = refl
-why-variable UnknownOperator e = absurd (omega arith)
-why-variable UnknownAction e = absurd (omega arith)
-why-variable (BadArgument Flaw.Absent) e = absurd (omega arith)
-why-variable (BadArgument Flaw.Unreadable) e = absurd (omega arith)
-why-variable (BadArgument Flaw.TooLarge) e = absurd (omega arith)
-
-why-operator : (why : ArgumentFault) → argumentNumber why ≡ 8 → why ≡ UnknownOperator
-why-operator UnknownVariable e = absurd (omega arith)
-why-operator UnknownOperator e = refl
-why-operator UnknownAction e = absurd (omega arith)
-why-operator (BadArgument Flaw.Absent) e = absurd (omega arith)
-why-operator (BadArgument Flaw.Unreadable) e = absurd (omega arith)
-why-operator (BadArgument Flaw.TooLarge) e = absurd (omega arith)
-
--- a fault of the list of actions
-abbrev OfList : ArgumentFault → Type 0
-OfList UnknownVariable = ⊥
-OfList UnknownOperator = ⊥
-OfList UnknownAction = Unit {0}
-OfList (BadArgument flaw) = Unit {0}
-
-why-list : (why : ArgumentFault) → (argumentNumber why ≡ 7 → ⊥) → (argumentNumber why ≡ 8 → ⊥) → OfList why
-why-list UnknownVariable h g = absurd (h refl)
-why-list UnknownOperator h g = absurd (g refl)
-why-list UnknownAction h g = tt
-why-list (BadArgument flaw) h g = tt
 
 module _ (s : List ℕ) (from : Cursor) (arrived : Arrived s from) (short : length s ≤ limit) (name : ℕ) (a : Arguments) (a-is : a ≡ argumentsAs name (from .place) (takenFrom s from)) where
   abbrev args : List Token

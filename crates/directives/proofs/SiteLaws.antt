@@ -43,7 +43,8 @@ use Rattle.actions.proofs.SourceLaws.{Inside, EachInside}
 use Rattle.actions.proofs.SitingLaws.{inside-narrow, each-narrow, record-wide, sited-still, still-all}
 use Rattle.directives.specs.Groups.{argumentBy, argumentsOf}
 use Rattle.directives.specs.Directives.{siteAt, argumentSite, listSite}
-use Rattle.directives.specs.Steps.{onward, placeOf, argumentsAs, takenFrom, Stands, Stand, tokenWord, tokenMoved, textNumber, listAmong, listIn, listText, listWord, listMoved, shrunkBy, listThere}
+use Rattle.directives.specs.Steps.{onward, placeOf, argumentsAs, takenFrom, shrunkBy}
+use Rattle.directives.specs.Settling.{Stands, Stand, tokenWord, tokenMoved, textNumber, listAmong, listIn, listText, listWord, listMoved, listThere}
 use Rattle.directives.specs.declared.arguments.Arguments.{Arguments}
 use Rattle.directives.specs.declared.settling.Listed.{Listed as ListPlace}
 

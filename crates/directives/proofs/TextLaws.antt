@@ -25,7 +25,8 @@ use Rattle.lexer.proofs.ReachLaws.{reached-start}
 use Rattle.directives.specs.Groups.{Item, items}
 use Rattle.directives.specs.Directives.{Body, Directive, untaken, stopped, Result, bad, good, Shape, shapeOf, bodyBy, sited, sitedBody, sitedFault, lastPast, placed as placedAt, directiveOf, itemRead, before, ending, endOf, directives}
 use Rattle.directives.specs.Layout.{Reached, reached, bodyText, directiveRecord, texts, listedCount, actionCount, listedCounts, actionCounts}
-use Rattle.directives.specs.Steps.{Laid, roleOf, onward, Token-is, None-is, argumentsAs, endsAt, takenFrom, Took, reachedBy, entryOf, listedEach, actedEach, Faulted, Wrote, Bodied, heldArguments, heldList, shrunkBy, listText, Heard, Stand, Settled, faultMoved, Ready, entryRecord, tallyOf, countedOn, directiveEach, eachFrom, Written, AllRead, FirstFault}
+use Rattle.directives.specs.Steps.{Laid, roleOf, onward, Token-is, None-is, argumentsAs, endsAt, takenFrom, Took, reachedBy, entryOf, listedEach, actedEach, Faulted, Wrote, Bodied, heldArguments, heldList, shrunkBy, Ready, entryRecord, tallyOf, countedOn, directiveEach, eachFrom, Written, AllRead, FirstFault}
+use Rattle.directives.specs.Settling.{listText, Heard, Stand, Settled, faultMoved}
 use Rattle.directives.specs.declared.Fault.{Fault as Told}
 use Rattle.directives.specs.declared.LineFault.the-variants.{Stopped, Untaken}
 use Rattle.directives.specs.declared.Fault.the-variants as Told

@@ -8,10 +8,7 @@ use lib.Dec.{ltb, leb, eqb}
 use Rattle.ascii.specs.Choice.{pick, and, or, bit}
 use Rattle.lent.specs.Sizes.{limit, variableWords, actionWords, directiveWords, spanWord, roomFor}
 use Rattle.lent.specs.Buffers.{zeros, padded, placed, storedEach}
-use Rattle.lent.specs.Sources.{Part, part as stretch, partWord, Sourced}
-use Rattle.places.specs.declared.Rule.the-variants as Rule
-use Rattle.places.specs.Sites.{wordPart, siteWord}
-use Rattle.places.specs.Moves.{lastChanged}
+use Rattle.lent.specs.Sources.{Part, part as stretch, Sourced}
 use Rattle.actions.specs.Normal.{normalised}
 use Rattle.lent.specs.Table.{Outcome, refuses, reads}
 use Rattle.lexer.specs.declared.Kind.{Kind}
@@ -30,13 +27,12 @@ use Rattle.records.specs.Actions.{Action}
 use Rattle.records.specs.Layout as Acts
 use Rattle.actions.specs.Cores.{reachedFrom, coreGiven, coreRecords}
 use Rattle.directives.specs.Groups.{argumentsOf, items}
-use Rattle.directives.specs.Directives.{Listed, Body, rule, act, marker, defaults, unknown, Directive, Fault, within, Result, bad, good, actionsRead, Shape, ofRule, ofAction, ofMarker, ofDefaults, ofOther, lastPast, standing, siteAt, directives}
+use Rattle.directives.specs.Directives.{Listed, Body, rule, act, marker, defaults, unknown, Directive, Fault, within, Result, bad, good, actionsRead, Shape, ofRule, ofAction, ofMarker, ofDefaults, ofOther, lastPast, standing, directives}
 use Rattle.directives.specs.Layout.{Reached, reached, pastBody, kindCode, nameSlot, listedIn, actionsIn, negatedWord, operatorWord, argumentSlot, nameEnd, listedEnd, argumentEnd, bodyText, directiveText, directiveRecord, listedCount, actionCount, texts, listedCounts, actionCounts}
 use Rattle.directives.specs.Table.{nameLeft, faultGiven, faultName}
 use Rattle.directives.specs.Promises.{faultTold, naming}
 use Rattle.directives.specs.declared.LineFault.{LineFault}
 use Rattle.directives.specs.declared.ArgumentFault.{ArgumentFault}
-use Rattle.directives.specs.declared.ArgumentFault.the-variants.{UnknownVariable, UnknownOperator, UnknownAction, BadArgument}
 use Rattle.directives.specs.declared.Fault.{Fault as Told}
 use Rattle.directives.specs.declared.Fault.the-variants as Told
 use Rattle.directives.specs.declared.Answer.{Answer}
@@ -49,7 +45,6 @@ use Rattle.directives.specs.declared.arguments.Arguments.{Arguments}
 use Rattle.directives.specs.declared.arguments.Taken.{Taken}
 use Rattle.directives.specs.declared.parts.Tally.{Tally}
 use Rattle.directives.specs.declared.parts.List.{List as ListAnswer}
-use Rattle.directives.specs.declared.settling.Listed.{Listed as ListPlace}
 use Rattle.directives.specs.declared.parts.Entry.{Entry}
 use Rattle.directives.specs.declared.parts.Judged.{Judged}
 use Rattle.directives.specs.declared.parts.Judged.the-variants as Judged
@@ -151,93 +146,9 @@ pub record Took (s : List ℕ) (from : Cursor) (past held : ℕ) (old new : List
   pub past-low : past ≤ r .arguments .past
   pub past-high : r .arguments .past ≤ r .next .place
 
--- ---- spans put into the input
-
--- A token that lies in the input.
-pub record Stands (s : List ℕ) (t : Part) : Type 0 where
-  pub short : length s ≤ limit
-  pub some : t .first < t .past
-  pub inside : t .past ≤ length s
-
--- Each of the first three arguments that is there.
-pub record Stand (s : List ℕ) (a : Arguments) : Type 0 where
-  pub first : 0 < a .count → Stands s (a .first)
-  pub second : 1 < a .count → Stands s (a .second)
-  pub third : 2 < a .count → Stands s (a .third)
-
--- A span of a token's text, as the span in the input.
-abbrev pub tokenWord : List ℕ → Part → ℕ → ℕ
-tokenWord s t w = partWord (siteAt s t (wordPart w))
-
--- The last words of records so changed, where the token is there.
-abbrev pub tokenMoved : List ℕ → Bool → Part → ℕ → ℕ → ℕ → List ℕ → List ℕ
-tokenMoved s there t width count at records = pick there (lastChanged (tokenWord s t) width count at records) records
-
--- The text of the argument with this number.
-unfoldable pub textNumber : ℕ → List Token → List ℕ
-textNumber n [] = []
-textNumber zero (t ∷ ts) = t .text
-textNumber (suc n) (t ∷ ts) = textNumber n ts
-
--- The list of actions: the only argument, or the third.
-abbrev pub listAmong : ℕ → ℕ
-listAmong count = pick (eqb count 1) 0 2
-
-abbrev pub listIn : Arguments → ℕ → ListPlace
-listIn a name =
-    pick (eqb (a .count) 1)
-    (record { token = a .first; first = name; past = a .one })
-    (record { token = a .third; first = a .two; past = a .three })
-
-abbrev pub listText : List ℕ → Cursor → List ℕ
-listText s from = textNumber (listAmong (length (takenFrom s from))) (takenFrom s from)
-
--- Enough to take the arguments again from a cursor on, behind a name in scratch.
-pub record Heard (s : List ℕ) (from : Cursor) (name : ℕ) (scratch : List ℕ) : Type 0 where
-  pub short : length s ≤ limit
-  pub arrived : Arrived s from
-  pub room : length s ≤ length scratch
-  pub low : name ≤ from .place
-
--- A list of actions among them.
-pub record Listing (s : List ℕ) (from : Cursor) (name : ℕ) (l : ListPlace) : Type 0 where
-  pub is : l ≡ listIn (argumentsAs name (from .place) (takenFrom s from)) name
-  pub token : Stands s (l .token)
-  pub there : listAmong (length (takenFrom s from)) < length (takenFrom s from)
-
--- A span of such a list's normalised text, as the span in the input; and the last words of records so changed: where nothing was
--- taken out, places in the list and in its normalised text are the same.
-abbrev pub listWord : List ℕ → Cursor → Part → ℕ → ℕ
-listWord s from t w = tokenWord s t (siteWord Rule.Joined 0 (listText s from) w)
-
-abbrev pub listMoved : List ℕ → Cursor → Part → ℕ → ℕ → ℕ → List ℕ → List ℕ
-listMoved s from t shrunk count at records =
-    lastChanged (tokenWord s t) actionWords count at
-    (pick (ltb 0 shrunk) (lastChanged (siteWord Rule.Joined 0 (listText s from)) actionWords count at records) records)
-
 -- How much shorter a list is when it is normalised.
 abbrev pub shrunkBy : List ℕ → ℕ
 shrunkBy s = length s - length (normalised s)
-
--- The list is there: one argument, or three at least.
-abbrev pub listThere : ℕ → Bool
-listThere count = or (eqb count 1) (ltb 2 count)
-
--- What is read of a directive, put into the input.
-pub record Settled (s : List ℕ) (from : Cursor) (a : Arguments) (name : ℕ) (t : Tally) (e : Entry) (variables variables′ actions actions′ : List ℕ) : Type 0 where
-  pub listed : variables′ ≡ tokenMoved s (ltb 0 (a .count)) (a .first) variableWords (e .variables) (t .variables * variableWords) variables
-  pub acted : actions′ ≡ pick (listThere (a .count)) (listMoved s from (listIn a name .token) (e .shrunk) (e .actions) (t .actions * actionWords) actions) actions
-
--- And a fault.
-abbrev pub spanMoved : List ℕ → Cursor → Arguments → ℕ → ArgumentFault → ℕ → ℕ
-spanMoved s from a name UnknownVariable w = pick (ltb 0 (a .count)) (tokenWord s (a .first) w) w
-spanMoved s from a name UnknownOperator w = pick (ltb 1 (a .count)) (tokenWord s (a .second) w) w
-spanMoved s from a name UnknownAction w = pick (listThere (a .count)) (listWord s from (listIn a name .token) w) w
-spanMoved s from a name (BadArgument flaw) w = pick (listThere (a .count)) (listWord s from (listIn a name .token) w) w
-
-abbrev pub faultMoved : List ℕ → Cursor → Arguments → ℕ → Told → Told
-faultMoved s from a name (Told.Line why line) = Told.Line why line
-faultMoved s from a name (Told.Argument why line at len span) = Told.Argument why line at len (spanMoved s from a name why span)
 
 -- ---- one directive
 

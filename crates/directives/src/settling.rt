@@ -2,7 +2,8 @@
 ghost use mathlib.Core.Path.{_≡_};
 ghost use Prim.Native.Nat.{_*_, _≤_};
 ghost use Rattle.lent.specs.Sizes.{limit, actionWords};
-ghost use Rattle.directives.specs.Steps.{argumentsAs, takenFrom, Stand, listIn, Heard, Listing, listMoved, listWord, listThere, Settled, spanMoved, faultMoved};
+ghost use Rattle.directives.specs.Steps.{argumentsAs, takenFrom};
+ghost use Rattle.directives.specs.Settling.{Stand, listIn, Heard, Listing, listMoved, listWord, listThere, Settled, spanMoved, faultMoved};
 use crate::ArgumentFault;
 use crate::Fault;
 use crate::arguments::Arguments;

@@ -3,7 +3,7 @@ ghost use mathlib.Core.Path.{_≡_};
 ghost use Prim.Native.Nat.{_≤_};
 ghost use Rattle.places.specs.Moves.{lastChanged};
 ghost use Rattle.directives.specs.Directives.{isMark};
-ghost use Rattle.directives.specs.Steps.{Stands, tokenWord};
+ghost use Rattle.directives.specs.Settling.{Stands, tokenWord};
 use ascii::Part;
 use places::Rule;
 

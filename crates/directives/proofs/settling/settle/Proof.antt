@@ -9,7 +9,7 @@ use lib.Dec.{ltb}
 use borrow.Author.Tests.{lt-ltb, le-ltb}
 use Rattle.ascii.specs.Choice.{pick}
 use Rattle.lent.specs.Sizes.{variableWords}
-use Rattle.directives.specs.Steps.{tokenMoved}
+use Rattle.directives.specs.Settling.{tokenMoved}
 use Rattle.directives.proofs.SettleLaws.{listing}
 use borrow.Author.Needs.{needs}
 use Rattle.directives.proofs.settling.settle.Statement.{statement}

@@ -12,7 +12,7 @@ use Rattle.lent.specs.Sizes.{actionWords}
 use Rattle.places.specs.declared.Rule.the-variants.{Joined}
 use Rattle.places.specs.Sites.{siteWord}
 use Rattle.places.specs.Moves.{lastChanged}
-use Rattle.directives.specs.Steps.{listText, tokenWord}
+use Rattle.directives.specs.Settling.{listText, tokenWord}
 use Rattle.directives.proofs.SettleLaws.{taken-again, listed-at, list-records}
 use borrow.Author.Needs.{needs}
 use Rattle.directives.proofs.settling.settle_list.Statement.{statement}

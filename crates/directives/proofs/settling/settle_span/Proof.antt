@@ -2,7 +2,7 @@
 use mathlib.Core.Path.{sym, ap, _∙_}
 use native.Mathlib.Omega.{arith}
 use denote.Ref.{now}
-use Rattle.directives.specs.Steps.{tokenWord}
+use Rattle.directives.specs.Settling.{tokenWord}
 use Rattle.directives.proofs.SettleLaws.{taken-again, listed-at, list-span}
 use borrow.Author.Needs.{needs}
 use Rattle.directives.proofs.settling.settle_span.Statement.{statement}
