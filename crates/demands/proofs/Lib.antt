@@ -17,5 +17,6 @@ pub mod Demand2
 pub mod WholeDirectives
 pub mod TokenTexts
 pub mod UnderlineLaws
+pub mod UnderlineCalls
 pub mod Underline
 pub mod NoSix

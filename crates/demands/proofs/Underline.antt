@@ -13,8 +13,7 @@ use Rattle.ascii.specs.Classes.{white}
 use Rattle.ascii.specs.Trim.{leadingWhite, trimEnds, trimmedPart}
 use Rattle.ascii.proofs.TrimLaws.{ends-are}
 use Rattle.lent.specs.Sources.{Part, part, Sourced, sitedAll}
-use Rattle.lent.specs.Buffers.{padded}
-use Rattle.lent.specs.Table.{tooLong, notAscii, shortBuffer, noRoom, named, noAction, noArgument, noVariable, unknownOperator, badCursor, resited, Outcome, refuses, reads, sitedOutcome, Filled, recordsBy}
+use Rattle.lent.specs.Table.{tooLong, notAscii, shortBuffer, noRoom, named, noAction, noArgument, noVariable, unknownOperator, badCursor, resited, Outcome, refuses, reads, sitedOutcome}
 use Rattle.lexer.specs.declared.Cursor.{Cursor}
 use Rattle.lexer.specs.declared.Kind.{Kind}
 use Rattle.lexer.specs.declared.Kind.the-variants.{Directive, Word, QuotedString, Comment, Newline}
@@ -25,17 +24,12 @@ use Rattle.lexer.proofs.PlaceLaws.{all-map, places}
 use Rattle.places.specs.declared.Rule.the-variants as Rule
 use Rattle.single_action.specs.Actions.{Action}
 use Rattle.actions.specs.Normal.{normalised}
-use Rattle.actions.specs.Pieces as Act
-use Rattle.actions.specs.Calls.{AllDone}
 use Rattle.actions.specs.Lists.{normalSite, actionsOf}
-use Rattle.actions.specs.Layout.{wordsFrom}
-use Rattle.actions.specs.Promises as Actions
-use Rattle.actions.specs.declared.Answer as Answered
-use Rattle.actions.proofs.NumberLaws.{given-read, given-in, roomy-is}
 use Rattle.variables.specs.Parts.{pieces}
 use Rattle.variables.specs.Variables as Of
 use Rattle.variables.specs.Steps.{excludingOf, targetsOf}
-use Rattle.variables.specs.declared.singles.Exclusions.the-variants.{AsWritten}
+use Rattle.variables.specs.declared.singles.Exclusions.{Exclusions}
+use Rattle.variables.specs.declared.singles.Exclusions.the-variants.{AsWritten, LookedUp}
 use Rattle.operators.specs.Operators as Operator
 use Rattle.operators.specs.Places.{namePlace}
 use Rattle.operators.specs.Promises.{outcomeOf}
@@ -45,18 +39,10 @@ use Rattle.directives.specs.Directives as Whole
 use Rattle.directives.specs.declared.shapes.Shape.{Shape}
 use Rattle.directives.specs.declared.shapes.Shape.the-variants.{Rule as ofRule, Action as ofAction, Marker as ofMarker, Defaults as ofDefaults, Other as ofOther}
 use Rattle.directives.specs.Directives.{shapeOf, listedBy, ruleBy, actBy, told, bodyBy, siteAt, standing, argumentSite, listSite, listNumber, refusalSite, sited, lastPast, placed, directiveOf, itemRead, before, ending, endOf}
-use Rattle.directives.specs.Layout as Laid
-use Rattle.directives.specs.Promises as Package
-use Rattle.directives.specs.declared.Answer as Reply
-use Rattle.directives.proofs.OrderLaws.{text-good, end-good}
-use Rattle.directives.proofs.FateLaws.{roomy}
-use Rattle.directives.proofs.PromiseLaws.{told-by}
-use Rattle.demands.specs.Calls.{Lent, Left, parse-actions-promise, directives-promise}
-use Rattle.demands.specs.Underline.{bytesIn, whole, Each, ActionThere, ActionsThere, TargetsThere, Among, here, there, IsArgument, lexed, listed, Argument, ActionIn, BodyIn, DirectiveIn, RefusalIn, FaultIn, PackageIn, Underline}
+use Rattle.demands.specs.Underline.{bytesIn, whole, asTheyAre, Each, ActionThere, ActionsThere, TargetsThere, Among, here, there, IsArgument, lexed, listed, Argument, ActionIn, BodyIn, DirectiveIn, RefusalIn, FaultIn, PackageIn, Underline}
 use Rattle.demands.proofs.TokenTexts.{Stands, tokens-stand}
 use Rattle.demands.proofs.UnderlineLaws.{Carries, plain-carries, normal-carries, site-carries, both-carries, list-there, sitedTargets, targets-there, hanging-there, targets-still}
-use Rattle.demands.proofs.Demand2.{demand2}
-use Rattle.demands.proofs.WholeDirectives.{whole-directives}
+use Rattle.demands.proofs.UnderlineCalls.{actions-told, variables-told, update-targets-told, directives-told}
 
 each-map : {A : Type 0} {P Q : A → Type 0} → ((x : A) → P x → Q x) → (xs : List A) → Each P xs → Each Q xs
 each-map f [] w = tt
@@ -271,6 +257,9 @@ actions-there : (s : List ℕ) → ActionsThere normalised s (whole s) (actionsO
 unfolding actionsOf
 actions-there s = list-there (normal-carries s)
 
+targets-found : (n : Exclusions) (s : List ℕ) → TargetsThere asTheyAre s (whole s) n (Of.readAll (excludingOf n) (pieces s))
+targets-found n s = subst (TargetsThere _ s (whole s) n) (targets-still (Of.readAll (excludingOf n) (pieces s))) (targets-there (plain-carries s) n)
+
 setvar-there : (s : List ℕ) → bytesIn s (trimmedPart s) ≡ trimEnds s
 setvar-there s =
     let k : ℕ = leadingWhite s in
@@ -282,55 +271,17 @@ operator-there s name h =
     let e : namePlace s + length name - namePlace s ≡ length name = omega arith in
     ap (λ (n : ℕ). take n (drop (namePlace s) s)) e ∙ refused-stands s name h
 
--- ---- calls
-
-given-is : (s : List ℕ) (m : ℕ) (a : AllDone (Act.pieces (normalised s))) → actionsOf s ≡ reads (given-in s m a)
-unfolding actionsOf
-given-is s m a = ap (λ (o : Outcome (List (Sourced Action))). sitedOutcome (normalSite s) o) (given-read 0 (Act.pieces (normalised s)) a)
-
-actions-called : (i : Lent × List ℕ) (o : Left Answered.Answer × List ℕ) → parse-actions-promise i o → Actions.answerGiven (o .0 .answer) .number ≡ 0
-    → (xs : List (Sourced Action))
-    × (Each (ActionThere normalised (i .0 .input) (whole (i .0 .input))) xs × (o .0 .records ≡ padded (length (i .0 .records)) (wordsFrom 0 xs)))
-actions-called i o p z =
-    let s : List ℕ = i .0 .input in
-    let m : ℕ = length (i .0 .records) in
-    let h = demand2 .exact .parse-actions i o p .zero .0 z in
-    let w = demand2 .equal .parse-actions i o p (h .0) .0 .words in (
-      given-in s m (h .1 .0),
-      (
-        subst (ActionsThere normalised s (whole s)) (given-is s m (h .1 .0)) (actions-there s),
-        w ∙ ap (λ (x : Outcome Filled). recordsBy x (i .0 .records)) (roomy-is s m (h .1 .0) (h .1 .1)),
-      ),
-    )
-
-directives-called : (i : List ℕ × Package.Lent) (o : Reply.Answer × Package.Lent) → directives-promise i o → Package.answerGiven (o .0) .number ≡ 0
-    → (ds : List Whole.Directive)
-    × (Each (DirectiveIn (i .0)) ds
-    × ((o .1 .variables ≡ padded (length (i .1 .variables)) (Laid.variablesFrom 0 ds)) × (o .1 .actions ≡ padded (length (i .1 .actions)) (Laid.actionsFrom 0 ds))))
-directives-called i o p z =
-    let s : List ℕ = i .0 in
-    let h = whole-directives .exact i o p .zero .0 z in
-    let ds : List Whole.Directive = h .1 .0 in
-    let all = h .1 .1 .0 in
-    let end = h .1 .1 .1 .0 in
-    let is : Whole.directives s ≡ Whole.good ds = text-good s ds .1 (all, end-good (length s) (reading s .stop) .1 end) in
-    let t = told-by p _ (roomy ds (record { opened = h .0; each = all; whole = end }) (h .1 .1 .1 .1)) .1 in (
-      ds,
-      (
-        subst (PackageIn s) is (directives-there s),
-        (ap (λ (m : Package.Lent). m .variables) t, ap (λ (m : Package.Lent). m .actions) t),
-      ),
-    )
-
 pub underline : Underline
 underline = record {
   actions = actions-there;
-  variables = λ n s. subst (TargetsThere _ s (whole s) n) (targets-still (Of.readAll (excludingOf n) (pieces s))) (targets-there (plain-carries s) n);
+  variables = targets-found;
   setvar = setvar-there;
   operator = operator-there;
   argument-part = λ s t a. carries s t a .carry;
   list-part = λ s t a. list-carries s t a .carry;
   directives = directives-there;
-  actions-called = actions-called;
-  directives-called = directives-called;
+  actions-called = λ i o p. actions-told i o p (actions-there (i .0 .input));
+  variables-called = λ i o p. variables-told i o p (targets-found AsWritten (i .input));
+  update-targets-called = λ i o p. update-targets-told i o p (targets-found LookedUp (i .input));
+  directives-called = λ i o p. directives-told i o p (directives-there (i .0));
 }

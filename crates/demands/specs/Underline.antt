@@ -8,7 +8,7 @@ use lib.ListN.{length, take, drop}
 use Rattle.ascii.specs.Trim.{trimEnds, trimmedPart}
 use Rattle.lent.specs.Sources.{Part, part, Sourced}
 use Rattle.lent.specs.Buffers.{padded}
-use Rattle.lent.specs.Table.{Refusal, tooLong, notAscii, shortBuffer, noRoom, named, noAction, noArgument, noVariable, unknownOperator, badCursor, Outcome, refuses, reads}
+use Rattle.lent.specs.Table.{Refusal, tooLong, notAscii, shortBuffer, noRoom, named, noAction, noArgument, noVariable, unknownOperator, badCursor, refused, Given, Outcome, refuses, reads}
 use Rattle.lexer.specs.declared.Kind.{Kind}
 use Rattle.lexer.specs.declared.Kind.the-variants.{Directive, Word, QuotedString, Comment, Newline}
 use Rattle.lexer.specs.Tokens.{Token, reading}
@@ -24,15 +24,19 @@ use Rattle.variables.specs.Parts.{pieces}
 use Rattle.variables.specs.Variables as Of
 use Rattle.variables.specs.Steps.{excludingOf}
 use Rattle.variables.specs.declared.singles.Exclusions.{Exclusions}
-use Rattle.variables.specs.declared.singles.Exclusions.the-variants.{AsWritten}
+use Rattle.variables.specs.declared.singles.Exclusions.the-variants.{AsWritten, LookedUp}
+use Rattle.variables.specs.Layout as Spread
+use Rattle.variables.specs.Promises as Targets
+use Rattle.variables.specs.declared.Answer as Read
 use Rattle.operators.specs.Operators as Operator
 use Rattle.operators.specs.Places.{namePlace}
 use Rattle.directives.specs.Directives as Whole
 use Rattle.directives.specs.Directives.{siteAt, standing}
 use Rattle.directives.specs.Layout as Laid
+use Rattle.directives.specs.Table.{faultGiven}
 use Rattle.directives.specs.Promises as Package
 use Rattle.directives.specs.declared.Answer as Reply
-use Rattle.demands.specs.Calls.{Lent, Left, parse-actions-promise, directives-promise}
+use Rattle.demands.specs.Calls.{Lent, Left, parse-actions-promise, parse-variables-promise, parse-update-targets-promise, directives-promise}
 
 -- ---- underlined bytes
 
@@ -98,6 +102,18 @@ module _ (read : List ℕ → List ℕ) (s : List ℕ) (around : Part) where
 
     abbrev pub NameThere : List ℕ → Part → Type 0
     NameThere name x = Told x (λ p. alone x p ≡ Of.refused 0 name x)
+
+    -- a refusal of such a list
+    abbrev pub NamedThere : Refusal → Type 0
+    NamedThere (named noAction k name x) = ⊥
+    NamedThere (named (noArgument flaw) k name x) = ⊥
+    NamedThere (named noVariable k name x) = NameThere name x
+    NamedThere (unknownOperator p m x) = ⊥
+    NamedThere tooLong = ⊥
+    NamedThere (notAscii p) = ⊥
+    NamedThere shortBuffer = ⊥
+    NamedThere (noRoom m) = ⊥
+    NamedThere badCursor = ⊥
 
     abbrev pub TargetsThere : Of.Targets → Type 0
     TargetsThere (Of.targets vs es) = Each VariableThere vs × Each ExclusionThere es
@@ -181,6 +197,39 @@ module _ (s : List ℕ) where
   PackageIn (Whole.bad f) = FaultIn f
   PackageIn (Whole.good ds) = Each DirectiveIn ds
 
+-- ---- calls
+
+-- What a call tells that gives this number with its values: 1 to 3, or 4; or a refusal of which F holds; or 0, and then things of which P
+-- holds, which are kept so in its buffers.
+pub data Tells {R A : Type 0} (F : R → Type 0) (told : R → Given) (P Kept : A → Type 0) (g : Given) : Type 0 where
+  gated : 1 ≤ g .number → g .number ≤ 3 → Tells F told P Kept g
+  crowded : g .number ≡ 4 → Tells F told P Kept g
+  refused-there : (f : R) → F f → g ≡ told f → Tells F told P Kept g
+  read-there : (x : A) → P x → g .number ≡ 0 → Kept x → Tells F told P Kept g
+
+-- parse_actions: the list without its line continuations.
+abbrev pub ActionsTold : Lent × List ℕ → Left Listed.Answer × List ℕ → Type 0
+ActionsTold i o =
+    let s = i .0 .input in
+    Tells (PieceThere normalised s (whole s)) refused (Each (ActionThere normalised s (whole s)))
+    (λ (xs : List (Sourced Action)). o .0 .records ≡ padded (length (i .0 .records)) (wordsFrom 0 xs)) (Actions.answerGiven (o .0 .answer))
+
+-- parse_variables and parse_update_targets: the list as it is.
+abbrev pub TargetsTold : Exclusions → Lent → Left Read.Answer → Type 0
+TargetsTold n i o =
+    let s = i .input in
+    Tells (NamedThere asTheyAre s (whole s) n) refused
+    (λ (x : List (Sourced Of.Variable) × List (Sourced (List ℕ))). TargetsThere asTheyAre s (whole s) n (Of.targets (x .0) (x .1)))
+    (λ (x : List (Sourced Of.Variable) × List (Sourced (List ℕ))). o .records ≡ padded (length (i .records)) (Spread.wordsFrom 0 (x .0) (x .1))) (Targets.answerGiven (o .answer))
+
+-- directives: both buffers with spans.
+abbrev pub PackageTold : List ℕ × Package.Lent → Reply.Answer × Package.Lent → Type 0
+PackageTold i o =
+    Tells (FaultIn (i .0)) faultGiven (Each (DirectiveIn (i .0)))
+    (λ (ds : List Whole.Directive).
+    (o .1 .variables ≡ padded (length (i .1 .variables)) (Laid.variablesFrom 0 ds)) × (o .1 .actions ≡ padded (length (i .1 .actions)) (Laid.actionsFrom 0 ds)))
+    (Package.answerGiven (o .0))
+
 -- ---- the theorem
 
 pub record Underline : Type 0 where
@@ -198,11 +247,8 @@ pub record Underline : Type 0 where
       → Underlined (listed (t .kind)) s (standing t) (siteAt s (standing t) (normalSite (t .text) x)) (bytesIn (normalised (t .text)) x)
   -- so every record of its directives, or the piece that it is refused for
   pub directives : (s : List ℕ) → PackageIn s (Whole.directives s)
-  -- and over promises: where a call gives 0, its records are those of such actions, or of such directives
-  pub actions-called : (i : Lent × List ℕ) (o : Left Listed.Answer × List ℕ) → parse-actions-promise i o → Actions.answerGiven (o .0 .answer) .number ≡ 0
-      → (xs : List (Sourced Action))
-      × (Each (ActionThere normalised (i .0 .input) (whole (i .0 .input))) xs × (o .0 .records ≡ padded (length (i .0 .records)) (wordsFrom 0 xs)))
-  pub directives-called : (i : List ℕ × Package.Lent) (o : Reply.Answer × Package.Lent) → directives-promise i o → Package.answerGiven (o .0) .number ≡ 0
-      → (ds : List Whole.Directive)
-      × (Each (DirectiveIn (i .0)) ds
-      × ((o .1 .variables ≡ padded (length (i .1 .variables)) (Laid.variablesFrom 0 ds)) × (o .1 .actions ≡ padded (length (i .1 .actions)) (Laid.actionsFrom 0 ds))))
+  -- and over promises: what every call tells
+  pub actions-called : (i : Lent × List ℕ) (o : Left Listed.Answer × List ℕ) → parse-actions-promise i o → ActionsTold i o
+  pub variables-called : (i : Lent) (o : Left Read.Answer) → parse-variables-promise i o → TargetsTold AsWritten i o
+  pub update-targets-called : (i : Lent) (o : Left Read.Answer) → parse-update-targets-promise i o → TargetsTold LookedUp i o
+  pub directives-called : (i : List ℕ × Package.Lent) (o : Reply.Answer × Package.Lent) → directives-promise i o → PackageTold i o
