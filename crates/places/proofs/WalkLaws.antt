@@ -1,4 +1,4 @@
--- Where a walk along the source stands: one byte more, a run of plain bytes more, and the part that two stands tell.
+-- Where a walk along the source stands: one byte more, a run of bytes more, the note on its way, and the part that both tell.
 use mathlib.Core.Path.{_≡_, _∙_, refl, sym, ap, subst}
 use mathlib.Core.Bool.{Bool, true, false}
 use mathlib.Core.List.{List, [], _∷_}

@@ -135,7 +135,7 @@ fn noted_by(noted: usize, stop: usize, passed: usize, next: Stand) -> usize
     next.first - (next.count - stop)
 }
 
-// On until n bytes of the text are passed, or the source ends.
+// On until n bytes of the text are passed, or the source ends, with a note of the one that is passed with `stop` of them.
 fn pass_to(s: &[u8], rule: Rule, w: Stand, stop: usize, n: usize) -> Found
     requires { ⌜ Paid w × (w .count ≤ stop) × (w .count ≤ n) ⌝ }
     ensures { λ r. ⌜ Reached rule (now (s .entry)) w stop n r ⌝ }
