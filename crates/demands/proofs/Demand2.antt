@@ -1,4 +1,4 @@
--- Demand 2. Within 16,384 ASCII bytes tokens, records and the first error equal the Rust's: by differential runs, and by proof against
+-- Demand 2. Within 1,048,576 ASCII bytes tokens, records and the first error equal the Rust's: by differential runs, and by proof against
 -- definitions of its rules. Severity words follow the ModSecurity Reference Manual, listings RFC 8259.
 -- The idea: an input that the gate lets pass leaves only the definitions; the crates' own laws have the numbers.
 use mathlib.Core.Path.{_≡_, _∙_, refl, ap}

@@ -1,4 +1,4 @@
--- Demand 2. Within 16,384 ASCII bytes tokens, records and the first error equal the Rust's: by differential runs, and by proof against
+-- Demand 2. Within 1,048,576 ASCII bytes tokens, records and the first error equal the Rust's: by differential runs, and by proof against
 -- definitions of its rules. Severity words follow the ModSecurity Reference Manual, listings RFC 8259.
 -- Said here of every reader that document 01 names, in two parts (of whole directives: `WholeDirectives`). What is given back and left
 -- is what the definitions say (`Equals`): `reading`, `actionsOf`, `setvar`, `readAll` and `operator` are the Rust's rules. And each number

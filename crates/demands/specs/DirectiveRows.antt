@@ -3,7 +3,7 @@ use mathlib.Core.Path.{_≡_}
 use mathlib.Core.List.{List, [], _∷_}
 use Prim.Native.Nat.{ℕ, _*_}
 use lib.ListN.{length}
-use Rattle.lent.specs.Sizes.{directiveWords, variableWords, actionWords}
+use Rattle.lent.specs.Sizes.{limit, directiveWords, variableWords, actionWords}
 use Rattle.lent.specs.Buffers.{zeros, padded}
 use Rattle.lent.specs.Sources.{Part, partWord}
 use Rattle.lent.specs.Table.{Given, given, Naming, namingNumber}
@@ -28,8 +28,8 @@ module _ (g : Given) (m m′ : Lent) where
         → length ds ≡ d * directiveWords → length vs ≡ v * variableWords → length ks ≡ a * actionWords
         → m′ ≡ lentOf (padded (length (m .text)) texts) (zeros (length (m .scratch))) (padded (length (m .directives)) ds) (padded (length (m .variables)) vs) (padded (length (m .actions)) ks)
         → Row
-    -- 1: the place 16,384; untouched
-    too-long : g ≡ given 1 (16384 ∷ []) → m′ ≡ m → Row
+    -- 1: the limit, 1,048,576; untouched
+    too-long : g ≡ given 1 (limit ∷ []) → m′ ≡ m → Row
     -- 2: the place of the first byte that is 128 or more; untouched
     not-ascii : (place : ℕ) → g ≡ given 2 (place ∷ []) → m′ ≡ m → Row
     -- 3: 0; untouched

@@ -3,6 +3,7 @@ use mathlib.Core.Path.{_≡_}
 use mathlib.Core.List.{List, [], _∷_}
 use Prim.Native.Nat.{ℕ, _*_}
 use lib.ListN.{length}
+use Rattle.lent.specs.Sizes.{limit}
 use Rattle.lent.specs.Buffers.{zeros, padded}
 use Rattle.lent.specs.Sources.{Part, partWord}
 use Rattle.lent.specs.Table.{Given, given, Naming, namingNumber}
@@ -19,8 +20,8 @@ module _ (width : ℕ) (g : Given) (text text′ records records′ : List ℕ) 
     -- 0: how many records and bytes of text, and what else the reader gives; as many stand in the buffers, and zeros beyond
     read : (count : ℕ) (more texts words : List ℕ) → g ≡ given 0 (count ∷ length texts ∷ more) → length words ≡ count * width
         → text′ ≡ padded (length text) texts → records′ ≡ padded (length records) words → Row
-    -- 1: the place 16,384; untouched
-    too-long : g ≡ given 1 (16384 ∷ []) → Untouched → Row
+    -- 1: the limit, 1,048,576; untouched
+    too-long : g ≡ given 1 (limit ∷ []) → Untouched → Row
     -- 2: the place of the first byte that is 128 or more; untouched
     not-ascii : (place : ℕ) → g ≡ given 2 (place ∷ []) → Untouched → Row
     -- 3: 0; untouched

@@ -23,7 +23,7 @@ pub use refusing::Flaw;
 pub use refusing::flaw_number;
 
 // The longest input, in bytes.
-pub const LIMIT: usize = 16384;
+pub const LIMIT: usize = 1048576;
 
 // Words in a record of each kind.
 pub const TOKEN_WORDS: usize = 5;
