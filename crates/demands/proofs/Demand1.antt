@@ -77,10 +77,13 @@ use Rattle.directives.proofs.directives as DirectivesOf
 use Rattle.rules.proofs.grade as Grade
 use Rattle.rules.proofs.phase as Phase
 use Rattle.rules.proofs.selecting.RuleIdSelector.matches as Matches
+use Rattle.spans.proofs.span_from_old as SpanFromOld
+use Rattle.spans.proofs.span_to_old as SpanToOld
 use Rattle.listing.proofs.list_text as ListText
 use Rattle.listing.proofs.write_listing as WriteListing
 use Rattle.listing.proofs.write_refusal as WriteRefusal
-use Rattle.demands.specs.Demand1.{OfBytes, OfTexts, OfNumbers, OfLent, OfNames, OfLexer, OfPlaces, OfSingles, OfParsers, OfDirectives, OfListing, Demand1}
+use Rattle.listing.proofs.write_refusal_line as WriteRefusalLine
+use Rattle.demands.specs.Demand1.{OfBytes, OfTexts, OfNumbers, OfLent, OfNames, OfSpans, OfLexer, OfPlaces, OfSingles, OfParsers, OfDirectives, OfListing, Demand1}
 use Rattle.demands.proofs.FixedLaws.{gives, both-given, finish-fixed, site-word-fixed, resite-fixed, end-reading-fixed, reader-fixed}
 use Rattle.demands.proofs.TokenCalls.{step-in-fixed, next-token-fixed, tokens-fixed, tokens-row}
 use Rattle.demands.proofs.ActionCalls.{parse-actions-fixed, normalise-fixed, read-actions-fixed, parse-setvar-fixed, parse-actions-row, parse-setvar-row}
@@ -88,7 +91,7 @@ use Rattle.demands.proofs.VariableCalls.{read-targets-fixed, parse-vari
 use Rattle.demands.proofs.OperatorCalls.{operator-in-fixed, parse-operator-fixed, operator-argument-fixed}
 use Rattle.demands.proofs.DirectiveCalls.{directives-fixed, directives-row}
 use Rattle.demands.proofs.Library.{of-library}
-use Rattle.demands.proofs.ListingCalls.{write-listing-fixed, write-refusal-fixed, list-text-fixed}
+use Rattle.demands.proofs.ListingCalls.{write-listing-fixed, write-refusal-fixed, write-refusal-line-fixed, list-text-fixed}
 
 of-bytes : OfBytes
 of-bytes = record {
@@ -152,6 +155,12 @@ of-names = record {
   is-text = record { promises = record { tied = λ M 𝓤 H A mem run. refl; met = λ M 𝓤. IsText.Met.met 𝓤 }; fixed = λ κs. gives _ };
 }
 
+of-spans : OfSpans
+of-spans = record {
+  span-from-old = record { promises = record { tied = λ M 𝓤 H A mem run. refl; met = λ M 𝓤. SpanFromOld.Met.met 𝓤 }; fixed = λ κs. gives _ };
+  span-to-old = record { promises = record { tied = λ M 𝓤 H A mem run. refl; met = λ M 𝓤. SpanToOld.Met.met 𝓤 }; fixed = λ κs. gives _ };
+}
+
 of-lexer : OfLexer
 of-lexer = record {
   start = record { promises = record { tied = λ M 𝓤 H A mem run. refl; met = λ M 𝓤. Start.Met.met 𝓤 }; fixed = λ κs. gives _ };
@@ -207,6 +216,7 @@ of-listing : OfListing
 of-listing = record {
   write-listing = record { promises = record { tied = λ M 𝓤 H A mem run. refl; met = λ M 𝓤. WriteListing.Met.met 𝓤 }; fixed = write-listing-fixed };
   write-refusal = record { promises = record { tied = λ M 𝓤 H A mem run. refl; met = λ M 𝓤. WriteRefusal.Met.met 𝓤 }; fixed = write-refusal-fixed };
+  write-refusal-line = record { promises = record { tied = λ M 𝓤 H A mem run. refl; met = λ M 𝓤. WriteRefusalLine.Met.met 𝓤 }; fixed = write-refusal-line-fixed };
   list-text = record { promises = record { tied = λ M 𝓤 H A mem run. refl; met = λ M 𝓤. ListText.Met.met 𝓤 }; fixed = list-text-fixed };
 }
 
@@ -217,6 +227,7 @@ demand1 = record {
   of-numbers = of-numbers;
   of-lent = of-lent;
   of-names = of-names;
+  of-spans = of-spans;
   of-lexer = of-lexer;
   of-places = of-places;
   of-singles = of-singles;

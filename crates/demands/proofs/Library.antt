@@ -9,6 +9,9 @@ use Rattle.lent.specs.Table.{Given, Outcome, Filled, givenBy, textBy, recordsBy
 use Rattle.lexer.specs.Promises.{nextOutcome, nextGivenBy, nextTextBy, tokensOutcome}
 use Rattle.actions.specs.Promises.{actionsGate, actionsOutcome, scratchBy}
 use Rattle.operators.specs.Promises as Operators
+use Rattle.spans.specs.Conversion.{fromOld, toOld}
+use Rattle.spans.specs.Promises as Spans
+use Rattle.spans.specs.declared.converting.Answer.{Answer as Converted}
 use Rattle.directives.specs.Table as Directing
 use Rattle.directives.specs.Promises as Whole
 use Rattle.listing.specs.Listings.{lineOf}
@@ -32,11 +35,13 @@ use Rattle.seclang.proofs.seclang_parse_setvar as SeclangParseSetvar
 use Rattle.seclang.proofs.seclang_parse_update_targets as SeclangParseUpdateTargets
 use Rattle.seclang.proofs.seclang_parse_variables as SeclangParseVariables
 use Rattle.seclang.proofs.seclang_plain_tokens as SeclangPlainTokens
+use Rattle.seclang.proofs.seclang_span_from_old as SeclangSpanFromOld
+use Rattle.seclang.proofs.seclang_span_to_old as SeclangSpanToOld
 use Rattle.seclang.proofs.seclang_tokens as SeclangTokens
 use Rattle.seclang.proofs.seclang_version as SeclangVersion
 use Rattle.demands.specs.Fixed.{Fixed}
 use Rattle.demands.specs.Calls.{Lent, Left, left, Wrote, wrote, Place}
-use Rattle.demands.specs.Library.{With, fills-promise, fills-actions-promise, fills-directives-promise, steps-promise, operator-promise, lists-promise, recordsOutcome, refusalOutcome, lists-text-promise, OfLibrary}
+use Rattle.demands.specs.Library.{With, fills-promise, fills-actions-promise, fills-directives-promise, steps-promise, operator-promise, converts-promise, lists-promise, recordsOutcome, refusalOutcome, lists-text-promise, OfLibrary}
 use Rattle.demands.proofs.FixedLaws.{gives, left-same, wrote-same}
 use Rattle.demands.proofs.DirectiveCalls.{all-left}
 
@@ -116,6 +121,12 @@ operator-fixed = record {
   once = λ i o p a b. pair (one-answer (a .number) (b .number)) (one-answer (a .values) (b .values));
 }
 
+converts-fixed : (to : ℕ → Converted) → Fixed (With ℕ) (With ℕ) (converts-promise to)
+converts-fixed to = record {
+  total = λ i. let g = Spans.answerGiven (to (i .0)) in ((g .number, told g (i .1)), record { number = refl; values = refl });
+  once = λ i o p a b. pair (one-answer (a .number) (b .number)) (one-answer (a .values) (b .values));
+}
+
 -- ---- the listings
 
 lists-fixed : {In : Type 0} (outcome : In → Listing.Outcome) (buffer : In → List ℕ) → Fixed (With In) (With (Wrote ℕ)) (lists-promise outcome buffer)
@@ -161,6 +172,8 @@ of-library = record {
   grade = record { promises = record { tied = λ M 𝓤 H A mem run. refl; met = λ M 𝓤. SeclangGrade.Met.met 𝓤 }; fixed = λ κs. gives _ };
   version = record { promises = record { tied = λ M 𝓤 H A mem run. refl; met = λ M 𝓤. SeclangVersion.Met.met 𝓤 }; fixed = λ κs. gives _ };
   matches = record { promises = record { tied = λ M 𝓤 H A mem run. refl; met = λ M 𝓤. SeclangMatches.Met.met 𝓤 }; fixed = λ κs. gives _ };
+  span-from-old = record { promises = record { tied = λ M 𝓤 H A mem run. refl; met = λ M 𝓤. SeclangSpanFromOld.Met.met 𝓤 }; fixed = converts-fixed fromOld };
+  span-to-old = record { promises = record { tied = λ M 𝓤 H A mem run. refl; met = λ M 𝓤. SeclangSpanToOld.Met.met 𝓤 }; fixed = converts-fixed toOld };
   write-listing = record { promises = record { tied = λ M 𝓤 H A mem run. refl; met = λ M 𝓤. SeclangWriteListing.Met.met 𝓤 }; fixed = lists-fixed recordsOutcome (λ i. i .buffer) };
   write-refusal = record { promises = record { tied = λ M 𝓤 H A mem run. refl; met = λ M 𝓤. SeclangWriteRefusal.Met.met 𝓤 }; fixed = lists-fixed refusalOutcome (λ i. i .buffer) };
   list-text = record { promises = record { tied = λ M 𝓤 H A mem run. refl; met = λ M 𝓤. SeclangListText.Met.met 𝓤 }; fixed = lists-text-fixed };

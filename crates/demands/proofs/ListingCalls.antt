@@ -1,6 +1,6 @@
--- The promises of the three listing calls are total, and have no second answer.
+-- The promises of the listing calls are total, and have no second answer.
 use mathlib.Core.Path.{_≡_, refl, ap₂}
-use mathlib.Core.List.{List}
+use mathlib.Core.List.{List, [], _∷_, _++_}
 use Prim.Native.Nat.{ℕ}
 use lib.ListN.{length}
 use Rattle.lent.specs.Table as Table
@@ -11,7 +11,7 @@ use Rattle.listing.specs.declared.Answer.{Answer}
 use Rattle.listing.specs.declared.Answer.the-variants as Answer
 use Rattle.listing.proofs.GivenLaws.{leaves-once, list-text-once}
 use Rattle.demands.specs.Fixed.{Fixed}
-use Rattle.demands.specs.Calls.{Lent, Left, Wrote, Records, Refusal, write-listing-promise, write-refusal-promise, list-text-promise}
+use Rattle.demands.specs.Calls.{Lent, Left, Wrote, Records, Refusal, write-listing-promise, write-refusal-promise, write-refusal-line-promise, list-text-promise}
 use Rattle.demands.proofs.FixedLaws.{left-same, wrote-same}
 
 told : (o : P.Outcome) → (r : Answer) × (P.answerGiven r ≡ P.givenBy o)
@@ -19,7 +19,7 @@ told (P.writes xs) = (Answer.Written (length xs), refl)
 told (P.noRoom n) = (Answer.NoRoom n, refl)
 told (P.noToken n) = (Answer.NoToken n, refl)
 
--- both that write into one buffer, by what a call comes to
+-- those that write into one buffer, by what a call comes to
 leaves-fixed : {In : Type 0} (buffer : In → List ℕ) (o : In → P.Outcome) → Fixed In (Wrote Answer) (λ i w. P.Leaves (o i) (buffer i) (w .buffer) (w .answer))
 leaves-fixed buffer o = record {
   total = λ i. (record { answer = told (o i) .0; buffer = P.bufferBy (o i) (length (buffer i)) }, record { answer = told (o i) .1; buffer = refl });
@@ -31,6 +31,9 @@ write-listing-fixed = leaves-fixed (λ i. i .buffer) (λ i. P.listingOutcome (i 
 
 pub write-refusal-fixed : Fixed Refusal (Wrote Answer) write-refusal-promise
 write-refusal-fixed = leaves-fixed (λ i. i .buffer) (λ i. P.fitted (length (i .buffer)) (refusal (i .number) (i .place)))
+
+pub write-refusal-line-fixed : Fixed Refusal (Wrote Answer) write-refusal-line-promise
+write-refusal-line-fixed = leaves-fixed (λ i. i .buffer) (λ i. P.fitted (length (i .buffer)) (refusal (i .number) (i .place) ++ (10 ∷ [])))
 
 pub list-text-fixed : Fixed (Lent × List ℕ) (Left Answer × List ℕ) list-text-promise
 list-text-fixed = record {

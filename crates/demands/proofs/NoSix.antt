@@ -1,6 +1,6 @@
 -- 6 occurs no more: no row of the table has it, so that no outcome of any reader does.
 use mathlib.Core.Path.{_≡_, _∙_, sym, ap}
-use mathlib.Core.List.{List}
+use mathlib.Core.List.{List, [], _∷_, _++_}
 use Prim.Native.Nat.{ℕ}
 use native.Mathlib.Omega.{arith}
 use lib.ListN.{length}
@@ -17,8 +17,12 @@ use Rattle.operators.specs.Promises as Operators
 use Rattle.directives.specs.Directives.{wrongCount, untaken, stopped, within}
 use Rattle.directives.specs.Table as Directing
 use Rattle.directives.specs.Promises as Whole
-use Rattle.listing.specs.Listings.{lineOf}
+use Rattle.listing.specs.Listings.{refusal, lineOf}
 use Rattle.listing.specs.Promises as Listing
+use Rattle.spans.specs.Conversion.{fromOld, toOld}
+use Rattle.spans.specs.Promises as Spans
+use Rattle.spans.specs.declared.converting.Answer.{Answer as Converted}
+use Rattle.spans.specs.declared.converting.Answer.the-variants as Converted
 use Rattle.demands.specs.Calls.{Lent}
 use Rattle.demands.specs.Library.{recordsOutcome, refusalOutcome}
 use Rattle.demands.specs.NoSix.{OfReaders, OfLibrary, NoSix}
@@ -53,6 +57,10 @@ listing-not (Listing.writes xs) e = omega arith
 listing-not (Listing.noRoom needed) e = omega arith
 listing-not (Listing.noToken place) e = omega arith
 
+span-not : (r : Converted) → Spans.answerGiven r .number ≡ 6 → ⊥
+span-not (Converted.Word w) e = omega arith
+span-not Converted.TooFar e = omega arith
+
 flaw-not : (flaw : Flaw) → flawNumber flaw ≡ 6 → ⊥
 flaw-not Flaw.Absent e = omega arith
 flaw-not Flaw.Unreadable e = omega arith
@@ -77,6 +85,9 @@ of-readers = record {
   directives = λ i o x. given-not (x .answer) (directives-not (Whole.outcomeOn (i .0) (i .1)));
   write-listing = λ i o x. given-not (x .answer) (listing-not (recordsOutcome i));
   write-refusal = λ i o x. given-not (x .answer) (listing-not (refusalOutcome i));
+  write-refusal-line = λ i o x. given-not (x .answer) (listing-not (Listing.fitted (length (i .buffer)) (refusal (i .number) (i .place) ++ (10 ∷ []))));
+  span-from-old = λ w. span-not (fromOld w);
+  span-to-old = λ w. span-not (toOld w);
   list-text = λ i o x. given-not (x .line .answer) (listing-not (lineOutcome i));
 }
 
@@ -90,6 +101,8 @@ of-library = record {
   parse-update-targets = λ i o x e. filled-not (Variables.updateOutcome (i .0 .input) (length (i .0 .text)) (length (i .0 .records))) (sym (x .told .number) ∙ e);
   parse-operator = λ i o x e. operator-not (i .0) (Operators.operatorOutcome (i .0)) (sym (x .number) ∙ e);
   directives = λ i o x e. directives-not (Whole.outcomeOn (i .0 .0) (i .0 .1)) (sym (x .told .number) ∙ e);
+  span-from-old = λ i o x e. span-not (fromOld (i .0)) (sym (x .number) ∙ e);
+  span-to-old = λ i o x e. span-not (toOld (i .0)) (sym (x .number) ∙ e);
   write-listing = λ i o x e. listing-not (recordsOutcome (i .0)) (sym (x .told .number) ∙ e);
   write-refusal = λ i o x e. listing-not (refusalOutcome (i .0)) (sym (x .told .number) ∙ e);
   list-text = λ i o x e. listing-not (lineOutcome (i .0)) (sym (x .lists .told .number) ∙ e);

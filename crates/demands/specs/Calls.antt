@@ -26,7 +26,7 @@ use Rattle.operators.specs.declared.Answer as Operators
 use Rattle.directives.specs.Promises as Whole
 use Rattle.directives.specs.declared.Answer as Directives
 use Rattle.listing.specs.declared.Stop.{Stop}
-use Rattle.listing.specs.Promises.{WriteListing, WriteRefusal, ListText}
+use Rattle.listing.specs.Promises.{WriteListing, WriteRefusal, WriteRefusalLine, ListText}
 use Rattle.listing.specs.declared.Answer as Listing
 
 -- ---- what goes in, and what comes out
@@ -193,6 +193,9 @@ pub record Refusal : Type 0 where
 
 abbrev pub write-refusal-promise : Refusal → Wrote Listing.Answer → Type 0
 write-refusal-promise i o = WriteRefusal (i .number) (i .place) (i .buffer) (o .buffer) (o .answer)
+
+abbrev pub write-refusal-line-promise : Refusal → Wrote Listing.Answer → Type 0
+write-refusal-line-promise i o = WriteRefusalLine (i .number) (i .place) (i .buffer) (o .buffer) (o .answer)
 
 -- The reader's buffers, and one for the line.
 abbrev pub list-text-promise : Lent × List ℕ → Left Listing.Answer × List ℕ → Type 0

@@ -53,6 +53,7 @@ use Rattle.rules.specs.Entries.{entries}
 use Rattle.rules.specs.Phases.{phaseOf}
 use Rattle.rules.specs.Grades.{grades}
 use Rattle.rules.specs.Selectors.{matched}
+use Rattle.spans.specs.Conversion.{fromOld, toOld}
 use Rattle.listing.specs.declared.Answer as Listing
 use Rattle.ascii.proofs.ends_operator_name as EndsOperatorName
 use Rattle.ascii.proofs.is_digit as IsDigit
@@ -127,11 +128,14 @@ use Rattle.directives.proofs.directives as DirectivesOf
 use Rattle.rules.proofs.grade as Grade
 use Rattle.rules.proofs.phase as Phase
 use Rattle.rules.proofs.selecting.RuleIdSelector.matches as Matches
+use Rattle.spans.proofs.span_from_old as SpanFromOld
+use Rattle.spans.proofs.span_to_old as SpanToOld
 use Rattle.listing.proofs.list_text as ListText
 use Rattle.listing.proofs.write_listing as WriteListing
 use Rattle.listing.proofs.write_refusal as WriteRefusal
+use Rattle.listing.proofs.write_refusal_line as WriteRefusalLine
 use Rattle.demands.specs.Contracts.{Promises, Decides, Answers, Keeps}
-use Rattle.demands.specs.Calls.{Lent, lent, Left, left, Wrote, wrote, Filling, finish-promise, Placing, site-word-promise, Replacing, resite-promise, Place, place, Records, Refusal, step-in-promise, next-token-promise, tokens-promise, Ending, end-reading-promise, parse-actions-promise, normalise-promise, read-actions-promise, parse-setvar-promise, parse-variables-promise, parse-update-targets-promise, From, read-targets-promise, operator-in-promise, parse-operator-promise, operator-argument-promise, directives-promise, write-listing-promise, write-refusal-promise, list-text-promise}
+use Rattle.demands.specs.Calls.{Lent, lent, Left, left, Wrote, wrote, Filling, finish-promise, Placing, site-word-promise, Replacing, resite-promise, Place, place, Records, Refusal, step-in-promise, next-token-promise, tokens-promise, Ending, end-reading-promise, parse-actions-promise, normalise-promise, read-actions-promise, parse-setvar-promise, parse-variables-promise, parse-update-targets-promise, From, read-targets-promise, operator-in-promise, parse-operator-promise, operator-argument-promise, directives-promise, write-listing-promise, write-refusal-promise, write-refusal-line-promise, list-text-promise}
 use Rattle.demands.specs.Rows.{Row}
 use Rattle.demands.specs.DirectiveRows as Directive
 use Rattle.demands.specs.Library.{OfLibrary}
@@ -204,6 +208,11 @@ pub record OfNames : Type 3 where
   pub phase : Answers Phase.ended (λ M 𝓤. Phase.spec 𝓤) Phase.Symbol.routine (λ _ a. phaseOf (entries (now (a .0))))
   pub grade : Answers Grade.ended (λ M 𝓤. Grade.spec 𝓤) Grade.Symbol.routine (λ _ a. grades (entries (now (a .0))))
   pub is-text : Answers IsText.ended (λ M 𝓤. IsText.spec 𝓤) IsText.Symbol.routine (λ _ a. getD (marksFor (a .0) (a .1 .0)) (a .1 .1 .0) false)
+
+-- Stored span words.
+pub record OfSpans : Type 3 where
+  pub span-from-old : Answers SpanFromOld.ended (λ M 𝓤. SpanFromOld.spec 𝓤) SpanFromOld.Symbol.routine (λ _ a. fromOld (a .0))
+  pub span-to-old : Answers SpanToOld.ended (λ M 𝓤. SpanToOld.spec 𝓤) SpanToOld.Symbol.routine (λ _ a. toOld (a .0))
 
 -- ---- the readers
 
@@ -300,6 +309,8 @@ pub record OfListing : Type 3 where
       (λ _ a. record { words = now (a .0); texts = now (a .1 .0); stop = a .1 .1 .0; buffer = now (a .1 .1 .1 .0) }) (λ _ r e. wrote r (now (e .1 .1 .1 .0)))
   pub write-refusal : Keeps WriteRefusal.ended (λ M 𝓤. WriteRefusal.spec 𝓤) WriteRefusal.Symbol.routine Refusal (Wrote Listing.Answer) write-refusal-promise
       (λ _ a. record { number = a .0; place = a .1 .0; buffer = now (a .1 .1 .0) }) (λ _ r e. wrote r (now (e .1 .1 .0)))
+  pub write-refusal-line : Keeps WriteRefusalLine.ended (λ M 𝓤. WriteRefusalLine.spec 𝓤) WriteRefusalLine.Symbol.routine Refusal (Wrote Listing.Answer) write-refusal-line-promise
+      (λ _ a. record { number = a .0; place = a .1 .0; buffer = now (a .1 .1 .0) }) (λ _ r e. wrote r (now (e .1 .1 .0)))
   pub list-text : Keeps ListText.ended (λ M 𝓤. ListText.spec 𝓤) ListText.Symbol.routine (Lent × List ℕ) (Left Listing.Answer × List ℕ) list-text-promise
       (λ _ a. (lent (now (a .0)) (now (a .1 .0)) (now (a .1 .1 .0)), now (a .1 .1 .1 .0)))
       (λ _ r e. (left r (now (e .1 .0)) (now (e .1 .1 .0)), now (e .1 .1 .1 .0)))
@@ -327,6 +338,7 @@ pub record Demand1 : Type 3 where
   pub of-numbers : OfNumbers
   pub of-lent : OfLent
   pub of-names : OfNames
+  pub of-spans : OfSpans
   pub of-lexer : OfLexer
   pub of-places : OfPlaces
   pub of-singles : OfSingles

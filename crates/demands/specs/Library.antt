@@ -14,6 +14,9 @@ use Rattle.rules.specs.Entries.{entries}
 use Rattle.rules.specs.Phases.{phaseOf}
 use Rattle.rules.specs.Grades.{grades}
 use Rattle.rules.specs.Selectors.{matched}
+use Rattle.spans.specs.Conversion.{fromOld, toOld}
+use Rattle.spans.specs.Promises as Spans
+use Rattle.spans.specs.declared.converting.Answer.{Answer as Converted}
 use Rattle.directives.specs.Promises as Whole
 use Rattle.listing.specs.Listings.{refusal}
 use Rattle.listing.specs.Promises as Listing
@@ -37,6 +40,8 @@ use Rattle.seclang.proofs.seclang_parse_setvar as SeclangParseSetvar
 use Rattle.seclang.proofs.seclang_parse_update_targets as SeclangParseUpdateTargets
 use Rattle.seclang.proofs.seclang_parse_variables as SeclangParseVariables
 use Rattle.seclang.proofs.seclang_plain_tokens as SeclangPlainTokens
+use Rattle.seclang.proofs.seclang_span_from_old as SeclangSpanFromOld
+use Rattle.seclang.proofs.seclang_span_to_old as SeclangSpanToOld
 use Rattle.seclang.proofs.seclang_tokens as SeclangTokens
 use Rattle.seclang.proofs.seclang_version as SeclangVersion
 use Rattle.demands.specs.Contracts.{Answers, Keeps}
@@ -64,6 +69,10 @@ steps-promise i o = Steps (i .0 .input) (i .0 .from) (i .0 .buffer) (o .0 .buffe
 -- an operator: its number, and the words for values
 abbrev pub operator-promise : With (List ℕ) → With ℕ → Type 0
 operator-promise i o = Told (Operators.givenBy (i .0) (Operators.operatorOutcome (i .0))) (i .1) (o .1) (o .0)
+
+-- a stored span word, by what it is in the other form
+abbrev pub converts-promise : (ℕ → Converted) → With ℕ → With ℕ → Type 0
+converts-promise to i o = Told (Spans.answerGiven (to (i .0))) (i .1) (o .1) (o .0)
 
 -- what is written of a listing, by what it comes to
 abbrev pub lists-promise : {In : Type 0} → (In → Listing.Outcome) → (In → List ℕ) → With In → With (Wrote ℕ) → Type 0
@@ -112,6 +121,10 @@ pub record OfLibrary : Type 3 where
   pub grade : Answers SeclangGrade.ended (λ M 𝓤. SeclangGrade.spec 𝓤) SeclangGrade.Symbol.routine (λ _ a. grades (entries (now (a .0))))
   pub version : Answers SeclangVersion.ended (λ M 𝓤. SeclangVersion.spec 𝓤) SeclangVersion.Symbol.routine (λ _ a. version)
   pub matches : Answers SeclangMatches.ended (λ M 𝓤. SeclangMatches.spec 𝓤) SeclangMatches.Symbol.routine (λ _ a. matched (selectorOf (a .0) (a .1 .0) (a .1 .1 .0)) (a .1 .1 .1 .0))
+  pub span-from-old : Keeps SeclangSpanFromOld.ended (λ M 𝓤. SeclangSpanFromOld.spec 𝓤) SeclangSpanFromOld.Symbol.routine (With ℕ) (With ℕ) (converts-promise fromOld)
+      (λ _ a. (a .0, now (a .1 .0))) (λ _ r e. (r, now (e .1 .0)))
+  pub span-to-old : Keeps SeclangSpanToOld.ended (λ M 𝓤. SeclangSpanToOld.spec 𝓤) SeclangSpanToOld.Symbol.routine (With ℕ) (With ℕ) (converts-promise toOld)
+      (λ _ a. (a .0, now (a .1 .0))) (λ _ r e. (r, now (e .1 .0)))
   pub write-listing : Keeps SeclangWriteListing.ended (λ M 𝓤. SeclangWriteListing.spec 𝓤) SeclangWriteListing.Symbol.routine (With Records) (With (Wrote ℕ)) (lists-promise recordsOutcome (λ i. i .buffer))
       (λ _ a. (
         record {

@@ -17,10 +17,12 @@ use Rattle.operators.specs.Promises as Operators
 use Rattle.operators.specs.declared.Answer as Operator
 use Rattle.directives.specs.Promises as Whole
 use Rattle.directives.specs.declared.Answer as Directives
+use Rattle.spans.specs.Conversion.{fromOld, toOld}
+use Rattle.spans.specs.Promises as Spans
 use Rattle.listing.specs.Promises as Listing
 use Rattle.listing.specs.declared.Answer as Listings
-use Rattle.demands.specs.Calls.{Lent, Left, Wrote, Place, Records, Refusal, step-in-promise, next-token-promise, tokens-promise, parse-actions-promise, parse-setvar-promise, parse-variables-promise, parse-update-targets-promise, operator-in-promise, parse-operator-promise, directives-promise, write-listing-promise, write-refusal-promise, list-text-promise}
-use Rattle.demands.specs.Library.{With, fills-promise, fills-actions-promise, fills-directives-promise, steps-promise, operator-promise, lists-promise, recordsOutcome, refusalOutcome, lists-text-promise}
+use Rattle.demands.specs.Calls.{Lent, Left, Wrote, Place, Records, Refusal, step-in-promise, next-token-promise, tokens-promise, parse-actions-promise, parse-setvar-promise, parse-variables-promise, parse-update-targets-promise, operator-in-promise, parse-operator-promise, directives-promise, write-listing-promise, write-refusal-promise, write-refusal-line-promise, list-text-promise}
+use Rattle.demands.specs.Library.{With, fills-promise, fills-actions-promise, fills-directives-promise, steps-promise, operator-promise, converts-promise, lists-promise, recordsOutcome, refusalOutcome, lists-text-promise}
 
 -- A call that keeps this promise never gives 6: of all that may come out, none has it for a number.
 abbrev pub Never : {In Out : Type 0} → (In → Out → Type 0) → (Out → ℕ) → Type 0
@@ -41,6 +43,9 @@ pub record OfReaders : Type 0 where
   pub directives : Never directives-promise (λ (o : Directives.Answer × Whole.Lent). Whole.answerGiven (o .0) .number)
   pub write-listing : Never write-listing-promise (λ (o : Wrote Listings.Answer). Listing.answerGiven (o .answer) .number)
   pub write-refusal : Never write-refusal-promise (λ (o : Wrote Listings.Answer). Listing.answerGiven (o .answer) .number)
+  pub write-refusal-line : Never write-refusal-line-promise (λ (o : Wrote Listings.Answer). Listing.answerGiven (o .answer) .number)
+  pub span-from-old : (w : ℕ) → Spans.answerGiven (fromOld w) .number ≡ 6 → ⊥
+  pub span-to-old : (w : ℕ) → Spans.answerGiven (toOld w) .number ≡ 6 → ⊥
   pub list-text : Never list-text-promise (λ (o : Left Listings.Answer × List ℕ). Listing.answerGiven (o .0 .answer) .number)
 
 -- The C functions: the number is what they return.
@@ -53,6 +58,8 @@ pub record OfLibrary : Type 0 where
   pub parse-update-targets : Never (fills-promise (λ i. Variables.updateOutcome (i .input) (length (i .text)) (length (i .records)))) (λ (o : With (Left ℕ)). o .0 .answer)
   pub parse-operator : Never operator-promise (λ (o : With ℕ). o .0)
   pub directives : Never fills-directives-promise (λ (o : With (ℕ × Whole.Lent)). o .0 .0)
+  pub span-from-old : Never (converts-promise fromOld) (λ (o : With ℕ). o .0)
+  pub span-to-old : Never (converts-promise toOld) (λ (o : With ℕ). o .0)
   pub write-listing : Never (lists-promise recordsOutcome (λ i. i .buffer)) (λ (o : With (Wrote ℕ)). o .0 .answer)
   pub write-refusal : Never (lists-promise refusalOutcome (λ i. i .buffer)) (λ (o : With (Wrote ℕ)). o .0 .answer)
   pub list-text : Never lists-text-promise (λ (o : With (Left ℕ × List ℕ)). o .0 .0 .answer)

@@ -51,4 +51,4 @@ selectorOf ranged start end = pick ranged (Range start end) (Single start)
 
 -- SECLANG_VERSION of the header that says what this library does
 abbrev pub version : ℕ
-version = 3
+version = 4

@@ -1,10 +1,13 @@
 // The readers and lookups for C and Rust: numbers and slices in, document 01's number back, its values in lent words.
+mod converting;
 mod looking;
 mod printing;
 mod reading;
 mod telling;
 mod versioning;
 
+pub use converting::seclang_span_from_old;
+pub use converting::seclang_span_to_old;
 pub use looking::seclang_grade;
 pub use looking::seclang_lookup;
 pub use looking::seclang_matches;

@@ -10,6 +10,7 @@ ghost use Rattle.variables.specs.Promises as Targeting;
 ghost use Rattle.operators.specs.Promises as Operating;
 ghost use Rattle.listing.specs.Promises as Listing;
 ghost use Rattle.directives.specs.Promises as Directing;
+ghost use Rattle.spans.specs.Promises as Converting;
 ghost use Rattle.seclang.specs.Told.{Told, NearName};
 use actions::Answer as Acted;
 use directives::Answer as Directed;
@@ -23,6 +24,7 @@ use lexer::Lexeme;
 use lexer::Step;
 use listing::Answer as Listed;
 use operators::Answer as Operated;
+use spans::Answer as Converted;
 use variables::Answer as Targeted;
 
 // A number, and its values where they fit.
@@ -214,6 +216,18 @@ pub fn tell_listed(answer: Listed, values: &mut [u64]) -> u64
         Listed::Written(n) => tell_one(0, n, values),
         Listed::NoRoom(needed) => tell_one(4, needed, values),
         Listed::NoToken(place) => tell_one(19, place, values),
+    }
+}
+
+pub fn tell_converted(answer: Converted, values: &mut [u64]) -> u64
+    ensures { λ r. ⌜ Told (Converting.answerGiven answer) (now (values .entry)) (now (values .exit)) r ⌝ }
+{
+    match answer {
+        Converted::Word(word) => {
+            let words = [word];
+            tell(0, &words, values)
+        }
+        Converted::TooFar => tell_one(21, 0, values),
     }
 }
 
