@@ -1,5 +1,4 @@
 // The answers for action lists and for a setvar alone.
-use crate::sizes;
 use crate::words::print_number;
 use crate::words::print_records;
 use crate::words::print_refusal;
@@ -26,7 +25,7 @@ fn print_answer(answer: Answer, text: &[u8], records: &[u64]) {
             print_number(0);
             print_number(count as u64);
             print_number(used as u64);
-            print_records(records, count, lent::ACTION_WORDS);
+            print_records(records, count, b"nnssnss");
             print_text(text, used);
         }
         Answer::TooLong => print_refusal(1, lent::LIMIT),
@@ -44,19 +43,14 @@ fn print_answer(answer: Answer, text: &[u8], records: &[u64]) {
 }
 
 // The scratch buffer comes last, without the zeros at its end.
-pub fn print_actions(input: &[u8]) {
-    let mut text = [0u8; sizes::TEXT];
-    let mut scratch = [0u8; sizes::TEXT];
-    let mut records = [0u64; sizes::ACTIONS];
-    let answer = actions::parse_actions(input, &mut text, &mut scratch, &mut records);
-    print_answer(answer, &text, &records);
+pub fn print_actions(input: &[u8], text: &mut [u8], scratch: &mut [u8], records: &mut [u64]) {
+    let answer = actions::parse_actions(input, text, scratch, records);
+    print_answer(answer, text, records);
     io::write_all(1, b" ");
-    print_text(&scratch, filled(&scratch));
+    print_text(scratch, filled(scratch));
 }
 
-pub fn print_setvar(input: &[u8]) {
-    let mut text = [0u8; sizes::SETVAR];
-    let mut records = [0u64; lent::ACTION_WORDS];
-    let answer = actions::parse_setvar(input, &mut text, &mut records);
-    print_answer(answer, &text, &records);
+pub fn print_setvar(input: &[u8], text: &mut [u8], records: &mut [u64]) {
+    let answer = actions::parse_setvar(input, text, records);
+    print_answer(answer, text, records);
 }

@@ -1,9 +1,8 @@
-// One answer, by the question's letter. docs/VECTORS.md lists the letters.
+// One answer, by the question's letter, in buffers that short or long questions have. docs/VECTORS.md lists the letters.
 use crate::acting;
-use crate::directing;
+use crate::converting;
 use crate::hexes;
 use crate::lexing;
-use crate::listings;
 use crate::matching;
 use crate::operating;
 use crate::phasing;
@@ -64,7 +63,34 @@ fn print_trimmed(s: &[u8]) {
     }
 }
 
-pub fn answer(letter: u8, body: &[u8]) {
+// What lends a text and records.
+pub fn answer_read(letter: u8, body: &[u8], text: &mut [u8], records: &mut [u64]) {
+    match letter {
+        b'T' => lexing::print_tokens(body, text, records),
+        b'P' => lexing::print_plain_tokens(body, text, records),
+        b'S' => lexing::print_step(body, text),
+        b'R' => thin::print_steps(body, text),
+        b'l' => targeting::print_variables(body, text, records),
+        _ => targeting::print_update(body, text, records),
+    }
+}
+
+// Action lists, and a setvar alone, which takes one record.
+pub fn answer_acted(
+    letter: u8,
+    body: &[u8],
+    text: &mut [u8],
+    scratch: &mut [u8],
+    records: &mut [u64],
+) {
+    match letter {
+        b'a' => acting::print_actions(body, text, scratch, records),
+        _ => acting::print_setvar(body, text, records),
+    }
+}
+
+// What lends nothing.
+pub fn answer_bare(letter: u8, body: &[u8]) {
     match letter {
         b'1' => print_number(ascii::unsigned(body, 255)),
         b'2' => print_number(ascii::unsigned(body, 65535)),
@@ -75,24 +101,15 @@ pub fn answer(letter: u8, body: &[u8]) {
         b'v' => print_code(names::variable_code(body)),
         b'o' => print_code(names::operator_code(body)),
         b's' => print_code(names::severity_code(body)),
-        b'T' => lexing::print_tokens(body),
-        b'P' => lexing::print_plain_tokens(body),
-        b'S' => lexing::print_step(body),
-        b'R' => thin::print_steps(body),
         b'p' => operating::print_operator(body),
         b'x' => selecting::print_xml(body),
-        b'l' => targeting::print_variables(body),
-        b'u' => targeting::print_update(body),
-        b'a' => acting::print_actions(body),
-        b'e' => acting::print_setvar(body),
-        b'D' => directing::print_directives(body),
-        b'L' => listings::print_listing(body),
         b'm' => matching::print_match(body),
         b'h' => phasing::print_phase(body),
         b'c' => print_flags(hexes::word(body)),
+        b'f' => converting::print_from_old(hexes::word(body)),
+        b'g' => converting::print_to_old(hexes::word(body)),
         _ => {
             io::write_all(1, b"?");
         }
     }
-    io::write_all(1, b"\n");
 }

@@ -1,8 +1,8 @@
 // The answer for a package: its directives, or the first fault.
-use crate::sizes;
 use crate::words::print_number;
 use crate::words::print_records;
 use crate::words::print_refusal;
+use crate::words::print_span_word;
 use crate::words::print_text;
 use directives::Answer;
 use directives::ArgumentFault;
@@ -47,7 +47,7 @@ fn print_fault(fault: Fault, text: &[u8]) {
         } => {
             let number = argument_number(why);
             print_three(number, line, at, len);
-            print_number(span);
+            print_span_word(span);
             print_text(text, if number == 8 { 0 } else { len });
         }
     }
@@ -66,9 +66,9 @@ fn print_answer(answer: Answer, text: &[u8], records: &[u64], variables: &[u64],
             print_number(v as u64);
             print_number(a as u64);
             print_number(used as u64);
-            print_records(records, d, lent::DIRECTIVE_WORDS);
-            print_records(variables, v, lent::VARIABLE_WORDS);
-            print_records(actions, a, lent::ACTION_WORDS);
+            print_records(records, d, b"nnssnnsnnnn");
+            print_records(variables, v, b"nnnnss");
+            print_records(actions, a, b"nnssnss");
             print_text(text, used);
         }
         Answer::TooLong => print_refusal(1, lent::LIMIT),
@@ -86,19 +86,14 @@ fn print_answer(answer: Answer, text: &[u8], records: &[u64], variables: &[u64],
     }
 }
 
-pub fn print_directives(input: &[u8]) {
-    let mut text = [0u8; sizes::TEXT];
-    let mut scratch = [0u8; sizes::TEXT];
-    let mut records = [0u64; sizes::DIRECTIVES];
-    let mut variables = [0u64; sizes::VARIABLES];
-    let mut actions = [0u64; sizes::ACTIONS];
-    let answer = directives::directives(
-        input,
-        &mut text,
-        &mut scratch,
-        &mut records,
-        &mut variables,
-        &mut actions,
-    );
-    print_answer(answer, &text, &records, &variables, &actions);
+pub fn print_directives(
+    input: &[u8],
+    text: &mut [u8],
+    scratch: &mut [u8],
+    records: &mut [u64],
+    variables: &mut [u64],
+    actions: &mut [u64],
+) {
+    let answer = directives::directives(input, text, scratch, records, variables, actions);
+    print_answer(answer, text, records, variables, actions);
 }

@@ -47,6 +47,20 @@ pub fn word(bytes: &[u8]) -> u64 {
     v
 }
 
+// The first `n` bytes, or all, as one number: each before times 31, and the next.
+pub fn sum_front(s: &[u8], n: usize) -> u64 {
+    let mut sum: u64 = 0;
+    let mut i = 0;
+    while i < n {
+        if s.len() <= i {
+            return sum;
+        }
+        sum = (sum % 4294967296) * 31 + s[i] as u64;
+        i += 1;
+    }
+    sum
+}
+
 fn print_byte(b: u8) {
     let pair = [digit_of(b / 16), digit_of(b % 16)];
     io::write_all(1, &pair);

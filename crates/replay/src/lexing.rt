@@ -1,6 +1,5 @@
 // The lexer's answers: a whole text, and one step.
 use crate::hexes;
-use crate::sizes;
 use crate::words::print_number;
 use crate::words::print_records;
 use crate::words::print_refusal;
@@ -30,7 +29,7 @@ fn print_read(answer: Answer, text: &[u8], records: &[u64]) {
             print_number(line.0 as u64);
             print_number(column.0 as u64);
             print_number(used as u64);
-            print_records(records, count, lent::TOKEN_WORDS);
+            print_records(records, count, b"nnnss");
             print_text(text, used);
         }
         Answer::TooLong => print_refusal(1, lent::LIMIT),
@@ -40,18 +39,14 @@ fn print_read(answer: Answer, text: &[u8], records: &[u64]) {
     }
 }
 
-pub fn print_tokens(input: &[u8]) {
-    let mut text = [0u8; sizes::TEXT];
-    let mut records = [0u64; sizes::RECORDS];
-    let answer = lexer::tokens(input, &mut text, &mut records);
-    print_read(answer, &text, &records);
+pub fn print_tokens(input: &[u8], text: &mut [u8], records: &mut [u64]) {
+    let answer = lexer::tokens(input, text, records);
+    print_read(answer, text, records);
 }
 
-pub fn print_plain_tokens(input: &[u8]) {
-    let mut text = [0u8; sizes::TEXT];
-    let mut records = [0u64; sizes::RECORDS];
-    let answer = plain::plain_tokens(input, &mut text, &mut records);
-    print_read(answer, &text, &records);
+pub fn print_plain_tokens(input: &[u8], text: &mut [u8], records: &mut [u64]) {
+    let answer = plain::plain_tokens(input, text, records);
+    print_read(answer, text, records);
 }
 
 fn kind_code(k: Kind) -> u64 {
@@ -111,7 +106,7 @@ pub fn print_found(step: Step, text: &[u8]) {
 }
 
 // The body is a cursor, three words and a byte, and then the text.
-pub fn print_step(body: &[u8]) {
+pub fn print_step(body: &[u8], text: &mut [u8]) {
     if body.len() < 25 {
         return;
     }
@@ -121,7 +116,6 @@ pub fn print_step(body: &[u8]) {
         column: Column(hexes::word(&body[16..24]) as usize),
         mark: body[24] == 1,
     };
-    let mut text = [0u8; sizes::TEXT];
-    let step = lexer::next_token(&body[25..], from, &mut text);
-    print_found(step, &text);
+    let step = lexer::next_token(&body[25..], from, text);
+    print_found(step, text);
 }

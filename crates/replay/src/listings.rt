@@ -13,12 +13,9 @@ fn print_line(out: &[u8], n: usize) {
     io::write_all(1, &out[..end]);
 }
 
-pub fn print_listing(input: &[u8]) {
-    let mut text = [0u8; listing::LIST_LIMIT];
-    let mut records = [0u64; listing::LIST_RECORDS];
-    let mut out = [0u8; listing::LIST_LINE];
-    match listing::list_text(input, &mut text, &mut records, &mut out) {
-        Answer::Written(n) => print_line(&out, n),
+pub fn print_listing(input: &[u8], text: &mut [u8], records: &mut [u64], out: &mut [u8]) {
+    match listing::list_text(input, text, records, out) {
+        Answer::Written(n) => print_line(out, n),
         Answer::NoRoom(_) => {}
         Answer::NoToken(_) => {}
     }

@@ -2,15 +2,18 @@
 // has the original's answers, and the check compares the two.
 mod acting;
 mod answers;
+mod converting;
 mod directing;
 mod hexes;
 mod lexing;
 mod lines;
 mod listings;
+mod long;
 mod matching;
 mod operating;
 mod phasing;
 mod selecting;
+mod short;
 mod sizes;
 mod targeting;
 mod thin;
@@ -29,7 +32,12 @@ fn answer_one() -> bool {
     }
     let mut body = [0u8; sizes::BODY];
     let len = hexes::decode(&line[2..n], &mut body);
-    answers::answer(line[0], &body[..len]);
+    if line[1] == b'*' {
+        long::answer(line[0], &body[..len]);
+    } else {
+        short::answer(line[0], &body[..len]);
+    }
+    io::write_all(1, b"\n");
     true
 }
 

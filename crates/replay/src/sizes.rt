@@ -1,10 +1,15 @@
 // The buffers of this program: what the stored questions and their answers need.
-pub const TEXT: usize = lent::LIMIT;
 
-// What parse_setvar asks for such a text.
-pub const SETVAR: usize = TEXT + 3;
+// Texts as long as the library took them when most questions were stored.
+pub const SHORT: usize = 16384;
 
-// More pieces than a text can have of two bytes and the mark between two.
+// What parse_setvar asks for a text.
+pub const SHORT_SETVAR: usize = SHORT + 3;
+
+// Enough for a long question, its text and its line, each with few bytes more than the limit.
+pub const LONG_BYTES: usize = lent::LIMIT + 4096;
+
+// More pieces than a short text can have of two bytes and the mark between two.
 const PIECES: usize = 5462;
 
 // Words of token and variable records, and of action records.
@@ -20,10 +25,10 @@ pub const VARIABLES: usize = PIECES * lent::VARIABLE_WORDS;
 // Words of the records that a phase is asked of.
 pub const PHASED: usize = 64 * lent::ACTION_WORDS;
 
-// A span word's base in the stored answers.
-pub const SPAN: u64 = 65536;
+// A span word's base.
+pub const SPAN: u64 = 4294967296;
 
 // A question's bytes, and its line, in which each is two digits.
-pub const BODY: usize = 2 * lent::LIMIT;
+pub const BODY: usize = 2 * SHORT;
 
 pub const LINE: usize = 2 * BODY;

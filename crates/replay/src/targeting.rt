@@ -1,5 +1,4 @@
-// The answers of the two parsers of lists, each with buffers of its own.
-use crate::sizes;
+// The answers of the two parsers of lists.
 use crate::words::print_number;
 use crate::words::print_records;
 use crate::words::print_refusal;
@@ -13,7 +12,7 @@ fn print_answer(answer: Answer, text: &[u8], records: &[u64]) {
             print_number(0);
             print_number(count as u64);
             print_number(used as u64);
-            print_records(records, count, lent::VARIABLE_WORDS);
+            print_records(records, count, b"nnnnss");
             print_text(text, used);
         }
         Answer::TooLong => print_refusal(1, lent::LIMIT),
@@ -24,16 +23,12 @@ fn print_answer(answer: Answer, text: &[u8], records: &[u64]) {
     }
 }
 
-pub fn print_variables(input: &[u8]) {
-    let mut text = [0u8; sizes::TEXT];
-    let mut records = [0u64; sizes::RECORDS];
-    let answer = variables::parse_variables(input, &mut text, &mut records);
-    print_answer(answer, &text, &records);
+pub fn print_variables(input: &[u8], text: &mut [u8], records: &mut [u64]) {
+    let answer = variables::parse_variables(input, text, records);
+    print_answer(answer, text, records);
 }
 
-pub fn print_update(input: &[u8]) {
-    let mut text = [0u8; sizes::TEXT];
-    let mut records = [0u64; sizes::RECORDS];
-    let answer = variables::parse_update_targets(input, &mut text, &mut records);
-    print_answer(answer, &text, &records);
+pub fn print_update(input: &[u8], text: &mut [u8], records: &mut [u64]) {
+    let answer = variables::parse_update_targets(input, text, records);
+    print_answer(answer, text, records);
 }

@@ -6,10 +6,10 @@ use Rattle.replay.proofs.words.print_records.Statement.{statement}
 use Rattle.replay.proofs.words.print_records.Tie as tie
 
 abbrev Inv-loop : tie.InvT-loop
-Inv-loop records count width i₀ i = i ≤ length records
+Inv-loop records count shape width i₀ at₀ i at = i ≤ length records
 
 abbrev μ-loop : tie.MeasureT-loop
-μ-loop records count width i₀ i = length records - i
+μ-loop records count shape width i₀ at₀ i at = length records - i
 
 pub print-records-spec : {M : Type 1} → statement M
 print-records-spec =
@@ -22,7 +22,13 @@ print-records-spec =
     (λ c. search needs)
     (λ c. search needs)
     (λ c. search needs)
+    (λ c. search needs)
+    (λ c. search needs)
     (λ c κs. search needs)
+    (λ c. search needs)
+    (λ c. search needs)
+    (λ c. search needs)
+    (λ c. search needs)
     (λ c. search needs)
     (λ c. search needs)
     (λ c. search needs)
