@@ -44,7 +44,7 @@ use Rattle.variables.proofs.MeantLaws.{refused-there}
 use Rattle.operators.specs.Operators.{operator}
 use Rattle.operators.specs.Promises as Operators
 use Rattle.operators.proofs.PromiseLaws.{parse-operator-0, parse-operator-1, parse-operator-2, parse-operator-8}
-use Rattle.listing.proofs.JsonLaws.{printed-json}
+use Rattle.listing.proofs.JsonLaws.{printed-json, line-json}
 use Rattle.demands.specs.Calls.{Lent, Left, parse-setvar-promise}
 use Rattle.demands.specs.Demand2.{Equals, tokensIn, Equal, Past, ActionsExact, SetvarExact, TargetsExact, Exact, FirstInvalid, OneError, Sources, Demand2}
 use Rattle.demands.proofs.SourcelessLaws.{actions-old, actions-new, variables-old, variables-new}
@@ -98,6 +98,7 @@ equal = record {
   parse-operator = λ s r x h. x .answer ∙ ap (Operators.givenBy s) (operator-is s h);
   operator-argument = λ s part x h. x .argument ∙ ap (Operators.argumentOf s) (operator-is (s .bytes) h);
   listing = λ s. printed-json s;
+  listed = line-json;
 }
 
 -- ---- each number exactly when

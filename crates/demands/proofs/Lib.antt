@@ -19,4 +19,6 @@ pub mod TokenTexts
 pub mod UnderlineLaws
 pub mod UnderlineCalls
 pub mod Underline
+pub mod StoredSpans
+pub mod StoredReaders
 pub mod NoSix

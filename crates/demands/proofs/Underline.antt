@@ -4,9 +4,9 @@
 use mathlib.Core.Path.{_≡_, _∙_, refl, sym, ap, subst}
 use mathlib.Core.Bool.{Bool, true, false}
 use mathlib.Core.List.{List, [], _∷_, map, append-nil}
-use Prim.Native.Nat.{ℕ, _+_, _-_}
+use Prim.Native.Nat.{ℕ, _+_, _-_, _≤_}
 use native.Mathlib.Omega.{arith}
-use lib.ListN.{length, take, drop}
+use lib.ListN.{length, take, drop, getD, length-take, length-drop}
 use lib.Dec.{ltb}
 use Rattle.ascii.specs.Choice.{pick}
 use Rattle.ascii.specs.Classes.{white}
@@ -21,7 +21,10 @@ use Rattle.lexer.specs.Tokens.{Token, reading}
 use Rattle.lexer.specs.Layout.{textOf}
 use Rattle.lexer.specs.Places.{Placed, All, nil, cons}
 use Rattle.lexer.proofs.PlaceLaws.{all-map, places}
+use Rattle.places.specs.declared.Rule.{Rule}
 use Rattle.places.specs.declared.Rule.the-variants as Rule
+use Rattle.places.specs.Sites.{siteOf}
+use Rattle.places.proofs.SiteLaws.{site-bounds}
 use Rattle.single_action.specs.Actions.{Action}
 use Rattle.actions.specs.Normal.{normalised}
 use Rattle.actions.specs.Lists.{normalSite, actionsOf}
@@ -38,13 +41,13 @@ use Rattle.directives.specs.Groups.{Item, joined, stray, argumentBy, argumentsO
 use Rattle.directives.specs.Directives as Whole
 use Rattle.directives.specs.declared.shapes.Shape.{Shape}
 use Rattle.directives.specs.declared.shapes.Shape.the-variants.{Rule as ofRule, Action as ofAction, Marker as ofMarker, Defaults as ofDefaults, Other as ofOther}
-use Rattle.directives.specs.Directives.{shapeOf, listedBy, ruleBy, actBy, told, bodyBy, siteAt, standing, argumentSite, listSite, listNumber, refusalSite, sited, lastPast, placed, directiveOf, itemRead, before, ending, endOf}
-use Rattle.demands.specs.Underline.{bytesIn, whole, asTheyAre, Each, ActionThere, ActionsThere, TargetsThere, Among, here, there, IsArgument, lexed, listed, Argument, ActionIn, BodyIn, DirectiveIn, RefusalIn, FaultIn, PackageIn, Underline}
+use Rattle.directives.specs.Directives.{shapeOf, listedBy, ruleBy, actBy, told, bodyBy, isMark, between, siteAt, standing, argumentSite, listSite, listNumber, refusalSite, sited, lastPast, placed, directiveOf, itemRead, before, ending, endOf}
+use Rattle.demands.specs.Underline.{bytesIn, whole, asTheyAre, Each, ActionThere, ActionsThere, TargetsThere, Among, here, there, IsArgument, lexed, listed, Argument, ActionIn, BodyIn, EndsIn, DirectiveIn, RefusalIn, FaultIn, PackageIn, Underline}
 use Rattle.demands.proofs.TokenTexts.{Stands, tokens-stand}
 use Rattle.demands.proofs.UnderlineLaws.{Carries, plain-carries, normal-carries, site-carries, both-carries, list-there, sitedTargets, targets-there, hanging-there, targets-still}
 use Rattle.demands.proofs.UnderlineCalls.{actions-told, variables-told, update-targets-told, directives-told}
 
-each-map : {A : Type 0} {P Q : A → Type 0} → ((x : A) → P x → Q x) → (xs : List A) → Each P xs → Each Q xs
+pub each-map : {A : Type 0} {P Q : A → Type 0} → ((x : A) → P x → Q x) → (xs : List A) → Each P xs → Each Q xs
 each-map f [] w = tt
 each-map f (x ∷ xs) w = (f x (w .0), each-map f xs (w .1))
 
@@ -81,6 +84,24 @@ module _ (s : List ℕ) where
   carries : (t : Token) → Argument s t → Carried (t .kind) t
   carries t a = token-carries (t .kind) t (a .kind) (one-among (tokens-stand s) (a .among)) (one-among (places s) (a .among))
 
+  -- wherever a part of its text is put, it is in the package
+  site-ends : (t : Token) → Argument s t → (x : Part) → EndsIn s (siteAt s (standing t) x)
+  unfolding siteAt
+  site-ends t a x = go (isMark (getD s (t .first) 0))
+    where
+      p : Placed s t
+      p = one-among (places s) (a .among)
+
+      put : (rule : Rule) (k : ℕ) → k ≤ t .past → EndsIn s (siteOf rule k (between s k (t .past)) x)
+      put rule k h =
+          let b = site-bounds rule k (between s k (t .past)) x in
+          let n : k + length (between s k (t .past)) ≤ length s = rw (length-take, length-drop) (omega (arith, p .inside)) in
+          (omega (arith, b .order, b .high), omega (arith, b .high))
+
+      go : (u : Bool) → EndsIn s (pick u (siteOf Rule.Quoted (t .first + 1) (between s (t .first + 1) (t .past))) (siteOf Rule.Word (t .first) (between s (t .first) (t .past))) x)
+      go true = put Rule.Quoted (t .first + 1) (omega (arith, p .some))
+      go false = put Rule.Word (t .first) (omega (arith, p .some))
+
   list-carries : (t : Token) → Argument s t → Carries (listed (t .kind)) s (standing t) (λ x. siteAt s (standing t) (normalSite (t .text) x)) (normalised (t .text))
   list-carries t a = both-carries (carries t a)
 
@@ -102,7 +123,7 @@ module _ (s : List ℕ) where
 
   abbrev Taken : List Item → Type 0
   Taken [] = Unit {0}
-  Taken (joined t args ∷ xs) = All (Argument s) args × Taken xs
+  Taken (joined t args ∷ xs) = (EndsIn s (standing t) × All (Argument s) args) × Taken xs
   Taken (stray t ∷ xs) = Taken xs
 
   items-are : (taking : Bool) (ts : List Token) → All (λ t. Among t (reading s .tokens)) ts → Taken (items taking ts)
@@ -111,7 +132,7 @@ module _ (s : List ℕ) where
   items-are taking (t ∷ ts) (cons h hs) = go (t .kind) taking (items-are true ts hs) (items-are false ts hs)
     where
       go : (k : Kind) (taking : Bool) → Taken (items true ts) → Taken (items false ts) → Taken (itemBy k taking t ts (λ now. items now ts))
-      go Directive taking a b = (arguments-are ts hs, a)
+      go Directive taking a b = let p = one-among (places s) h in (((omega (arith, p .some, p .inside), p .inside), arguments-are ts hs), a)
       go Word true a b = a
       go Word false a b = b
       go QuotedString true a b = a
@@ -168,7 +189,7 @@ module _ (s : List ℕ) where
     rule-found (Of.refused i name x) op ks w e h = (v, (a, w))
     rule-found (Of.targets vs es) (Operator.unknown name) ks w e h =
         let n : ℕ = namePlace (o .text) in
-        (o, (b, λ some. carries o b .carry (part n (n + length name)) (omega (arith, some)) (refused-inside (o .text) name e)))
+        (o, (b, (site-ends o b (part n (n + length name)), λ some. carries o b .carry (part n (n + length name)) (omega (arith, some)) (refused-inside (o .text) name e))))
     rule-found (Of.targets vs es) (Operator.accepted x) (refuses f) w e h = h
     rule-found (Of.targets vs es) (Operator.accepted x) (reads xs) w e h = (
       (each-map (λ x k. (v, (a, k))) (sitedAll (siteAt s (standing v)) vs) (w .0), each-map (λ x k. (v, (a, k))) (sitedAll (siteAt s (standing v)) es) (w .1)),
@@ -218,9 +239,14 @@ module _ (s : List ℕ) where
   OneFound (Whole.bad f) = FaultIn s f
   OneFound (Whole.good d) = DirectiveIn s d
 
-  placed-there : (l first past : ℕ) (x : Whole.Result Whole.Body) → BodyFound x → OneFound (placed l first past x)
-  placed-there l first past (Whole.bad f) w = w
-  placed-there l first past (Whole.good x) w = w
+  placed-there : (l first past : ℕ) (x : Whole.Result Whole.Body) → EndsIn s (part first past) → BodyFound x → OneFound (placed l first past x)
+  placed-there l first past (Whole.bad f) e w = w
+  placed-there l first past (Whole.good x) e w = (e, w)
+
+  last-in : (p : ℕ) (args : List Token) → p ≤ length s → All (Argument s) args → lastPast p args ≤ length s
+  unfolding lastPast
+  last-in p [] h nil = h
+  last-in p (t ∷ ts) h (cons a w) = last-in (t .past) ts (a .inside) w
 
   before-there : (x : Whole.Result Whole.Directive) (o : Whole.Result (List Whole.Directive)) → OneFound x → PackageIn s o → PackageIn s (before x o)
   before-there (Whole.bad f) o h w = h
@@ -233,7 +259,8 @@ module _ (s : List ℕ) where
   ending-there o w (joined t args ∷ xs) h =
       before-there (itemRead s (joined t args)) (ending s o xs)
       (placed-there (t .line .0) (t .first) (lastPast (t .past) args) (sited s (shapeOf (t .text)) args (bodyBy (shapeOf (t .text)) (t .line .0) (t .text) (map textOf args)))
-      (body-there (shapeOf (t .text)) (t .line .0) (t .text) args (h .0)))
+      (h .0 .0 .0, last-in (t .past) args (h .0 .0 .1) (h .0 .1))
+      (body-there (shapeOf (t .text)) (t .line .0) (t .text) args (h .0 .1)))
       (ending-there o w xs (h .1))
   ending-there o w (stray t ∷ xs) h = tt
 

@@ -50,7 +50,7 @@ use Rattle.operators.specs.Calls as Operator
 use Rattle.operators.specs.Promises as Operators
 use Rattle.operators.specs.declared.Answer as Parsed
 use Rattle.listing.specs.Grammar.{JsonText}
-use Rattle.listing.specs.Listings.{printed}
+use Rattle.listing.specs.Listings.{lineOf, printed}
 use Rattle.demands.specs.Sourceless.{actionTexts, variableTexts, sources, bare, rustActions, bareTargets, rustTargets, variablePlaces, exclusionPlaces}
 use Rattle.demands.specs.Calls.{Lent, Left, Wrote, Place, next-token-promise, tokens-promise, parse-actions-promise, parse-setvar-promise, parse-variables-promise, parse-update-targets-promise, parse-operator-promise, operator-argument-promise}
 
@@ -90,8 +90,9 @@ pub record Equal : Type 0 where
       → Operators.answerGiven r ≡ Operators.givenBy s (Operators.outcomeOf s (operator s))
   pub operator-argument : (s part : Standing) → operator-argument-promise s part → Opened (s .bytes) 0 0
       → part ≡ Operators.argumentOf s (Operators.outcomeOf (s .bytes) (operator (s .bytes)))
-  -- RFC 8259: whatever bytes are read, what the listing program prints is a JSON text
+  -- RFC 8259: whatever bytes are read, what the listing program prints is a JSON text, and so is the line of a call, whatever is lent
   pub listing : (s : List ℕ) → JsonText (printed s)
+  pub listed : (s : List ℕ) (n m : ℕ) → JsonText (lineOf s (givenBy (Lexer.tokensOutcome s n m)))
 
 -- ---- each number exactly when
 

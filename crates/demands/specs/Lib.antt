@@ -12,4 +12,5 @@ pub mod Sourceless
 pub mod Demand2
 pub mod WholeDirectives
 pub mod Underline
+pub mod StoredSpans
 pub mod NoSix

@@ -172,15 +172,20 @@ module _ (s : List ℕ) where
   BodyIn (Whole.defaults xs) = Each ActionIn xs
   BodyIn (Whole.unknown name) = Unit {0}
 
-  abbrev pub DirectiveIn : Whole.Directive → Type 0
-  DirectiveIn d = BodyIn (d .body)
+  -- A part whose ends stand in the package.
+  abbrev pub EndsIn : Part → Type 0
+  EndsIn x = (x .first ≤ length s) × (x .past ≤ length s)
 
-  -- A refusal: its piece; of an operator, its name, where it has a byte.
+  -- A directive: where it stands, and its body.
+  abbrev pub DirectiveIn : Whole.Directive → Type 0
+  DirectiveIn d = EndsIn (part (d .first) (d .past)) × BodyIn (d .body)
+
+  -- A refusal: its piece; of an operator, its name, where it has a byte, and else a place in the package.
   abbrev pub RefusalIn : Refusal → Type 0
   RefusalIn (named noAction k name x) = Somewhere (λ t. PieceThere (listed (t .kind)) s (standing t) (named noAction k name x))
   RefusalIn (named (noArgument flaw) k name x) = Somewhere (λ t. PieceThere (listed (t .kind)) s (standing t) (named (noArgument flaw) k name x))
   RefusalIn (named noVariable k name x) = Somewhere (λ t. NameThere (lexed (t .kind)) s (standing t) AsWritten name x)
-  RefusalIn (unknownOperator p n x) = Somewhere (λ t. 0 < n → Underlined (lexed (t .kind)) s (standing t) x (bytesIn (t .text) (part p (p + n))))
+  RefusalIn (unknownOperator p n x) = Somewhere (λ t. EndsIn x × (0 < n → Underlined (lexed (t .kind)) s (standing t) x (bytesIn (t .text) (part p (p + n)))))
   RefusalIn tooLong = ⊥
   RefusalIn (notAscii p) = ⊥
   RefusalIn shortBuffer = ⊥
