@@ -9,21 +9,24 @@
  * null. A bool is 0 or 1. Lengths of records and values are in words, not bytes. The library's number is the header's:
  * seclang_version() == SECLANG_VERSION.
  *
- * WHAT IS NEW IN VERSION 3. An action record has 7 words for 6, and a variable record 6 for 5: behind the old ones
- * stands the span in the input that it was read from. 5, 7, 8 and 10 to 12 give the span of what they refuse as one
- * more value, the last. A host that was compiled for version 2 reads records of the wrong width and must be compiled
- * again; one that uses SECLANG_ACTION_WORDS and SECLANG_VARIABLE_WORDS need not change. In version 2, 10 to 12 took
- * the place of 6.
+ * WHAT IS NEW IN VERSION 4. An input may have 1048576 bytes for 16384, and a cursor's line and column may be 1048577
+ * for 16385. A span word is offset * 4294967296 + length; it was offset * 65536 + length. A host that was compiled for
+ * version 3 takes spans apart wrongly and must be compiled again; one that uses SECLANG_SPAN_OFFSET and
+ * SECLANG_SPAN_LENGTH need not change its source. Span words that a host has stored become those of this version by
+ * seclang_span_from_old, and seclang_span_to_old leads back. What is sized by SECLANG_LIMIT is now 64 times as large:
+ * see how much to lend. In version 3 action and variable records got one more word and 5, 7, 8 and 10 to 12 one more
+ * value, the last: the span of what was read or refused. In version 2, 10 to 12 took the place of 6.
  *
  * NUMBERS AND VALUES. A reader returns a number and stores its values at the front of `values` where they fit whole;
  * no other word of `values` is touched, and none at all where they do not fit. SECLANG_VALUES_MOST words are enough
  * for every reader. The numbers are tried in the order 1, 2, 3, 9, then 5, 7, 8 and 10 to 12 at the first bad piece,
  * then 19, then 4. In a package 5, 7, 8 and 10 to 15 come in the order of the text; of one directive 13 first, then its
- * variables, its operator and its actions. No call gives 6.
+ * variables, its operator and its actions. 21 is for the two that convert span words, and they give no other but 0. No
+ * call gives 6.
  *
  *   number  given exactly when                                values          text and records afterwards
  *   0       none below                                        by reader       what was read, and zeros beyond
- *   1       the input is over 16384 bytes                     16384           untouched
+ *   1       the input is over 1048576 bytes                   1048576         untouched
  *   2       a byte is 128 or more                             its place       untouched
  *   3       text or scratch is shorter than the input         0               untouched
  *   4       more records than fit (a listing: more bytes)     how many        all zero
@@ -33,7 +36,7 @@
  *   8       unknown operator                                  place, length,  nothing is lent
  *                                                             span
  *   9       a cursor past the end, or a line or column that   0               untouched
- *           is 0 or above 16385
+ *           is 0 or above 1048577
  *   10      an action that must have an argument has none     as for 5        the action's name and zeros; zero
  *   11      an argument that says no number                   as for 5        as for 10
  *   12      an argument that is a number past its width       as for 5        as for 10
@@ -41,6 +44,8 @@
  *   14      a word or string that no directive takes          line            all zero
  *   15      reading stopped early, and all before is good     line            all zero
  *   19      a record that no reader makes (listings)          its number      all zero
+ *   21      a span word whose offset or length is above       0               nothing is lent
+ *           65535 (conversions)
  *
  * A place is counted from 0, and so is a piece, among those of a list that are not empty. The length is the name's. The
  * span is that of the piece in the input, for an editor to underline; of 8 the name's, and where no name stands behind
@@ -53,8 +58,8 @@
  * in the operator's argument as it was read and the span in the package, 8 leaves all lent memory zero, and the values
  * of 4 are directive, variable and action records.
  *
- * RECORDS are whole u64 words. A text is told by a span, offset * 65536 + length, the offset into `text` unless said;
- * SECLANG_SPAN_OFFSET and SECLANG_SPAN_LENGTH take it apart. Texts have no zero byte at their end.
+ * RECORDS are whole u64 words. A text is told by a span, offset * 4294967296 + length, the offset into `text` unless
+ * said; SECLANG_SPAN_OFFSET and SECLANG_SPAN_LENGTH take it apart. Texts have no zero byte at their end.
  *
  *   token, 5 words:     kind, line, column, span in the input, text. Comments and newlines have an empty text.
  *   action, 7 words:    code, number, a, b, value kind, c, source. Beside each action below stands which of the first
@@ -83,7 +88,11 @@
  * given. That is proved (BoundLaws in the proofs of lexer, actions, variables and directives); that some input of each
  * length needs as many is tested, but for whole directives, where fewer may do. With less room, 4 says how many records
  * this input needs, and the call can be made again.
- * Zeros are written to the end of what is lent, so a large buffer for a small input costs time.
+ * Zeros are written to the end of what is lent, so a large buffer for a small input costs time. At the limit the most
+ * is 40 MiB of token records, 24 of variables, 19 of actions and 16 of update targets, and 72 for the three buffers of
+ * seclang_directives together. Rules as people write them need a small part of that: a record in six bytes is mostly
+ * enough, and for a package a directive in 24, a variable in 16 and an action in 12. Lend that, and after 4 what it
+ * says.
  */
 #ifndef SECLANG_H
 #define SECLANG_H
@@ -99,13 +108,16 @@ extern "C" {
 /* What stands between `made` and `end` is written by tools/header, from the tables that the proofs cite. */
 
 /* The header's version, the longest input, a cursor's largest line and column, the code of a name that has none, the
- * base of a span, and how many words a record has. */
+ * base of a span, its base before version 4 and the largest offset and length that are converted, and how many words a
+ * record has. */
 /* made: sizes */
-#define SECLANG_VERSION 3
-#define SECLANG_LIMIT 16384
-#define SECLANG_CURSOR_MOST 16385
+#define SECLANG_VERSION 4
+#define SECLANG_LIMIT 1048576
+#define SECLANG_CURSOR_MOST 1048577
 #define SECLANG_UNKNOWN UINT64_MAX
-#define SECLANG_SPAN_BASE 65536
+#define SECLANG_SPAN_BASE UINT64_C(4294967296)
+#define SECLANG_OLD_SPAN_BASE 65536
+#define SECLANG_OLD_SPAN_MOST 65535
 #define SECLANG_TOKEN_WORDS 5
 #define SECLANG_ACTION_WORDS 7
 #define SECLANG_VARIABLE_WORDS 6
@@ -129,8 +141,8 @@ extern "C" {
 #define SECLANG_DIRECTIVES_ACTIONS_MOST(n) ((n) / 3)
 
 /* The line of seclang_list_text for n bytes of text is never longer: proved for a text that is read, in
- * listing/proofs/BoundLaws, and a line feed; the line of a refusal is shorter. */
-#define SECLANG_LISTING_MOST(n) (35 * (n) + 27)
+ * listing/proofs/BoundLaws (listing-most), and a line feed; the line of a refusal is shorter. */
+#define SECLANG_LISTING_MOST(n) (39 * (n) + 31)
 
 /* made: numbers */
 enum seclang_number {
@@ -149,7 +161,8 @@ enum seclang_number {
     SECLANG_WRONG_COUNT = 13,
     SECLANG_UNTAKEN = 14,
     SECLANG_STOPPED = 15,
-    SECLANG_NO_TOKEN = 19
+    SECLANG_NO_TOKEN = 19,
+    SECLANG_TOO_FAR = 21
 };
 /* end */
 
@@ -448,7 +461,9 @@ uint64_t seclang_version(void);
  * counted on from those of the cursor, whatever they are. `text` is asked to be as long as the input; the token's text
  * is written at its front and nothing beyond is touched. Values with 0: 1, kind, line, column, first byte, length of
  * the text, and the next cursor's place, line, column and mark; or 0 and the cursor where reading stands, when no
- * token is left: at the end, or at a vertical tab or a form feed where a token would start. */
+ * token is left: at the end, or at a vertical tab or a form feed where a token would start.
+ * Every step reads the whole input for 1 and 2, so that stepping through a text takes time that grows with the square
+ * of its length. seclang_tokens reads it once, and its time grows with the length alone. */
 uint64_t seclang_next_token(const uint8_t *input, size_t input_len, size_t place, size_t line, size_t column, bool mark,
                             uint8_t *text, size_t text_len, uint64_t *values, size_t values_len);
 
@@ -517,6 +532,14 @@ bool seclang_grade(const uint64_t *records, size_t records_len);
 
 /* Whether a selector takes an id: start alone, or with `ranged` from start to end, both included. */
 bool seclang_matches(bool ranged, uint64_t start, uint64_t end, uint64_t id);
+
+/* A span word of version 3 or before, offset * SECLANG_OLD_SPAN_BASE + length, as one of this version, and back.
+ * Numbers 0 and 21. Value: the word, or with 21, given exactly when its offset or length is above
+ * SECLANG_OLD_SPAN_MOST, 0. An old word's length never is, and its offset may be any. Where a word is converted, the
+ * other function gives it back. 0 stays 0, so that words of a record that are not used may be converted with the
+ * rest. */
+uint64_t seclang_span_from_old(uint64_t word, uint64_t *values, size_t values_len);
+uint64_t seclang_span_to_old(uint64_t word, uint64_t *values, size_t values_len);
 
 /* A text's listing, as JSON and a line feed, in `out`; `text` and `records` as seclang_tokens leaves them. A text that
  * is refused lists as [number,place]. Values: the bytes written, or with 4 needed. Unless it is 4, the number is 0. */

@@ -33,7 +33,9 @@ int main(int argc, char **argv)
     FILE *file = argc == 2 ? fopen(argv[1], "rb") : NULL;
     if (!file) return fprintf(stderr, "ids: give one file that can be read\n"), 2;
     size_t n = fread(input, 1, ROOM, file);
-    uint64_t number = seclang_tokens(input, n, text, n, tokens, TOKENS, values, SECLANG_VALUES_MOST);
+    /* All that is lent is cleared, so that it is as much as n bytes can need and no more. */
+    size_t room = SECLANG_TOKENS_MOST(n) * WIDE;
+    uint64_t number = seclang_tokens(input, n, text, n, tokens, room, values, SECLANG_VALUES_MOST);
     if (number != SECLANG_READ) return printf("refused with %" PRIu64 ", %" PRIu64 "\n", number, values[0]), 1;
     /* A rule's arguments are the words and strings behind its name; the last, from the third on, is the action list. */
     for (uint64_t *t = tokens, *end = t + values[0] * WIDE, *rule = NULL; t < end; t += WIDE) {

@@ -7,16 +7,22 @@
 #include <stdio.h>
 #include <string.h>
 
-/* ONE action record. */
-enum { ROOM = SECLANG_LIMIT + 1, WORDS = SECLANG_TOKENS_MOST(ROOM) * SECLANG_TOKEN_WORDS, ONE = SECLANG_ACTION_WORDS };
+/* The words that n bytes can need of each kind of record, and ONE action record. */
+#define TOKENS_IN(n) (SECLANG_TOKENS_MOST(n) * SECLANG_TOKEN_WORDS)
+#define HEADS_IN(n) (SECLANG_DIRECTIVES_MOST(n) * SECLANG_DIRECTIVE_WORDS)
+#define TARGETS_IN(n) (SECLANG_DIRECTIVES_VARIABLES_MOST(n) * SECLANG_VARIABLE_WORDS)
+#define ACTS_IN(n) (SECLANG_DIRECTIVES_ACTIONS_MOST(n) * SECLANG_ACTION_WORDS)
+enum { ONE = SECLANG_ACTION_WORDS };
 
-static uint8_t input[ROOM], text[ROOM + 3], scratch[ROOM], out[SECLANG_LISTING_MOST(ROOM)];
-static uint64_t records[WORDS], values[SECLANG_VALUES_MOST];
-static uint64_t heads[SECLANG_DIRECTIVES_MOST(ROOM) * SECLANG_DIRECTIVE_WORDS];
-static uint64_t targets[SECLANG_DIRECTIVES_VARIABLES_MOST(ROOM) * SECLANG_VARIABLE_WORDS];
-static uint64_t acts[SECLANG_DIRECTIVES_ACTIONS_MOST(ROOM) * SECLANG_ACTION_WORDS];
+/* FULL is one byte past the limit. What is lent is all cleared at each call, so that short texts are lent a small part:
+ * ROOM bytes, and the words that these can need. */
+enum { FULL = SECLANG_LIMIT + 1, FULL_WORDS = TOKENS_IN(FULL) };
+enum { ROOM = 1024, WORDS = TOKENS_IN(ROOM), HEADS = HEADS_IN(ROOM), TARGETS = TARGETS_IN(ROOM), ACTS = ACTS_IN(ROOM) };
+enum { LINE = SECLANG_LISTING_MOST(ROOM) };
 
-enum { WORD = sizeof *heads, HEADS = sizeof heads / WORD, TARGETS = sizeof targets / WORD, ACTS = sizeof acts / WORD };
+static uint8_t input[FULL], text[FULL + 3], scratch[FULL], out[SECLANG_LISTING_MOST(FULL)];
+static uint64_t records[FULL_WORDS], values[SECLANG_VALUES_MOST];
+static uint64_t heads[HEADS_IN(FULL)], targets[TARGETS_IN(FULL)], acts[ACTS_IN(FULL)];
 static int checked, failed;
 
 static void check(bool holds, const char *what, int line)
@@ -301,10 +307,10 @@ static void check_awkward(lexer *lex)
 /* Too long, not ASCII, too short a buffer and too few records; what each leaves of lent memory. */
 static void check_lexer_numbers(lexer *lex)
 {
-    memset(input, ' ', ROOM);
-    memset(text, 'x', ROOM);
+    memset(input, ' ', FULL);
+    memset(text, 'x', FULL);
     records[0] = 77;
-    CHECK(lex(input, ROOM, text, ROOM, records, WORDS, values, 10) == SECLANG_TOO_LONG && values[0] == SECLANG_LIMIT &&
+    CHECK(lex(input, FULL, text, FULL, records, WORDS, values, 10) == SECLANG_TOO_LONG && values[0] == SECLANG_LIMIT &&
           text[0] == 'x');
     CHECK(lex(bytes("a\x80"), 2, text, 0, records, 0, values, 10) == SECLANG_NOT_ASCII && values[0] == 1);
     CHECK(lex(bytes("ab"), 2, text, 1, records, WORDS, values, 10) == SECLANG_SHORT_BUFFER && values[0] == 0 &&
@@ -316,20 +322,22 @@ static void check_lexer_numbers(lexer *lex)
 }
 
 static uint8_t plain_text[sizeof text];
-static uint64_t plain_records[WORDS], plain_values[SECLANG_VALUES_MOST];
+static uint64_t plain_records[FULL_WORDS], plain_values[SECLANG_VALUES_MOST];
 
-/* Whether both lexers give the same with the same room: the number, and every byte and word, also past what is lent. */
+/* Whether both lexers give the same with the same room: the number, and every byte and word, also the next past what is
+ * lent. */
 static bool same(const uint8_t *s, size_t n, size_t text_len, size_t records_len, size_t values_len)
 {
-    const size_t wide = (records_len + (records_len < WORDS)) * sizeof *records;
+    const size_t wide = (records_len + (records_len < FULL_WORDS)) * sizeof *records;
+    const size_t long_text = text_len + (text_len < sizeof text);
     uint64_t number, plain;
-    memset(text, 'x', sizeof text), memset(plain_text, 'x', sizeof text);
+    memset(text, 'x', long_text), memset(plain_text, 'x', long_text);
     memset(records, 'x', wide), memset(plain_records, 'x', wide);
     memset(values, 'x', sizeof values), memset(plain_values, 'x', sizeof values);
     number = seclang_tokens(s, n, text, text_len, records, records_len, values, values_len);
     plain = seclang_plain_tokens(s, n, plain_text, text_len, plain_records, records_len, plain_values, values_len);
-    return plain == number && memcmp(plain_text, text, sizeof text) == 0 &&
-           memcmp(plain_records, records, wide) == 0 && memcmp(plain_values, values, sizeof values) == 0;
+    return plain == number && memcmp(plain_text, text, long_text) == 0 && memcmp(plain_records, records, wide) == 0 &&
+           memcmp(plain_values, values, sizeof values) == 0;
 }
 
 /* A text with the room that it needs, with more, one byte, word or record short, and none, of each buffer. */
@@ -353,8 +361,8 @@ static void check_lexers(void)
     check_same("a\fb");
     check_same("ab \x80");
     check_same("\xff");
-    memset(input, '\\', ROOM);
-    CHECK(same(input, ROOM, ROOM, 0, 10) && same(input, ROOM, 0, WORDS, 1) && same(input, SECLANG_LIMIT, ROOM, 5, 10));
+    memset(input, '\\', FULL);
+    CHECK(same(input, FULL, FULL, 0, 10) && same(input, FULL, 0, WORDS, 1) && same(input, SECLANG_LIMIT, FULL, 5, 10));
 }
 
 static uint64_t step(const char *s, const uint64_t *cursor)
@@ -381,12 +389,19 @@ static void check_steps(void)
     CHECK(step(rule, cursor) == SECLANG_READ && values[1] == SECLANG_TOKEN_WORD && values[2] == 4);
     cursor[0] = strlen(rule) + 1;
     CHECK(step(rule, cursor) == SECLANG_BAD_CURSOR && values[0] == 0);
-    cursor[0] = 0, cursor[1] = SECLANG_CURSOR_MOST;
-    CHECK(step(rule, cursor) == SECLANG_READ);
-    cursor[1] = SECLANG_CURSOR_MOST + 1;
-    CHECK(step(rule, cursor) == SECLANG_BAD_CURSOR);
-    cursor[1] = 0;
-    CHECK(step(rule, cursor) == SECLANG_BAD_CURSOR);
+}
+
+/* A line or a column of 1 and of the most is read, and the numbers on either side are not. */
+static void check_cursors(void)
+{
+    static const uint64_t edges[] = {0, 1, 1048577, 1048578, UINT32_MAX};
+    for (size_t i = 0; i < 5; i++)
+        for (size_t j = 0; j < 5; j++) {
+            const uint64_t cursor[4] = {0, edges[i], edges[j], true};
+            const bool good = 1 <= i && i <= 2 && 1 <= j && j <= 2;
+            CHECK(step(rule, cursor) == (good ? SECLANG_READ : SECLANG_BAD_CURSOR));
+            CHECK(good ? values[2] == edges[i] && values[3] == edges[j] : values[0] == 0);
+        }
 }
 
 /* ---- actions */
@@ -682,8 +697,7 @@ static bool wrote(const char *s)
 
 static uint64_t list(const char *s)
 {
-    return seclang_list_text(bytes(s), strlen(s), text, ROOM, records, WORDS, out, sizeof out, values,
-                             SECLANG_VALUES_MOST);
+    return seclang_list_text(bytes(s), strlen(s), text, ROOM, records, WORDS, out, LINE, values, SECLANG_VALUES_MOST);
 }
 
 static void check_listings(void)
@@ -696,15 +710,15 @@ static void check_listings(void)
     CHECK(seclang_list_text(bytes("a"), 1, text, 1, records, 5, out, 18, values, 10) == SECLANG_NO_ROOM &&
           values[0] == 19 && out[0] == 0);
     CHECK(tokens("a") == SECLANG_READ);
-    CHECK(seclang_write_listing(records, 5, text, 1, true, 3, 4, out, sizeof out, values, 10) == SECLANG_READ);
+    CHECK(seclang_write_listing(records, 5, text, 1, true, 3, 4, out, LINE, values, 10) == SECLANG_READ);
     CHECK(wrote("[[\"word\",1,1,\"a\"],[\"stopped\",3,4]]"));
-    CHECK(seclang_write_listing(records, 5, text, 1, false, 3, 4, out, sizeof out, values, 10) == SECLANG_READ &&
+    CHECK(seclang_write_listing(records, 5, text, 1, false, 3, 4, out, LINE, values, 10) == SECLANG_READ &&
           wrote("[[\"word\",1,1,\"a\"]]"));
     records[0] = 6;
-    CHECK(seclang_write_listing(records, 5, text, 1, false, 0, 0, out, sizeof out, values, 10) == SECLANG_NO_TOKEN &&
+    CHECK(seclang_write_listing(records, 5, text, 1, false, 0, 0, out, LINE, values, 10) == SECLANG_NO_TOKEN &&
           values[0] == 0);
-    CHECK(seclang_write_refusal(1, 16384, out, sizeof out, values, 10) == SECLANG_READ && wrote("[1,16384]"));
-    CHECK(seclang_write_refusal(1, 16384, out, 8, values, 10) == SECLANG_NO_ROOM && values[0] == 9);
+    CHECK(seclang_write_refusal(1, SECLANG_LIMIT, out, LINE, values, 10) == SECLANG_READ && wrote("[1,1048576]"));
+    CHECK(seclang_write_refusal(1, SECLANG_LIMIT, out, 10, values, 10) == SECLANG_NO_ROOM && values[0] == 11);
 }
 
 /* ---- numbers, and what is left of lent memory */
@@ -735,6 +749,127 @@ static void check_numbers(void)
           few[2] == span(1, 1) && few[3] == 77);
 }
 
+/* ---- span words of before */
+
+typedef uint64_t conversion(uint64_t, uint64_t *, size_t);
+
+/* What a conversion gives: the number, and one value where it fits, with nothing else touched. */
+static bool gives(conversion *convert, uint64_t word, uint64_t number, uint64_t value)
+{
+    uint64_t few[3] = {77, 77, 77};
+    const bool kept = convert(word, few, 0) == number && few[0] == 77;
+    return kept && convert(word, few, 2) == number && few[0] == value && few[1] == 77 && few[2] == 77;
+}
+
+static void check_conversions(void)
+{
+    static const uint64_t halves[] = {0, 1, 2, 255, 256, 32767, 32768, 65534, 65535};
+    static const uint64_t past[] = {65536, 65537, 131071, 1048576, UINT64_C(4294967295)};
+    CHECK(SECLANG_SPAN_BASE == UINT64_C(4294967296) && SECLANG_OLD_SPAN_BASE == 65536 &&
+          SECLANG_OLD_SPAN_MOST == 65535);
+    for (size_t i = 0; i < 9; i++)
+        for (size_t j = 0; j < 9; j++) {
+            const uint64_t old = halves[i] * SECLANG_OLD_SPAN_BASE + halves[j], now = span(halves[i], halves[j]);
+            CHECK(gives(seclang_span_from_old, old, SECLANG_READ, now));
+            CHECK(gives(seclang_span_to_old, now, SECLANG_READ, old));
+        }
+    for (size_t i = 0; i < 5; i++)
+        for (size_t j = 0; j < 9; j++) {
+            CHECK(gives(seclang_span_from_old, past[i] * SECLANG_OLD_SPAN_BASE + halves[j], SECLANG_TOO_FAR, 0));
+            CHECK(gives(seclang_span_to_old, span(past[i], halves[j]), SECLANG_TOO_FAR, 0));
+            CHECK(gives(seclang_span_to_old, span(halves[j], past[i]), SECLANG_TOO_FAR, 0));
+        }
+    /* a word that a record does not use */
+    CHECK(seclang_span_from_old(0, values, 1) == SECLANG_READ && values[0] == 0);
+    CHECK(seclang_span_to_old(0, values, 1) == SECLANG_READ && values[0] == 0);
+    CHECK(gives(seclang_span_from_old, UINT64_C(4294967296), SECLANG_TOO_FAR, 0));
+    CHECK(gives(seclang_span_from_old, UINT64_MAX, SECLANG_TOO_FAR, 0));
+    CHECK(gives(seclang_span_to_old, UINT64_MAX, SECLANG_TOO_FAR, 0));
+}
+
+/* ---- an input at the limit, and one byte more */
+
+/* A word as long as the limit is one token. */
+static void check_long_word(lexer *lex)
+{
+    memset(input, 'x', FULL);
+    CHECK(lex(input, SECLANG_LIMIT, text, SECLANG_LIMIT, records, SECLANG_TOKEN_WORDS, values, 10) == SECLANG_READ);
+    CHECK(first_values(1, SECLANG_LIMIT) && values[2] == SECLANG_LIMIT && values[3] == 1 &&
+          values[4] == SECLANG_CURSOR_MOST);
+    CHECK(token(0, SECLANG_TOKEN_WORD, 1, 1, span(0, SECLANG_LIMIT), span(0, SECLANG_LIMIT)));
+    CHECK(memcmp(text, input, SECLANG_LIMIT) == 0);
+}
+
+/* Line feeds up to a last directive that ends at the limit. */
+static uint64_t last_directive(const char *s)
+{
+    const size_t n = strlen(s), at = SECLANG_LIMIT - n;
+    memset(input, '\n', at);
+    memcpy(input + at, s, n);
+    return seclang_directives(input, SECLANG_LIMIT, text, SECLANG_LIMIT, scratch, SECLANG_LIMIT, heads, HEADS, targets,
+                              TARGETS, acts, ACTS, values, SECLANG_VALUES_MOST);
+}
+
+/* Its line, and the spans of what was read and of what was refused, past all that an old span word could tell. */
+static void check_long_package(void)
+{
+    const uint64_t most = SECLANG_LIMIT;
+    CHECK(last_directive("SecRule TX a log,deny") == SECLANG_READ && four_values(1, 1, 2, 1));
+    CHECK(heads[SECLANG_AT_LINE] == most - 20 && heads[SECLANG_AT_SPAN] == span(most - 21, 21));
+    CHECK(targets[SECLANG_AT_VARIABLE_SOURCE] == span(most - 13, 2));
+    CHECK(acts[SECLANG_AT_ACTION_SOURCE] == span(most - 8, 3) &&
+          acts[ONE + SECLANG_AT_ACTION_SOURCE] == span(most - 4, 4));
+    CHECK(last_directive("SecAction log,bogus") == SECLANG_UNKNOWN_ACTION &&
+          four_values(most - 18, 1, 5, span(most - 5, 5)));
+    CHECK(last_directive("SecRule TX @x") == SECLANG_UNKNOWN_OPERATOR &&
+          four_values(most - 12, 1, 1, span(most - 1, 1)));
+    CHECK(last_directive("SecRule x") == SECLANG_WRONG_COUNT && values[0] == most - 8);
+}
+
+static bool painted(const void *at, size_t n)
+{
+    const uint8_t *byte = (const uint8_t *)at;
+    return byte[0] == 'x' && memcmp(byte, byte + 1, n - 1) == 0;
+}
+
+/* Whether a number is 1 with the limit, and all that was lent is as it was. */
+static bool too_long(uint64_t number)
+{
+    const bool told = number == SECLANG_TOO_LONG && values[0] == SECLANG_LIMIT;
+    values[0] = 77;
+    return told && painted(text, sizeof text) && painted(scratch, sizeof scratch) && painted(records, sizeof records) &&
+           painted(heads, sizeof heads) && painted(targets, sizeof targets) && painted(acts, sizeof acts);
+}
+
+static void check_too_long(void)
+{
+    memset(input, 'x', FULL), memset(text, 'x', sizeof text), memset(scratch, 'x', sizeof scratch);
+    memset(records, 'x', sizeof records), memset(heads, 'x', sizeof heads);
+    memset(targets, 'x', sizeof targets), memset(acts, 'x', sizeof acts);
+    CHECK(too_long(seclang_tokens(input, FULL, text, FULL, records, FULL_WORDS, values, 10)));
+    CHECK(too_long(seclang_plain_tokens(input, FULL, text, FULL, records, FULL_WORDS, values, 10)));
+    CHECK(too_long(seclang_next_token(input, FULL, 0, 1, 1, true, text, FULL, values, 10)));
+    CHECK(too_long(seclang_directives(input, FULL, text, FULL, scratch, FULL, heads, HEADS_IN(FULL), targets,
+                                      TARGETS_IN(FULL), acts, ACTS_IN(FULL), values, 10)));
+    CHECK(too_long(seclang_parse_actions(input, FULL, text, FULL, scratch, FULL, records, FULL_WORDS, values, 10)));
+    CHECK(too_long(seclang_parse_setvar(input, FULL, text, FULL + 3, records, FULL_WORDS, values, 10)));
+    CHECK(too_long(seclang_parse_variables(input, FULL, text, FULL, records, FULL_WORDS, values, 10)));
+    CHECK(too_long(seclang_parse_update_targets(input, FULL, text, FULL, records, FULL_WORDS, values, 10)));
+    CHECK(too_long(seclang_parse_operator(input, FULL, values, 10)));
+    CHECK(seclang_list_text(input, FULL, text, FULL, records, FULL_WORDS, out, LINE, values, 10) == SECLANG_READ &&
+          wrote("[1,1048576]\n"));
+    values[0] = SECLANG_LIMIT;
+    CHECK(too_long(SECLANG_TOO_LONG));
+}
+
+static void check_limit(void)
+{
+    CHECK(SECLANG_LIMIT == 1048576 && SECLANG_CURSOR_MOST == 1048577);
+    check_long_word(seclang_tokens), check_long_word(seclang_plain_tokens);
+    check_long_package();
+    check_too_long();
+}
+
 /* ---- bounds */
 
 /* n bytes of a first part, and then of another again and again; blanks where it does not fit. */
@@ -756,15 +891,24 @@ static void fill(size_t n, const char *first, const char *again)
         CHECK((most) == 0 || ((call) == SECLANG_NO_ROOM && values[0] == (most))); \
     } while (0)
 
+/* A listing with room for the most is never refused for room. */
+static void check_listing_at(size_t n)
+{
+    CHECK(seclang_list_text(input, n, text, n, records, TOKENS_IN(n), out, SECLANG_LISTING_MOST(n), values, 10) ==
+              SECLANG_READ &&
+          out[1] != '4');
+}
+
 static void check_bounds_at(size_t n)
 {
     fill(n, "", "\n");
     TIGHT(seclang_tokens(input, n, text, n, records, room, values, 10), SECLANG_TOKENS_MOST(n), SECLANG_TOKEN_WORDS);
     TIGHT(seclang_plain_tokens(input, n, text, n, records, room, values, 10), SECLANG_TOKENS_MOST(n),
           SECLANG_TOKEN_WORDS);
-    CHECK(same(input, n, n, SECLANG_TOKENS_MOST(n) * SECLANG_TOKEN_WORDS, 10));
-    CHECK(seclang_list_text(input, n, text, n, records, WORDS, out, SECLANG_LISTING_MOST(n), values, 10) ==
-          SECLANG_READ);
+    CHECK(same(input, n, n, TOKENS_IN(n), 10));
+    check_listing_at(n);
+    fill(n, "", "\001\n");
+    check_listing_at(n);
     fill(n, "t:", ",t:");
     TIGHT(seclang_parse_actions(input, n, text, n, scratch, n, records, room, values, 10), SECLANG_ACTIONS_MOST(n),
           SECLANG_ACTION_WORDS);
@@ -779,9 +923,7 @@ static void check_bounds_at(size_t n)
 /* A package with many records of one kind: with room for the most it is read, with a word less than it needs it is not. */
 static void check_crowded(size_t n, size_t which)
 {
-    size_t room[3] = {SECLANG_DIRECTIVES_MOST(n) * SECLANG_DIRECTIVE_WORDS,
-                      SECLANG_DIRECTIVES_VARIABLES_MOST(n) * SECLANG_VARIABLE_WORDS,
-                      SECLANG_DIRECTIVES_ACTIONS_MOST(n) * SECLANG_ACTION_WORDS};
+    size_t room[3] = {HEADS_IN(n), TARGETS_IN(n), ACTS_IN(n)};
     const size_t width[3] = {SECLANG_DIRECTIVE_WORDS, SECLANG_VARIABLE_WORDS, SECLANG_ACTION_WORDS};
     for (size_t less = 0; less < 2; less++) {
         const bool fits = less == 0 || values[which] == 0;
@@ -810,6 +952,7 @@ int main(void)
     check_tests();
     check_lexers();
     check_steps();
+    check_cursors();
     check_actions();
     check_setvars();
     check_sources();
@@ -823,7 +966,10 @@ int main(void)
     check_lent();
     check_listings();
     check_numbers();
+    check_conversions();
+    check_limit();
     for (size_t n = 0; n <= 100; n++) check_bounds_at(n), check_package_bounds_at(n);
+    for (size_t n = 65533; n <= 65538; n++) check_bounds_at(n), check_package_bounds_at(n);
     for (size_t n = SECLANG_LIMIT - 5; n <= SECLANG_LIMIT; n++) check_bounds_at(n), check_package_bounds_at(n);
     printf("tests/header.c: %d checks, %d failed\n", checked, failed);
     return failed != 0;

@@ -1,6 +1,6 @@
 //! Action lists, and a setvar alone.
 
-use crate::lent::{another, filled, Texts};
+use crate::lent::{another, filled, Room, Texts};
 use crate::{raw, ActionCode, Refusal, Sourced, ValueKind};
 
 /// Words of an action record: code, number, a, b, value kind, c, source.
@@ -233,7 +233,8 @@ impl AsRef<Action> for Action {
 pub fn parse_actions(input: &(impl AsRef<[u8]> + ?Sized)) -> Result<Vec<Sourced<Action>>, Refusal> {
     let input = input.as_ref();
     let mut scratch = vec![0; input.len().min(crate::LIMIT)];
-    let read = filled(input, 0, WIDTH, |text, records, values| raw::parse_actions(input, text, &mut scratch, records, values))?;
+    let room = Room::of(input, WIDTH);
+    let read = filled(input, room, |text, records, values| raw::parse_actions(input, text, &mut scratch, records, values))?;
     Ok(read.records().map(|record| Action::of(record, &read.texts)).collect())
 }
 
@@ -249,7 +250,8 @@ pub fn parse_actions(input: &(impl AsRef<[u8]> + ?Sized)) -> Result<Vec<Sourced<
 /// ```
 pub fn parse_setvar(input: &(impl AsRef<[u8]> + ?Sized)) -> Result<Sourced<SetVar>, Refusal> {
     let input = input.as_ref();
-    let read = filled(input, 3, WIDTH, |text, records, values| raw::parse_setvar(input, text, records, values))?;
+    let room = Room::of_one(input, WIDTH, 3);
+    let read = filled(input, room, |text, records, values| raw::parse_setvar(input, text, records, values))?;
     let set = read.records().map(|record| Action::of(record, &read.texts)).next();
     match set {
         Some(Sourced { thing: Action::SetVar(set), source }) => Ok(Sourced { thing: set, source }),

@@ -1,6 +1,6 @@
 //! What the crate lends to the library, and what it reads out of it afterwards.
 
-use crate::{Refusal, LIMIT};
+use crate::{raw, Refusal, LIMIT};
 
 /// Words of values that are enough for every reader.
 pub(crate) type Values = [u64; 10];
@@ -33,17 +33,37 @@ impl Filled {
     }
 }
 
-/// Reads with texts as long as the input and `more` bytes, and room for a record in six bytes, which real rules hardly ever pass.
-/// Where a text has more of them, the library says how many, and reads it once more.
-pub(crate) fn filled(
-    input: &[u8],
-    more: usize,
+/// What a reader is lent at first. All of it is cleared at each call, and the most that a long text can need is forty times its length,
+/// so that less is lent than that.
+pub(crate) struct Room {
+    text: usize,
+    records: usize,
     width: usize,
-    mut read: impl FnMut(&mut [u8], &mut [u64], &mut [u64]) -> u64,
-) -> Result<Filled, Refusal> {
-    // an input past the limit is refused before anything lent is looked at
-    let len = input.len().min(LIMIT);
-    let (mut text, mut records, mut values) = (vec![0; len + more], vec![0; (len / 6 + 2) * width], Values::default());
+}
+
+impl Room {
+    /// A text as long as the input, and a record in six bytes, which real rules hardly ever pass.
+    pub fn of(input: &[u8], width: usize) -> Self {
+        // an input past the limit is refused before anything lent is looked at
+        let len = input.len().min(LIMIT);
+        Room { text: len, records: len / 6 + 2, width }
+    }
+
+    /// The same for one record, whose text may be so many bytes longer than the input.
+    pub fn of_one(input: &[u8], width: usize, more: usize) -> Self {
+        Room { text: input.len().min(LIMIT) + more, records: 1, width }
+    }
+
+    /// The text and the records.
+    pub fn lent(&self) -> (Vec<u8>, Vec<u64>) {
+        (vec![0; self.text], vec![0; self.records * self.width])
+    }
+}
+
+/// Reads with that room. Where a text has more records, the library says how many, and reads it once more.
+pub(crate) fn filled(input: &[u8], room: Room, mut read: impl FnMut(&mut [u8], &mut [u64], &mut [u64]) -> u64) -> Result<Filled, Refusal> {
+    let width = room.width;
+    let ((mut text, mut records), mut values) = (room.lent(), Values::default());
     let mut number = read(&mut text, &mut records, &mut values);
     if number == NO_ROOM {
         records = vec![0; size(values[0]) * width];
@@ -62,8 +82,8 @@ pub(crate) fn size(word: u64) -> usize {
 
 /// The part that a span word shows.
 pub(crate) fn span(word: u64) -> std::ops::Range<usize> {
-    let first = size(word / 65_536);
-    first..first + size(word % 65_536)
+    let first = size(word / raw::SPAN_BASE);
+    first..first + size(word % raw::SPAN_BASE)
 }
 
 /// Bytes of a text that was read, which are ASCII.

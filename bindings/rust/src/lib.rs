@@ -52,6 +52,7 @@ pub mod raw;
 mod refusals;
 mod rules;
 mod sources;
+mod spans;
 mod tokens;
 mod variables;
 
@@ -62,14 +63,15 @@ pub use operators::{parse_operator, Operator};
 pub use refusals::{Flaw, Refusal};
 pub use rules::{grade, phase, RuleIdSelector};
 pub use sources::Sourced;
+pub use spans::{span_from_old, span_to_old};
 pub use tokens::{list_text, next_token, plain_tokens, tokens, Cursor, Step, Stop, Token, TokenKind, Tokens};
 pub use variables::{parse_update_targets, parse_variables, Selection, Targets, Variable, XmlTarget};
 
 /// The longest input that is read, in bytes.
-pub const LIMIT: usize = 16_384;
+pub const LIMIT: usize = 1_048_576;
 
 /// The version of the library that this crate was made for.
-pub const VERSION: u64 = 3;
+pub const VERSION: u64 = 4;
 
 /// The version of the library that is linked.
 ///

@@ -128,6 +128,8 @@ mod c {
             values: *mut u64,
             values_len: usize,
         ) -> u64;
+        pub fn seclang_span_from_old(word: u64, values: *mut u64, values_len: usize) -> u64;
+        pub fn seclang_span_to_old(word: u64, values: *mut u64, values_len: usize) -> u64;
         pub fn seclang_version() -> u64;
         pub fn seclang_write_refusal(number: u64, place: u64, out: *mut u8, out_len: usize, values: *mut u64, values_len: usize) -> u64;
     }
@@ -260,6 +262,9 @@ pub fn parse_operator(input: &[u8], values: &mut [u64]) -> u64 {
     unsafe { c::seclang_parse_operator(input.as_ptr(), input.len(), values.as_mut_ptr(), values.len()) }
 }
 
+/// The base of a span word, which is offset * base + length.
+pub const SPAN_BASE: u64 = 4_294_967_296;
+
 /// What `lookup` gives for a name that has no code.
 pub const UNKNOWN: u64 = u64::MAX;
 
@@ -352,6 +357,20 @@ pub fn write_listing(records: &[u64], text: &[u8], early: Option<(usize, usize)>
 pub fn write_refusal(number: u64, place: u64, out: &mut [u8], values: &mut [u64]) -> u64 {
     // SAFETY: as above.
     unsafe { c::seclang_write_refusal(number, place, out.as_mut_ptr(), out.len(), values.as_mut_ptr(), values.len()) }
+}
+
+/// A span word of version 3 or before as a span word of today.
+#[inline]
+pub fn span_from_old(word: u64, values: &mut [u64]) -> u64 {
+    // SAFETY: as above.
+    unsafe { c::seclang_span_from_old(word, values.as_mut_ptr(), values.len()) }
+}
+
+/// A span word of today as a span word of version 3 or before.
+#[inline]
+pub fn span_to_old(word: u64, values: &mut [u64]) -> u64 {
+    // SAFETY: as above.
+    unsafe { c::seclang_span_to_old(word, values.as_mut_ptr(), values.len()) }
 }
 
 /// `SECLANG_VERSION` of the header that says what the library does.

@@ -74,7 +74,7 @@ pub enum Refusal {
         /// The bytes of the name in the input; none, right behind its `@`, where the name is empty.
         span: Range<usize>,
     },
-    /// 9: a cursor past the end, or one whose line or column is 0 or above 16,385.
+    /// 9: a cursor past the end, or one whose line or column is 0 or above [`LIMIT`](crate::LIMIT) + 1.
     BadCursor,
     /// 13: a directive has another count of arguments than it takes.
     WrongCount {

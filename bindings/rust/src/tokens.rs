@@ -1,8 +1,11 @@
 //! The tokens of a text, its listing, and one step from a cursor.
 
-use crate::lent::{another, filled, said, size, span, Values};
+use crate::lent::{another, filled, said, size, span, Room, Values, NO_ROOM};
 use crate::{raw, Refusal, LIMIT};
 use std::ops::Range;
+
+/// Words of a token record: kind, line, column, span in the input, text.
+const WIDTH: usize = 5;
 
 /// What a token is, with its text: quotation marks and escapes are gone.
 #[derive(Clone, Debug, PartialEq, Eq, Hash)]
@@ -76,7 +79,7 @@ pub struct Tokens {
 
 /// The tokens of a text by one of the two lexers.
 fn tokens_by(lexer: raw::Filler, input: &[u8]) -> Result<Tokens, Refusal> {
-    let read = filled(input, 0, 5, |text, records, values| lexer(input, text, records, values))?;
+    let read = filled(input, Room::of(input, WIDTH), |text, records, values| lexer(input, text, records, values))?;
     let list = read.records().map(|word| Token::of(word[0], word[1], word[2], span(word[3]), read.texts.said(word[4]))).collect();
     let [_, _, place, line, column, ..] = read.values.map(size);
     Ok(Tokens { list, stop: Stop { place, line, column } })
@@ -142,7 +145,8 @@ pub struct Step {
     pub next: Cursor,
 }
 
-/// The token at a cursor. The whole input is looked at first, so that [`tokens`] is faster where all are wanted.
+/// The token at a cursor. Every step looks at the whole input first, so that stepping through a text takes time that grows with the
+/// square of its length: where all are wanted, [`tokens`] reads the text once.
 ///
 /// ```
 /// use seclang::{next_token, Cursor};
@@ -169,6 +173,12 @@ pub fn next_token(input: &(impl AsRef<[u8]> + ?Sized), from: Cursor) -> Result<S
     }
 }
 
+/// How many records a text needs, where its line says that it was refused for these: `[4,how many]`.
+fn records_needed(line: &[u8]) -> Option<usize> {
+    let digits = line.strip_prefix(b"[4,")?.strip_suffix(b"]\n")?;
+    said(digits).parse().ok()
+}
+
 /// A text's tokens as a JSON array and a line feed; for a text that is refused, `[number,place]` and a line feed.
 ///
 /// ```
@@ -177,13 +187,19 @@ pub fn next_token(input: &(impl AsRef<[u8]> + ?Sized), from: Cursor) -> Result<S
 /// ```
 pub fn list_text(input: &(impl AsRef<[u8]> + ?Sized)) -> String {
     let input = input.as_ref();
-    let len = input.len().min(LIMIT);
-    // no text has more tokens than bytes, and none lists in more bytes than these and a line feed, by proof
-    let (mut text, mut records, mut out) = (vec![0; len], vec![0; 5 * len], vec![0; 35 * len + 26 + 1]);
-    let mut values = Values::default();
-    let number = raw::list_text(input, &mut text, &mut records, &mut out, &mut values);
-    match number {
-        0 => said(&out[..size(values[0])]),
-        _ => another("a listing with the number", number),
+    let (mut text, mut records) = Room::of(input, WIDTH).lent();
+    // real rules list in fewer bytes than this, and a refusal always does
+    let (mut out, mut values) = (vec![0; 2 * text.len() + 64], Values::default());
+    // a second call where there are more records, and a third where the line is longer
+    for _ in 0..3 {
+        match raw::list_text(input, &mut text, &mut records, &mut out, &mut values) {
+            0 => match records_needed(&out[..size(values[0])]) {
+                Some(needed) => records = vec![0; needed * WIDTH],
+                None => return said(&out[..size(values[0])]),
+            },
+            NO_ROOM => out = vec![0; size(values[0])],
+            number => another("a listing with the number", number),
+        }
     }
+    another("a listing that takes more room than it asked for, of the size", values[0])
 }

@@ -1,6 +1,6 @@
 //! Lists of variables and of update targets.
 
-use crate::lent::{another, filled, Texts};
+use crate::lent::{another, filled, Room, Texts};
 use crate::raw::{self, Filler};
 use crate::{Refusal, Sourced, VariableName};
 
@@ -60,7 +60,7 @@ impl Targets {
 }
 
 fn read_targets(input: &[u8], reader: Filler) -> Result<Targets, Refusal> {
-    let read = filled(input, 0, WIDTH, |text, records, values| reader(input, text, records, values))?;
+    let read = filled(input, Room::of(input, WIDTH), |text, records, values| reader(input, text, records, values))?;
     Ok(Targets::of(read.records(), &read.texts))
 }
 

@@ -19,7 +19,7 @@ fn lines(expected: &[&str]) -> String {
 fn number_1_is_shown() {
     let package = format!("{}SecMarker m", "#\n".repeat(LIMIT / 2 - 4));
     let said = directives(&package).expect_err("too long").message("desk.conf", &package);
-    assert_eq!(said, lines(&["desk.conf:8189:9: the input is longer than 16384 bytes", "SecMarker m", "        ^"]));
+    assert_eq!(said, lines(&["desk.conf:524285:9: the input is longer than 1048576 bytes", "SecMarker m", "        ^"]));
 }
 
 #[test]
@@ -147,6 +147,21 @@ fn number_15_is_shown() {
     assert_eq!(said, lines(&["desk.conf:2:2: reading stops at a form feed", "\t\u{240c}", "\t^"]));
     let said = in_package("SecMarker m \x0bx");
     assert_eq!(said, lines(&["desk.conf:1:13: reading stops at a vertical tab", "SecMarker m \u{240b}x", "            ^"]));
+}
+
+/// Lines, columns and spans past 65,535: a piece in a late line, a long one, and one that runs on from there.
+#[test]
+fn far_pieces_are_underlined() {
+    let before = "SecMarker m\n".repeat(80_000);
+    let said = in_package(&format!("{before}SecAction \"id:7,bogus,deny\"\n{}", "# x\n".repeat(9)));
+    assert_eq!(said, lines(&["desk.conf:80001:17: unknown action 'bogus'", "SecAction \"id:7,bogus,deny\"", "                ^~~~~"]));
+    let said = in_package(&format!("{before}SecAction \"log,\\\n  id:1\\\n    2x\""));
+    let shown = ["  id:1\\", "  ^~~~~", "desk.conf:80003:6: up to here", "    2x\"", "    ~^"];
+    assert_eq!(said, lines(&[&["desk.conf:80002:3: the argument of 'id' is no number"], &shown[..]].concat()));
+    let list = format!("{}msg:a,phase:{}x,deny", "deny,".repeat(20_000), "1".repeat(70_000));
+    let (refusal, marks) = (parse_actions(&list).expect_err("no phase"), format!("{}^{}", " ".repeat(100_006), "~".repeat(70_006)));
+    assert_eq!((refusal.span(), refusal.number()), (Some(100_006..170_013), 11));
+    assert_eq!(refusal.message("form", &list), lines(&["form:1:100007: the argument of 'phase' is no number", &list, &marks]));
 }
 
 /// Tabs before and within what is underlined stay tabs under it.

@@ -1,7 +1,7 @@
 //! Each reader's answers and refusals as Rust types, and what the crate lends at the edges.
 
 use seclang::{
-    list_text, next_token, parse_actions, parse_operator, parse_setvar, parse_update_targets, parse_variables, plain_tokens, tokens,
+    list_text, next_token, parse_actions, parse_operator, parse_setvar, parse_update_targets, parse_variables, plain_tokens, raw, tokens,
     Action, Cursor, Flaw, Refusal, RuleIdSelector, SetVar, SetVarValue, Token, XmlTarget, LIMIT,
 };
 use std::ops::Range;
@@ -57,8 +57,9 @@ fn both_lexers_give_the_same() {
 fn a_cursor_is_judged() {
     let from = |place, line, column| next_token("ab", Cursor { place, line, column, mark: false }).map(|step| step.token.is_some());
     assert_eq!(from(1, 1, 1), Ok(true));
-    assert_eq!(from(2, 16_385, 16_385), Ok(false));
-    for bad in [from(3, 1, 1), from(0, 0, 1), from(0, 1, 0), from(0, 16_386, 1), from(usize::MAX, 1, 1)] {
+    assert_eq!(from(0, LIMIT + 1, LIMIT + 1), Ok(true));
+    assert_eq!(from(2, LIMIT + 1, LIMIT + 1), Ok(false));
+    for bad in [from(3, 1, 1), from(0, 0, 1), from(0, 1, 0), from(0, LIMIT + 2, 1), from(0, 1, LIMIT + 2), from(usize::MAX, 1, 1)] {
         assert_eq!(bad, Err(Refusal::BadCursor));
     }
 }
@@ -135,12 +136,12 @@ fn sources_are_told() {
 fn refusals_are_told_by_what_was_left() {
     assert_eq!(Refusal::from_raw(0, &[], b"", b""), None);
     assert_eq!((Refusal::from_raw(13, &[1], b"", b""), Refusal::from_raw_package(9, &[0], b"", b"")), (None, None));
-    assert_eq!(Refusal::from_raw(8, &[1, 2, 65_538], b"@no x", b"").map(|refusal| refusal.span()), Some(Some(1..3)));
+    assert_eq!(Refusal::from_raw(8, &[1, 2, raw::SPAN_BASE + 2], b"@no x", b"").map(|refusal| refusal.span()), Some(Some(1..3)));
     // values that did not fit were not stored
     assert!(Refusal::from_raw(5, &[], b"bogus", b"bogus").is_some());
-    let numbers: Vec<u64> = (0..20).filter_map(|n| Refusal::from_raw(n, &[0; 10], b"x", b"x")).map(|refusal| refusal.number()).collect();
+    let numbers: Vec<u64> = (0..99).filter_map(|n| Refusal::from_raw(n, &[0; 10], b"x", b"x")).map(|refusal| refusal.number()).collect();
     assert_eq!(numbers, [1, 2, 3, 4, 5, 7, 8, 9, 10, 11, 12]);
-    let numbers = (0..20).filter_map(|n| Refusal::from_raw_package(n, &[0; 10], b"x", b"x")).map(|refusal| refusal.number());
+    let numbers = (0..99).filter_map(|n| Refusal::from_raw_package(n, &[0; 10], b"x", b"x")).map(|refusal| refusal.number());
     assert_eq!(numbers.collect::<Vec<_>>(), [1, 2, 3, 4, 5, 7, 8, 10, 11, 12, 13, 14, 15]);
 }
 
@@ -188,7 +189,7 @@ fn lengths_and_bytes_are_judged_first() {
     assert_eq!(numbers(&vec![b' '; LIMIT]), [0; 8]);
     for len in [LIMIT + 1, 4 << 20] {
         assert_eq!(numbers(&vec![0xff; len]), [1; 8]);
-        assert_eq!(list_text(&vec![b' '; len]), "[1,16384]\n");
+        assert_eq!(list_text(&vec![b' '; len]), "[1,1048576]\n");
     }
     let mut bytes = vec![b' '; LIMIT];
     bytes[LIMIT - 1] = 0x80;
@@ -208,13 +209,16 @@ fn rooms_are_as_large_as_is_asked() {
     }
 }
 
+/// Texts with many tokens, with long lines, with both and with neither, short and at the limit.
 #[test]
 fn listings_always_fit() {
-    let dense = ["\n", "a\n", "\"\x01\"", "a'\\", "\x01", "\"\\", "#\n"];
-    for text in dense.map(|piece| piece.repeat(LIMIT / piece.len())) {
-        let listed = list_text(&text);
-        assert!(listed.starts_with("[[") && listed.ends_with("]]\n"), "{}", &text[..8]);
-        assert_eq!(listed.matches("],[").count() + 1, tokens(&text).expect("ASCII").list.len());
+    let dense = ["\n", "a\n", "\x01\n", "\"\x01\"", "a'\\", "\x01", "\"\\", "#\n", "word ", "\"\" "];
+    for (len, piece) in [0, 8, 40, 500, LIMIT].into_iter().flat_map(|len| dense.map(|piece| (len, piece))) {
+        let text = piece.repeat(len / piece.len());
+        let (listed, count) = (list_text(&text), tokens(&text).expect("ASCII").list.len());
+        assert!(listed.starts_with(if count == 0 { "[]" } else { "[[" }) && listed.ends_with("]\n"), "{piece:?} {len}");
+        assert_eq!(listed.matches("],[").count() + 1, count.max(1), "{piece:?} {len}");
+        assert!(listed.len() <= 39 * len + 31, "{piece:?} {len}");
     }
     assert_eq!(list_text("\x0c"), "[[\"stopped\",1,1]]\n");
 }

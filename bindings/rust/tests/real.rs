@@ -1,7 +1,7 @@
 //! Real rules through the typed readers: samples/desk.conf, and the Core Rule Set where it is installed (Debian: modsecurity-crs).
 //! What was read is held against the source, cut here a second time by plain text searches.
 
-use seclang::{Action, ActionCode, Refusal, Selection, SetVarValue, Sourced, Targets, Token, TokenKind, LIMIT};
+use seclang::{Action, ActionCode, Directive, DirectiveKind, Refusal, Selection, SetVarValue, Sourced, Targets, Token, TokenKind, LIMIT};
 use std::path::{Path, PathBuf};
 
 const FOLDER: &str = "/usr/share/modsecurity-crs";
@@ -43,12 +43,28 @@ fn plain(text: &[u8]) -> String {
     text.iter().map(|b| if b.is_ascii() { char::from(*b) } else { '?' }).collect()
 }
 
+/// How far a text has been gone through: the last token's end, and the number and first byte of the line there.
+#[derive(Clone, Copy)]
+struct Reached {
+    past: usize,
+    line: usize,
+    start: usize,
+}
+
+impl Reached {
+    const START: Reached = Reached { past: 0, line: 1, start: 0 };
+
+    fn to(self, text: &str, past: usize) -> Self {
+        let gone = &text[self.past..past];
+        Reached { past, line: self.line + gone.matches('\n').count(), start: gone.rfind('\n').map_or(self.start, |at| self.past + at + 1) }
+    }
+}
+
 /// A token says what stands at its place, and between two tokens stand blanks and continuations alone.
-fn check_token(text: &str, past: usize, token: &Token) {
-    let (before, source) = (&text[..token.bytes.start], &text[token.bytes.clone()]);
-    assert!(text[past..token.bytes.start].bytes().all(|b| b" \t\r\\\n".contains(&b)), "{token:?}");
-    assert_eq!(token.line, 1 + before.matches('\n').count(), "{token:?}");
-    assert_eq!(token.column, 1 + before.len() - before.rfind('\n').map_or(0, |at| at + 1), "{token:?}");
+fn check_token(text: &str, reached: Reached, token: &Token) {
+    let (at, source) = (reached.to(text, token.bytes.start), &text[token.bytes.clone()]);
+    assert!(text[reached.past..at.past].bytes().all(|b| b" \t\r\\\n".contains(&b)), "{token:?}");
+    assert_eq!((token.line, token.column), (at.line, 1 + at.past - at.start), "{token:?}");
     let written = match &token.kind {
         TokenKind::Directive(_) | TokenKind::Word(_) => source,
         TokenKind::QuotedString(_) => source[1..].strip_suffix(&source[..1]).expect("a closing mark"),
@@ -218,9 +234,9 @@ impl Seen {
         let all = seclang::tokens(text).expect("ASCII within the limit");
         assert_eq!(all.stop.place, text.len());
         assert_eq!(seclang::plain_tokens(text).as_ref(), Ok(&all));
-        all.list.iter().fold(0, |past, token| {
-            check_token(text, past, token);
-            token.bytes.end
+        all.list.iter().fold(Reached::START, |reached, token| {
+            check_token(text, reached, token);
+            reached.to(text, token.bytes.end)
         });
         self.tokens += all.list.len();
         let is_directive = |token: &Token| matches!(token.kind, TokenKind::Directive(_));
@@ -272,6 +288,49 @@ fn check_file(path: &Path) -> Seen {
 fn the_sample_is_read() {
     let seen = check_file(&Path::new(env!("CARGO_MANIFEST_DIR")).join("../../samples/desk.conf"));
     assert_eq!((seen.rules, seen.tokens, seen.actions, seen.ids), (1, 9, 4, vec![100001]));
+}
+
+/// A directive so many bytes and lines further on.
+fn moved(directive: &Directive, bytes: usize, lines: usize) -> Directive {
+    fn shift<T>(things: &mut [Sourced<T>], bytes: usize) {
+        things.iter_mut().for_each(|one| one.source = one.source.start + bytes..one.source.end + bytes);
+    }
+    let mut there = directive.clone();
+    there.line += lines;
+    there.bytes = there.bytes.start + bytes..there.bytes.end + bytes;
+    match &mut there.kind {
+        DirectiveKind::Rule { targets, actions, .. } => {
+            shift(&mut targets.variables, bytes);
+            shift(&mut targets.exclusions, bytes);
+            shift(actions, bytes);
+        }
+        DirectiveKind::Action(actions) | DirectiveKind::Defaults(actions) => shift(actions, bytes),
+        DirectiveKind::Marker(_) | DirectiveKind::Unknown(_) => {}
+    }
+    there
+}
+
+/// The files that are read, joined again and again up to the limit, are read as one package: each where it stands there.
+#[test]
+fn a_merged_package_is_read() {
+    let mut found = Vec::new();
+    files(Path::new(FOLDER), &mut found);
+    let texts = found.iter().map(|path| plain(&std::fs::read(path).expect("a file that can be read")) + "\n");
+    let read: Vec<(String, Vec<Directive>)> = texts.filter_map(|text| seclang::directives(&text).ok().map(|list| (text, list))).collect();
+    if read.is_empty() {
+        return println!("left out: there is no Core Rule Set in {FOLDER}");
+    }
+    let (mut package, mut expected, mut lines) = (String::new(), Vec::new(), 0);
+    for (text, list) in read.iter().cycle() {
+        if LIMIT < package.len() + text.len() {
+            break;
+        }
+        expected.extend(list.iter().map(|directive| moved(directive, package.len(), lines)));
+        lines += text.matches('\n').count();
+        package.push_str(text);
+    }
+    assert!(LIMIT / 2 < package.len());
+    assert_eq!(seclang::directives(&package), Ok(expected));
 }
 
 #[test]
