@@ -19,8 +19,8 @@ int main(void)
     printf("tokens: number %" PRIu64 ", %" PRIu64 " records\n", number, values[0]);
     for (uint64_t i = 0; i < values[0]; i++) {
         const uint64_t *record = records + i * SECLANG_TOKEN_WORDS;
-        printf("%" PRIu64 " %" PRIu64 ":%" PRIu64 " %.*s\n", record[0], record[1], record[2], (int)(record[4] % 65536),
-               (const char *)text + record[4] / 65536);
+        printf("%" PRIu64 " %" PRIu64 ":%" PRIu64 " %.*s\n", record[0], record[1], record[2],
+               (int)SECLANG_SPAN_LENGTH(record[4]), (const char *)text + SECLANG_SPAN_OFFSET(record[4]));
     }
 
     const char *list = "id:7,phase:2,deny,msg:'a, b'";

@@ -6,21 +6,28 @@
 #include <string.h>
 #include <strings.h>
 
-enum { ROOM = 1 << 17 };
+/* Room for all that a text at the limit holds: of the readers here the lexer needs the most words. */
+enum { ROOM = SECLANG_LIMIT, WORDS = SECLANG_TOKENS_MOST(ROOM) * SECLANG_TOKEN_WORDS };
 static uint8_t text[ROOM];
 static uint8_t scratch[ROOM];
-static uint64_t records[ROOM];
-static uint64_t values[10];
+static uint64_t records[WORDS];
+static uint64_t values[SECLANG_VALUES_MOST];
 
-static struct text spanned(uint64_t span)
+/* The bytes that a text is lent. All that is lent is cleared, so that it is no more than the text can need. */
+static size_t lent(struct text input)
 {
-    return (struct text){text + span / 65536, (size_t)(span % 65536)};
+    return input.len < ROOM ? input.len : ROOM;
+}
+
+static struct text spanned(const uint8_t *texts, uint64_t span)
+{
+    return (struct text){texts + SECLANG_SPAN_OFFSET(span), (size_t)SECLANG_SPAN_LENGTH(span)};
 }
 
 static void quoted(FILE *said, uint64_t span)
 {
     fputs(" `", said);
-    escaped(said, spanned(span));
+    escaped(said, spanned(text, span));
     fputc('`', said);
 }
 
@@ -56,19 +63,21 @@ static bool variables_read(uint64_t number, FILE *said)
 
 bool ours_variables(struct text list, FILE *said)
 {
+    size_t n = lent(list), words = SECLANG_VARIABLES_MOST(n) * SECLANG_VARIABLE_WORDS;
     return variables_read(
-        seclang_parse_variables(list.at, list.len, text, ROOM, records, ROOM, values, 10), said);
+        seclang_parse_variables(list.at, list.len, text, n, records, words, values, SECLANG_VALUES_MOST), said);
 }
 
 bool ours_targets(struct text list, FILE *said)
 {
+    size_t n = lent(list), words = SECLANG_UPDATE_TARGETS_MOST(n) * SECLANG_VARIABLE_WORDS;
     return variables_read(
-        seclang_parse_update_targets(list.at, list.len, text, ROOM, records, ROOM, values, 10), said);
+        seclang_parse_update_targets(list.at, list.len, text, n, records, words, values, SECLANG_VALUES_MOST), said);
 }
 
 bool ours_operator(struct text input, FILE *said)
 {
-    uint64_t number = seclang_parse_operator(input.at, input.len, values, 10);
+    uint64_t number = seclang_parse_operator(input.at, input.len, values, SECLANG_VALUES_MOST);
     if (number == 8) {
         fputs("8 `", said);
         escaped(said, (struct text){input.at + values[0], (size_t)values[1]});
@@ -111,8 +120,9 @@ static void tell_action(const uint64_t *record, FILE *said)
 
 bool ours_actions(struct text list, FILE *said)
 {
-    uint64_t number =
-        seclang_parse_actions(list.at, list.len, text, ROOM, scratch, ROOM, records, ROOM, values, 10);
+    size_t n = lent(list), room = SECLANG_ACTIONS_MOST(n) * SECLANG_ACTION_WORDS;
+    uint64_t number = seclang_parse_actions(list.at, list.len, text, n, scratch, n, records, room, values,
+                                            SECLANG_VALUES_MOST);
     if (refused(number, said))
         return false;
     uint64_t count = values[0];
@@ -128,7 +138,7 @@ bool ours_actions(struct text list, FILE *said)
 
 /* The tokens of a text have buffers of their own, since the readers of arguments write the others. */
 static uint8_t token_text[ROOM];
-static uint64_t tokens[ROOM];
+static uint64_t tokens[WORDS];
 
 static bool named(const struct directive *directive, const char *name)
 {
@@ -164,14 +174,16 @@ static void give_readers(struct directive *directive)
 bool ours_directives(struct text input, struct directive *directives, size_t *count, FILE *said)
 {
     *count = 0;
-    uint64_t number = seclang_tokens(input.at, input.len, token_text, ROOM, tokens, ROOM, values, 10);
+    size_t n = lent(input), room = SECLANG_TOKENS_MOST(n) * SECLANG_TOKEN_WORDS;
+    uint64_t number =
+        seclang_tokens(input.at, input.len, token_text, n, tokens, room, values, SECLANG_VALUES_MOST);
     if (refused(number, said))
         return false;
     fputs(": ", said);
     struct directive *open = NULL;
     const uint64_t *end = tokens + values[0] * SECLANG_TOKEN_WORDS;
     for (const uint64_t *token = tokens; token < end; token += SECLANG_TOKEN_WORDS) {
-        struct text own = {token_text + token[4] / 65536, (size_t)(token[4] % 65536)};
+        struct text own = spanned(token_text, token[4]);
         fputc(" DWSCN"[token[0]], said);
         if (token[0] == 1 && *count < MOST_DIRECTIVES) {
             open = directives + (*count)++;

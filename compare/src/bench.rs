@@ -1,30 +1,29 @@
 //! Speeds on the same inputs in one process: bytes a second, ours and the original's.
 
-use crate::cases::RULES;
+use crate::cases::{RULES, SHORT};
+use crate::original::{self, copies, COPIES};
 use crate::parser::action::parse_actions;
 use crate::parser::lexer::{Lexer, TokenKind};
 use crate::parser::operator::{parse_operator, OperatorName};
 use crate::parser::variable::{parse_update_targets, parse_variables, VariableName};
 use crate::readers::Reader;
-use crate::{directives, original, ours, real, underlined};
+use crate::{directives, ours, real, sizes, underlined};
 use std::hint::black_box;
 use std::path::PathBuf;
+use timing::{exact, exact_package, fills};
+pub use timing::{Needs, Room, Row};
 
-/// Rounds of each side in turn; the median of each is shown.
-const ROUNDS: usize = 11;
-
-/// How long a round is, in nanoseconds.
-const ROUND: f64 = 1e8;
+mod timing;
 
 /// The inputs of each row.
 #[derive(Default)]
-struct Inputs {
-    texts: Vec<String>,
-    packages: Vec<String>,
-    actions: Vec<String>,
-    plain: Vec<String>,
-    excluding: Vec<String>,
-    operators: Vec<String>,
+pub struct Inputs {
+    pub texts: Vec<String>,
+    pub packages: Vec<String>,
+    pub actions: Vec<String>,
+    pub plain: Vec<String>,
+    pub excluding: Vec<String>,
+    pub operators: Vec<String>,
 }
 
 impl Inputs {
@@ -56,95 +55,47 @@ impl Inputs {
         }
     }
 
-    fn of(folders: &[PathBuf]) -> Self {
+    /// A few rules, where no folder is named.
+    fn small() -> Self {
+        let mut inputs = Inputs::default();
+        for (reader, rule) in RULES {
+            match reader {
+                Reader::Tokens => {
+                    inputs.texts.push(rule.repeat(80));
+                    inputs.packages.push(rule.repeat(80));
+                }
+                Reader::Actions => inputs.actions.push(rule.to_string()),
+                Reader::Variables | Reader::Updates => inputs.variables(rule.to_string()),
+                Reader::Operator => inputs.operators.push(rule.to_string()),
+                _ => {}
+            }
+        }
+        inputs.plain.push("REQUEST_COOKIES|REQUEST_COOKIES_NAMES|ARGS_NAMES|ARGS|XML:/*".to_string());
+        inputs
+    }
+
+    pub fn of(folders: &[PathBuf]) -> Self {
+        if folders.is_empty() {
+            return Inputs::small();
+        }
         let (mut inputs, real) = (Inputs::default(), real::read(folders));
-        for text in real.texts.into_iter().filter(|text| text.is_ascii()) {
+        for text in real.short_texts().into_iter().filter(|text| text.is_ascii()) {
             let text = String::from_utf8(text).expect("ASCII");
             inputs.rules(&text);
             inputs.texts.push(text);
         }
         // a package that is refused ends both sides' work at its fault: only those that are read are timed
-        let packages = real.packages.into_iter().map(|text| String::from_utf8(text).expect("ASCII"));
-        inputs.packages.extend(packages.filter(|text| text.len() <= original::LIMIT && directives::read(text).number == 0));
-        if folders.is_empty() {
-            for (reader, rule) in RULES {
-                match reader {
-                    Reader::Tokens => {
-                        inputs.texts.push(rule.repeat(80));
-                        inputs.packages.push(rule.repeat(80));
-                    }
-                    Reader::Actions => inputs.actions.push(rule.to_string()),
-                    Reader::Variables | Reader::Updates => inputs.variables(rule.to_string()),
-                    Reader::Operator => inputs.operators.push(rule.to_string()),
-                    _ => {}
-                }
-            }
-            inputs.plain.push("REQUEST_COOKIES|REQUEST_COOKIES_NAMES|ARGS_NAMES|ARGS|XML:/*".to_string());
-        }
+        let packages = real.short_packages().into_iter();
+        inputs.packages.extend(packages.filter(|text| text.len() <= SHORT && directives::read(text).number == 0));
         inputs
     }
 }
 
-/// What ours is lent: text as long as the input, and records that fit; or as much as any input could ask for.
-struct Room {
-    text: Vec<u8>,
-    scratch: Vec<u8>,
-    records: Vec<u64>,
-    variables: Vec<u64>,
-    actions: Vec<u64>,
-    values: [u64; 16],
-}
-
-/// Words of records: of the one buffer, or of directives, variables and actions.
-type Needs = [usize; 3];
-
-impl Room {
-    fn new() -> Self {
-        let (bytes, words) = (|| vec![1; 16_400], |n| vec![1; n]);
-        Room { text: bytes(), scratch: bytes(), records: words(45_056), variables: words(49_152), actions: words(38_234), values: [0; 16] }
-    }
-}
-
-extern "C" {
-    fn clock_gettime(clock: i32, time: *mut [i64; 2]) -> i32;
-}
-
-/// CLOCK_THREAD_CPUTIME_ID of Linux.
-const OF_THIS_THREAD: i32 = 3;
-
-/// Nanoseconds that this thread ran, which other programs on the machine do not add to.
-fn ran() -> f64 {
-    let mut time = [0; 2];
-    let done = unsafe { clock_gettime(OF_THIS_THREAD, &mut time) };
-    assert_eq!(done, 0, "no clock of this thread");
-    time[0] as f64 * 1e9 + time[1] as f64
-}
-
-struct Row<'a> {
-    name: &'a str,
-    inputs: &'a [String],
-    /// The words of records that each input asks for.
-    words: Vec<Needs>,
-    ours: fn(&[u8], Needs, &mut Room) -> u64,
-    original: fn(&str),
-}
-
-fn needs(inputs: &[String], of: fn(&str) -> original::Outcome) -> Vec<Needs> {
-    inputs.iter().map(|text| [of(text).words.len(), 0, 0]).collect()
-}
-
-fn needed(package: &str) -> Needs {
-    let read = directives::read(package);
-    assert_eq!(read.number, 0, "a package that is refused");
-    [read.directives.len(), read.variables.len(), read.actions.len()]
-}
+/// One side of a row: a call with what it is lent.
+type Ours = fn(&[u8], Needs, &mut Room) -> u64;
 
 fn look<T>(found: Option<T>) {
     black_box(found);
-}
-
-fn fills(call: ours::Filler, input: &[u8], [words, ..]: Needs, room: &mut Room) -> u64 {
-    call(input, &mut room.text[..input.len()], &mut room.records[..words], &mut room.values)
 }
 
 fn listed(input: &[u8], [words, ..]: Needs, room: &mut Room) -> u64 {
@@ -152,7 +103,7 @@ fn listed(input: &[u8], [words, ..]: Needs, room: &mut Room) -> u64 {
     ours::parse_actions(input, text, scratch, &mut room.records[..words], &mut room.values)
 }
 
-fn whole(input: &[u8], [d, v, a]: Needs, room: &mut Room) -> u64 {
+fn whole(input: &[u8], [d, v, a, _]: Needs, room: &mut Room) -> u64 {
     let (text, scratch) = (&mut room.text[..input.len()], &mut room.scratch[..input.len()]);
     let (variables, actions) = (&mut room.variables[..v], &mut room.actions[..a]);
     ours::directives(input, text, scratch, &mut room.records[..d], variables, actions, &mut room.values)
@@ -169,109 +120,84 @@ fn all_tokens(text: &str) {
 
 /// Whole texts: tokens, and whole directives.
 fn text_rows(inputs: &Inputs) -> Vec<Row<'_>> {
-    let roomy = |list: &[String]| vec![[20_480, 0, 0]; list.len()];
-    let tokens = |input: &[u8], words, room: &mut Room| fills(ours::tokens, input, words, room);
-    let plain_tokens = |input: &[u8], words, room: &mut Room| fills(ours::plain_tokens, input, words, room);
-    let (texts, exact) = (&inputs.texts, needs(&inputs.texts, original::tokens));
+    let fits: fn(&str) -> Needs = |text| exact(original::tokens(text));
+    let tokens: Ours = |input, needs, room| fills(ours::tokens, input, needs, room);
+    let plain_tokens: Ours = |input, needs, room| fills(ours::plain_tokens, input, needs, room);
+    let (inputs, packages) = (&inputs.texts[..], &inputs.packages[..]);
     vec![
-        Row { name: "tokens", inputs: texts, words: exact.clone(), ours: tokens, original: all_tokens },
-        Row { name: "tokens-roomy", inputs: texts, words: roomy(texts), ours: tokens, original: all_tokens },
-        Row { name: "plain_tokens", inputs: texts, words: exact, ours: plain_tokens, original: all_tokens },
+        Row { name: "tokens", inputs, needs: fits, ours: tokens, original: Some(all_tokens) },
+        Row { name: "tokens-roomy", inputs, needs: |_| [20_480, 0, 0, 0], ours: tokens, original: Some(all_tokens) },
+        Row { name: "plain_tokens", inputs, needs: fits, ours: plain_tokens, original: Some(all_tokens) },
         Row {
             name: "directives",
-            inputs: &inputs.packages,
-            words: inputs.packages.iter().map(|text| needed(text)).collect(),
+            inputs: packages,
+            needs: exact_package,
             ours: whole,
-            original: |text| drop(black_box(directives::owned(text))),
+            original: Some(|text| drop(black_box(directives::owned(text)))),
         },
     ]
 }
 
 fn target_rows(inputs: &Inputs) -> Vec<Row<'_>> {
-    let variables = |input: &[u8], words, room: &mut Room| fills(ours::parse_variables, input, words, room);
-    let updates = |input: &[u8], words, room: &mut Room| fills(ours::parse_update_targets, input, words, room);
-    let by_variables = |text: &str| drop(black_box(parse_variables(text)));
-    let by_updates = |text: &str| drop(black_box(parse_update_targets(text)));
-    let (plain, excluding) = (&inputs.plain, &inputs.excluding);
-    let (of_plain, of_excluding) = (needs(plain, underlined::variables), needs(excluding, underlined::variables));
-    let of_updates = needs(excluding, underlined::updates);
+    let variables: Ours = |input, needs, room| fills(ours::parse_variables, input, needs, room);
+    let updates: Ours = |input, needs, room| fills(ours::parse_update_targets, input, needs, room);
+    let by_variables: Option<fn(&str)> = Some(|text| drop(black_box(parse_variables(text))));
+    let by_updates: Option<fn(&str)> = Some(|text| drop(black_box(parse_update_targets(text))));
+    let of_variables: fn(&str) -> Needs = |list| exact(underlined::variables(list));
+    let few_copies = inputs.excluding.iter().all(|list| copies(list) <= COPIES);
+    let excluding = &inputs.excluding[..];
     vec![
-        Row { name: "parse_variables", inputs: plain, words: of_plain, ours: variables, original: by_variables },
-        Row { name: "parse_variables-excluding", inputs: excluding, words: of_excluding, ours: variables, original: by_variables },
-        Row { name: "parse_update_targets", inputs: excluding, words: of_updates, ours: updates, original: by_updates },
+        Row { name: "parse_variables", inputs: &inputs.plain, needs: of_variables, ours: variables, original: by_variables },
+        Row {
+            name: "parse_variables-excluding",
+            inputs: excluding,
+            needs: of_variables,
+            ours: variables,
+            original: by_variables.filter(|_| few_copies),
+        },
+        Row {
+            name: "parse_update_targets",
+            inputs: excluding,
+            needs: |list| exact(underlined::updates(list)),
+            ours: updates,
+            original: by_updates,
+        },
     ]
 }
 
-fn rows<'a>(inputs: &'a Inputs, names: &'a [Vec<String>; 2]) -> Vec<Row<'a>> {
-    let none = |list: &[String]| vec![[0; 3]; list.len()];
+pub fn rows<'a>(inputs: &'a Inputs, names: &'a [Vec<String>; 2]) -> Vec<Row<'a>> {
+    let none: fn(&str) -> Needs = |_| [0; 4];
     let mut all = text_rows(inputs);
     all.push(Row {
         name: "parse_actions",
         inputs: &inputs.actions,
-        words: needs(&inputs.actions, underlined::actions),
+        needs: |list| exact(underlined::actions(list)),
         ours: listed,
-        original: |text| drop(black_box(parse_actions(text))),
+        original: Some(|text| drop(black_box(parse_actions(text)))),
     });
     all.extend(target_rows(inputs));
     all.push(Row {
         name: "parse_operator",
         inputs: &inputs.operators,
-        words: none(&inputs.operators),
+        needs: none,
         ours: |input, _, room| ours::parse_operator(input, &mut room.values),
-        original: |text| drop(black_box(parse_operator(text))),
+        original: Some(|text| drop(black_box(parse_operator(text)))),
     });
     all.push(Row {
         name: "lookup-variables",
         inputs: &names[0],
-        words: none(&names[0]),
+        needs: none,
         ours: |name, _, _| ours::lookup(0, name),
-        original: |name| look(VariableName::from_str(name)),
+        original: Some(|name| look(VariableName::from_str(name))),
     });
     all.push(Row {
         name: "lookup-operators",
         inputs: &names[1],
-        words: none(&names[1]),
+        needs: none,
         ours: |name, _, _| ours::lookup(1, name),
-        original: |name| look(OperatorName::from_str(name)),
+        original: Some(|name| look(OperatorName::from_str(name))),
     });
     all
-}
-
-impl Row<'_> {
-    fn bytes(&self) -> usize {
-        self.inputs.iter().map(String::len).sum()
-    }
-
-    fn pass(&self, ours: bool, room: &mut Room) {
-        if !ours {
-            return self.inputs.iter().for_each(|input| (self.original)(black_box(input)));
-        }
-        for (input, words) in self.inputs.iter().zip(&self.words) {
-            black_box((self.ours)(black_box(input.as_bytes()), *words, room));
-        }
-    }
-
-    /// Nanoseconds for a pass of one side, over so many.
-    fn timed(&self, ours: bool, passes: usize, room: &mut Room) -> f64 {
-        let began = ran();
-        (0..passes).for_each(|_| self.pass(ours, room));
-        (ran() - began) / passes as f64
-    }
-
-    /// Nanoseconds for a pass of each side: the median over rounds of so many passes that a round takes some ROUND.
-    fn medians(&self, room: &mut Room) -> [f64; 2] {
-        let passes = [true, false].map(|ours| 1 + (ROUND / self.timed(ours, 1 + 1_000_000 / (self.bytes() + 1), room)) as usize);
-        let mut times = [Vec::new(), Vec::new()];
-        for _ in 0..ROUNDS {
-            for (side, of) in times.iter_mut().enumerate() {
-                of.push(self.timed(side == 0, passes[side], room));
-            }
-        }
-        times.map(|mut of| {
-            of.sort_by(f64::total_cmp);
-            of[of.len() / 2]
-        })
-    }
 }
 
 fn names() -> [Vec<String>; 2] {
@@ -280,12 +206,13 @@ fn names() -> [Vec<String>; 2] {
 }
 
 pub fn table(folders: &[PathBuf]) -> bool {
-    let (inputs, names, mut room) = (Inputs::of(folders), names(), Room::new());
+    let (inputs, names) = (Inputs::of(folders), names());
     println!(
         "| Row | Inputs | Bytes | Ours, MB/s | Rust, MB/s | Times | Ours, ns a call | Rust, ns a call |\n|---|---|---|---|---|---|---|---|"
     );
     for row in rows(&inputs, &names).iter().filter(|row| !row.inputs.is_empty()) {
-        let [ours, rust] = row.medians(&mut room);
+        let (ours, rust) = row.medians(&mut Room::of(row));
+        let rust = rust.expect("every row here has an original's");
         let (bytes, calls) = (row.bytes() as f64, row.inputs.len() as f64);
         println!(
             "| {} | {calls} | {bytes} | {:.0} | {:.0} | {:.1} | {:.0} | {:.0} |",
@@ -300,16 +227,26 @@ pub fn table(folders: &[PathBuf]) -> bool {
     true
 }
 
-/// So many passes of one side of one row, as `ours/tokens` or `rust/tokens`; prints the bytes of a pass.
-pub fn again(case: &str, times: u64, folders: &[PathBuf]) -> bool {
-    let (inputs, names, mut room) = (Inputs::of(folders), names(), Room::new());
-    let all = rows(&inputs, &names);
-    let found = case.split_once('/').and_then(|(side, name)| Some((side, all.iter().find(|row| row.name == name)?)));
-    let Some((side, row)) = found else {
+/// So many passes of one side of one row; prints the bytes of a pass.
+fn passes(all: &[Row], side: &str, name: &str, times: u64) -> bool {
+    let Some(row) = all.iter().find(|row| row.name == name).filter(|_| side == "ours" || side == "rust") else {
         eprintln!("cases: ours/ROW and rust/ROW, with ROW one of {}", all.iter().map(|row| row.name).collect::<Vec<_>>().join(" "));
         return false;
     };
+    let mut room = Room::of(row);
     (0..times).for_each(|_| row.pass(side == "ours", &mut room));
     println!("{}", row.bytes());
     true
+}
+
+/// The same of a case: `ours/tokens` or `rust/tokens`, or with inputs of one size `ours/tokens@1048576`.
+pub fn again(case: &str, times: u64, folders: &[PathBuf]) -> bool {
+    let (side, name) = case.split_once('/').unwrap_or(("", case));
+    match name.split_once('@') {
+        None => passes(&rows(&Inputs::of(folders), &names()), side, name, times),
+        Some((name, size)) => {
+            let sized = sizes::OfSize::of(&sizes::Parts::of(folders), size.parse().expect("a size in bytes"));
+            passes(&sized.rows(), side, name, times)
+        }
+    }
 }

@@ -3,6 +3,9 @@
 use crate::packages::{ARGUMENTS, JOINTS, LINES};
 use crate::readers::Reader;
 
+/// The longest of the short texts, of which there are millions: `long` has the others.
+pub const SHORT: usize = 16_384;
+
 /// Every text of up to `longest` pieces over an alphabet, for some readers.
 pub struct Set {
     pub readers: &'static [Reader],

@@ -1,13 +1,16 @@
 //! One call of ours beside the original's answer: number, values, every byte and word lent.
 
 use crate::lent::{After, Lent};
-use crate::original::{self, Cursor, Outcome, LIMIT};
+use crate::original::{self, Outcome, LIMIT};
 use crate::ours;
-use crate::readers::{sized, Reader, Shape, ACTION_WORDS, READERS, SHAPES, TOKEN_WORDS, VARIABLE_WORDS};
+use crate::readers::{sized, Reader, Shape, ACTION_WORDS, LONG_SHAPES, READERS, SHAPES, TOKEN_WORDS, VARIABLE_WORDS};
 use crate::underlined;
 
 mod alone;
+mod listings;
 mod packages;
+mod spans;
+mod steps;
 
 pub struct Checker {
     text: Lent<u8>,
@@ -21,6 +24,13 @@ pub struct Checker {
     pub shape: usize,
     /// Whether steps are tried at every place of a long text too.
     pub every: bool,
+    /// Whether texts are long: what is lent has fewer shapes then, all for one answer of the original's.
+    pub long: bool,
+    /// Whether the span words of our records are converted too.
+    pub converted: bool,
+    /// Span words of our records that have an old word, and that have none.
+    pub held: u64,
+    pub far: u64,
     pub counts: [u64; READERS.len()],
 }
 
@@ -31,7 +41,8 @@ fn gate(input: &[u8], shortest: usize, asked: usize) -> Option<(u64, u64)> {
     if LIMIT < input.len() {
         return Some((1, LIMIT as u64));
     }
-    if let Some(place) = input.iter().position(|b| 127 < *b) {
+    if !input.is_ascii() {
+        let place = input.iter().position(|b| 127 < *b).expect("a byte past ASCII");
         return Some((2, place as u64));
     }
     (shortest < asked).then_some((3, 0))
@@ -72,14 +83,33 @@ impl Checker {
             alone,
             shape: 0,
             every: false,
+            long: false,
+            converted: false,
+            held: 0,
+            far: 0,
             counts: [0; READERS.len()],
         }
     }
 
-    fn count(&mut self, reader: Reader) -> Shape {
+    /// What is lent in a case, in turn.
+    fn turn(&mut self, reader: Reader) -> Shape {
         self.counts[reader as usize] += 1;
         self.shape = (self.shape + 1) % SHAPES.len();
-        SHAPES[self.shape]
+        if self.long {
+            LONG_SHAPES[self.shape % LONG_SHAPES.len()]
+        } else {
+            SHAPES[self.shape]
+        }
+    }
+
+    /// What is lent for one answer of the original's: one in turn, or all of the few for a long text.
+    fn shapes(&mut self, reader: Reader) -> &'static [Shape] {
+        self.turn(reader);
+        if !self.long {
+            return &SHAPES[self.shape..=self.shape];
+        }
+        self.counts[reader as usize] += LONG_SHAPES.len() as u64 - 1;
+        &LONG_SHAPES
     }
 
     /// The number given, and the values where they were lent room.
@@ -91,7 +121,7 @@ impl Checker {
         if self.values.is(after) {
             Ok(())
         } else {
-            Err(format!("number {got}, values {}, the original's {values:?}", self.values.shown()))
+            Err(format!("number {got}, values {}", self.values.shown(after)))
         }
     }
 
@@ -105,54 +135,63 @@ impl Checker {
         };
         self.told(got, number, &values, lent)?;
         if !self.text.is(text) {
-            return Err(format!("number {got}, text {}, the original's {:?}", self.text.shown(), o.texts.escape_ascii().to_string()));
+            return Err(format!("number {got}, text {}", self.text.shown(text)));
         }
         if !self.records.is(words) {
-            return Err(format!("number {got}, records {}, the original's {:?}", self.records.shown(), o.words));
+            return Err(format!("number {got}, records {}", self.records.shown(words)));
         }
         Ok(())
     }
 
     fn fills(&mut self, reader: Reader, input: &[u8], of: fn(&str) -> Outcome, width: usize, more: usize, call: ours::Filler) -> Checked {
-        let shape = self.count(reader);
         let o = readable(input).map(of).unwrap_or_default();
-        self.fills_as(shape, input, &o, width, more, call)
+        self.shapes(reader).iter().try_for_each(|shape| self.fills_as(*shape, input, &o, width, more, call))
     }
 
     /// Both lexers on one text, each lent the same.
     fn lexers(&mut self, input: &[u8]) -> Checked {
-        let shape = self.count(Reader::Tokens);
-        self.counts[Reader::PlainTokens as usize] += 1;
         let o = readable(input).map(original::tokens).unwrap_or_default();
-        self.fills_as(shape, input, &o, TOKEN_WORDS, 0, ours::tokens)?;
-        self.fills_as(shape, input, &o, TOKEN_WORDS, 0, ours::plain_tokens).map_err(|e| format!("the plain lexer: {e}"))
+        for shape in self.shapes(Reader::Tokens) {
+            self.counts[Reader::PlainTokens as usize] += 1;
+            self.fills_as(*shape, input, &o, TOKEN_WORDS, 0, ours::tokens)?;
+            let plain = self.fills_as(*shape, input, &o, TOKEN_WORDS, 0, ours::plain_tokens);
+            plain.map_err(|e| format!("the plain lexer: {e}"))?;
+        }
+        Ok(())
     }
 
     fn fills_as(&mut self, shape: Shape, input: &[u8], o: &Outcome, width: usize, more: usize, call: ours::Filler) -> Checked {
         let asked = input.len() + more;
         let (n, m, v) = (sized(asked, shape.text), sized(o.words.len(), shape.records), sized(o.values.len(), shape.values));
         let got = call(input, self.text.lend(n), self.records.lend(m), self.values.lend(v));
-        self.filled(gate(input, n, asked), o, width, got, v, m).map_err(|e| format!("{e}; lent {n} bytes, {m} and {v} words"))
+        let checked = self.filled(gate(input, n, asked), o, width, got, v, m).and_then(|()| self.kept(input, o, width, got, v));
+        checked.map_err(|e| format!("{e}; lent {n} bytes, {m} and {v} words"))
     }
 
     fn actions(&mut self, input: &[u8]) -> Checked {
-        let shape = self.count(Reader::Actions);
         let o = readable(input).map(underlined::actions).unwrap_or_default();
+        let text = readable(input).map(original::normalised).unwrap_or_default();
+        self.shapes(Reader::Actions).iter().try_for_each(|shape| self.actions_as(*shape, input, &o, &text))?;
+        if readable(input).is_some() && o.number == 0 {
+            self.records_of(input, &o.words)
+        } else {
+            Ok(())
+        }
+    }
+
+    /// An action list's records, and its text normalised.
+    fn actions_as(&mut self, shape: Shape, input: &[u8], o: &Outcome, text: &str) -> Checked {
         let (n, k) = (sized(input.len(), shape.text), sized(input.len(), shape.scratch));
         let (m, v) = (sized(o.words.len(), shape.records), sized(o.values.len(), shape.values));
         let got = ours::parse_actions(input, self.text.lend(n), self.scratch.lend(k), self.records.lend(m), self.values.lend(v));
         let refused = gate(input, n.min(k), input.len());
         let lent = |e| format!("{e}; lent {n} and {k} bytes, {m} and {v} words");
-        self.filled(refused, &o, ACTION_WORDS, got, v, m).map_err(lent)?;
-        let text = readable(input).map(original::normalised).unwrap_or_default();
+        self.filled(refused, o, ACTION_WORDS, got, v, m).and_then(|()| self.kept(input, o, ACTION_WORDS, got, v)).map_err(lent)?;
         let scratch = if refused.is_some() { After::Untouched } else { After::Padded(text.as_bytes()) };
-        if !self.scratch.is(scratch) {
-            return Err(lent(format!("number {got}, scratch {}, the original's {text:?}", self.scratch.shown())));
-        }
-        if readable(input).is_some() && o.number == 0 {
-            self.records_of(input, &o.words)
-        } else {
+        if self.scratch.is(scratch) {
             Ok(())
+        } else {
+            Err(lent(format!("number {got}, scratch {}", self.scratch.shown(scratch))))
         }
     }
 
@@ -173,45 +212,17 @@ impl Checker {
     }
 
     fn operator(&mut self, input: &[u8]) -> Checked {
-        let shape = self.count(Reader::Operator);
         let o = readable(input).map(underlined::operator).unwrap_or_default();
+        self.shapes(Reader::Operator).iter().try_for_each(|shape| self.operator_as(*shape, input, &o))
+    }
+
+    fn operator_as(&mut self, shape: Shape, input: &[u8], o: &Outcome) -> Checked {
         let v = sized(o.values.len(), shape.values);
         let got = ours::parse_operator(input, self.values.lend(v));
         match gate(input, 0, 0) {
             Some((number, value)) => self.told(got, number, &[value], v),
-            None => self.told(got, o.number, &o.values, v),
+            None => self.told(got, o.number, &o.values, v).and_then(|()| self.kept(input, o, ACTION_WORDS, got, v)),
         }
-    }
-
-    pub fn step(&mut self, input: &[u8], from: Cursor) -> Checked {
-        let shape = self.count(Reader::NextToken);
-        let o = readable(input).map(|text| original::step(text, from)).unwrap_or_default();
-        let (n, v) = (sized(input.len(), shape.text), sized(o.values.len(), shape.values));
-        let got = ours::next_token(input, from, self.text.lend(n), self.values.lend(v));
-        let (checked, text) = match gate(input, n, input.len()) {
-            Some((number, value)) => (self.told(got, number, &[value], v), After::Untouched),
-            None => (self.told(got, o.number, &o.values, v), After::Front(&o.texts[..])),
-        };
-        let lent = |e| format!("{e}; at {from:?}, lent {n} bytes, {v} words");
-        checked.map_err(lent)?;
-        if self.text.is(text) {
-            Ok(())
-        } else {
-            Err(lent(format!("text {}, the original's {:?}", self.text.shown(), o.texts)))
-        }
-    }
-
-    /// A step at each place, or the first and last of a long text, and one past, with both marks, and with lines and columns that do not fit the place.
-    fn steps(&mut self, input: &[u8]) -> Checked {
-        let (last, every) = (input.len().min(LIMIT), self.every);
-        for place in (0..=last + 1).filter(|place| every || *place < 12 || last < place + 4) {
-            self.step(input, Cursor { place, line: 1, column: place + 1, mark: place == 0 })?;
-            let edges = [0, 1, 2, LIMIT, LIMIT + 1, LIMIT + 2, usize::MAX];
-            let (line, column) = (edges[(place + self.shape) % 7], edges[self.shape % 7]);
-            self.step(input, Cursor { place, line: line.clamp(1, LIMIT + 1), column: 9, mark: place != 0 })?;
-            self.step(input, Cursor { place, line, column, mark: self.shape % 2 == 0 })?;
-        }
-        Ok(())
     }
 
     fn lookups(&mut self, name: &[u8]) -> Checked {
@@ -221,7 +232,7 @@ impl Checker {
             if table == 2 && !text.is_ascii() {
                 continue;
             }
-            self.count(Reader::Lookup);
+            self.turn(Reader::Lookup);
             let (got, code) = (ours::lookup(table, name), original::lookup(table, text).unwrap_or(ours::UNKNOWN));
             if got != code {
                 return Err(format!("table {table}, code {got}, the original's {code}"));
@@ -233,7 +244,7 @@ impl Checker {
     fn xml(&mut self, text: &[u8]) -> Checked {
         for selection in 0..4 {
             let Some(said) = readable(text) else { continue };
-            self.count(Reader::XmlTarget);
+            self.turn(Reader::XmlTarget);
             let (got, target) = (ours::xml_target(selection, text), original::xml_target(selection, said));
             if got != target {
                 return Err(format!("selection {selection}, target {got}, the original's {target}"));
@@ -242,63 +253,9 @@ impl Checker {
         Ok(())
     }
 
-    /// A text's whole line, and the same out of its records.
-    fn listing(&mut self, input: &[u8]) -> Checked {
-        let shape = self.count(Reader::ListText);
-        let o = readable(input).map(original::tokens).unwrap_or_default();
-        let (n, m, v) = (sized(input.len(), shape.text), sized(o.words.len(), shape.records), sized(1, shape.values));
-        let refused = gate(input, n, input.len())
-            .or((m / TOKEN_WORDS < o.words.len() / TOKEN_WORDS).then_some((4, (o.words.len() / TOKEN_WORDS) as u64)));
-        let (rows, early) = readable(input).map(original::listing).unwrap_or_default();
-        let line = refused.map_or(format!("{rows}\n"), |(number, place)| format!("[{number},{place}]\n"));
-        let k = sized(line.len(), shape.scratch);
-        let got = ours::list_text(input, self.text.lend(n), self.records.lend(m), self.out.lend(k), self.values.lend(v));
-        self.written(got, line.as_bytes(), k, v)?;
-        if refused.is_none() && !(self.text.is(After::Padded(&o.texts)) && self.records.is(After::Padded(&o.words))) {
-            return Err("the reader's buffers are not as it leaves them".to_string());
-        }
-        if readable(input).is_none() {
-            return Ok(());
-        }
-        let shape = self.count(Reader::WriteListing);
-        let (k, v) = (sized(rows.len(), shape.scratch), sized(1, shape.values));
-        let got = ours::write_listing(&o.words, &o.texts, early, self.out.lend(k), self.values.lend(v));
-        self.written(got, rows.as_bytes(), k, v)?;
-        self.damaged_listing(&o)
-    }
-
-    /// A record of a kind that no reader makes is refused with 19, and the buffer cleared.
-    fn damaged_listing(&mut self, o: &Outcome) -> Checked {
-        if o.words.is_empty() {
-            return Ok(());
-        }
-        let shape = self.count(Reader::WriteListing);
-        let (mut words, count) = (o.words.clone(), o.words.len() / TOKEN_WORDS);
-        let bad = self.shape % count;
-        words[bad * TOKEN_WORDS] = [0, 6, u64::MAX][self.shape % 3];
-        let (k, v) = (sized(20, shape.scratch), sized(1, shape.values));
-        let got = ours::write_listing(&words, &o.texts, None, self.out.lend(k), self.values.lend(v));
-        self.told(got, 19, &[bad as u64], v)?;
-        if self.out.is(After::Padded(&[])) {
-            Ok(())
-        } else {
-            Err("a refused listing is not cleared".to_string())
-        }
-    }
-
-    fn written(&self, got: u64, line: &[u8], lent: usize, values: usize) -> Checked {
-        let (number, after) = if line.len() <= lent { (0, After::Padded(line)) } else { (4, After::Padded(&[][..])) };
-        self.told(got, number, &[line.len() as u64], values)?;
-        if self.out.is(after) {
-            Ok(())
-        } else {
-            Err(format!("line {}, the original's {:?}", self.out.shown(), line.escape_ascii().to_string()))
-        }
-    }
-
     /// Calls that take numbers alone.
     pub fn numbers(&mut self, a: u64, b: u64, c: u64) -> Checked {
-        let shape = self.count(Reader::WriteRefusal);
+        let shape = self.turn(Reader::WriteRefusal);
         let line = format!("[{a},{b}]");
         let (k, v) = (sized(line.len(), shape.scratch), sized(1, shape.values));
         let got = ours::write_refusal(a, b, self.out.lend(k), self.values.lend(v));
@@ -342,7 +299,8 @@ impl Checker {
             Reader::XmlTarget => self.xml(input),
             Reader::ListText | Reader::WriteListing => self.listing(input),
             Reader::Directives => self.packages(input),
-            Reader::Test | Reader::Matches | Reader::WriteRefusal | Reader::Underlined => unreachable!("these take no text"),
+            Reader::Test | Reader::Matches | Reader::WriteRefusal => unreachable!("these take no text"),
+            Reader::SpanFromOld | Reader::SpanToOld | Reader::Underlined => unreachable!("these take no text"),
         }
     }
 

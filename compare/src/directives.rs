@@ -7,8 +7,9 @@ use crate::parser::directive::{Directive, SecAction, SecMarker, SecRule};
 use crate::parser::lexer::{Lexer, Token, TokenKind};
 use crate::parser::operator::parse_operator;
 use crate::parser::variable::parse_variables;
-use crate::readers::{ACTION_WORDS, DIRECTIVE_WORDS, VARIABLE_WORDS};
+use crate::readers::{ACTION_WORDS, DIRECTIVE_WORDS, TOKEN_WORDS, VARIABLE_WORDS};
 use crate::sources::{self, Came};
+use crate::spans::{between, halves};
 use crate::underlined;
 
 /// Words of a directive, a variable and an action record.
@@ -42,14 +43,11 @@ impl Package {
         [self.directives.len() / d, self.variables.len() / v, self.actions.len() / a].map(|n| n as u64)
     }
 
-    /// The same, or 4 where so many words of records do not take it all.
-    pub fn within(self, words: [usize; 3]) -> Self {
+    /// 4, where it is read and so many words of records do not take it all.
+    pub fn without_room(&self, words: [usize; 3]) -> Option<Self> {
         let needed = self.counts();
         let fits = needed.iter().zip(words).zip(WIDTHS).all(|((needed, words), width)| *needed <= (words / width) as u64);
-        if self.number != 0 || fits {
-            return self;
-        }
-        Package { number: 4, values: needed.to_vec(), ..Package::default() }
+        (self.number == 0 && !fits).then(|| Package { number: 4, values: needed.to_vec(), ..Package::default() })
     }
 }
 
@@ -65,7 +63,6 @@ struct Piece<'a> {
 
 impl<'a> Piece<'a> {
     fn of(record: &[u64], texts: &'a str, package: &'a [u8]) -> Self {
-        let halves = |word: u64| ((word / 65_536) as usize, (word % 65_536) as usize);
         let ((first, len), (offset, size)) = (halves(record[3]), halves(record[4]));
         Piece { kind: record[0], line: record[1], first, past: first + len, text: &texts[offset..offset + size], package }
     }
@@ -143,7 +140,7 @@ impl Joined {
         };
         let past = arguments.last().unwrap_or(token).past;
         let [_, variables, actions] = self.package.counts();
-        self.package.directives.extend([kind, line, sources::span(token.first, past), name]);
+        self.package.directives.extend([kind, line, between(token.first, past), name]);
         self.package.directives.extend(operator);
         self.package.directives.extend([variable, variables - variable, action, actions - action]);
         Ok(())
@@ -160,7 +157,7 @@ impl Joined {
 pub fn read(text: &str) -> Package {
     let lexed = original::tokens(text);
     let texts = std::str::from_utf8(&lexed.texts).expect("ASCII");
-    let pieces: Vec<Piece> = lexed.words.chunks_exact(5).map(|record| Piece::of(record, texts, text.as_bytes())).collect();
+    let pieces: Vec<Piece> = lexed.words.chunks_exact(TOKEN_WORDS).map(|record| Piece::of(record, texts, text.as_bytes())).collect();
     let (mut joined, mut rest) = (Joined::default(), &pieces[..]);
     while let [piece, behind @ ..] = rest {
         rest = behind;

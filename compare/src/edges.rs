@@ -1,9 +1,6 @@
 //! The edges of whole directives, each with what comes out; the model is held to them, and the stored answers begin with them.
 
-/// A span word, counted by hand.
-const fn span(offset: u64, len: u64) -> u64 {
-    offset * 65_536 + len
-}
+use crate::spans::span;
 
 /// A package, its number and values, and what stands in text: texts, or the name after 5, 7 and 10 to 12.
 pub type Edge = (&'static str, u64, &'static [u64], &'static str);
@@ -163,9 +160,10 @@ pub fn packages() -> impl Iterator<Item = &'static str> {
 
 #[cfg(test)]
 mod tests {
-    use super::{all, span, UNDERLINED};
+    use super::{all, UNDERLINED};
     use crate::directives::{self, Package};
     use crate::readers::{ACTION_WORDS, VARIABLE_WORDS};
+    use crate::spans::span;
 
     fn words(list: &[u64], record: usize, width: usize) -> &[u64] {
         &list[record * width..(record + 1) * width]
@@ -227,13 +225,12 @@ mod tests {
     fn room_is_judged_last_with_all_counts() {
         let read = || directives::read("SecRule ARGS a deny");
         let none = Package { number: 4, values: vec![1, 1, 1], ..Package::default() };
-        assert_eq!(read().within([11, 5, 7]), none);
-        assert_eq!(read().within([10, 6, 7]), none);
-        assert_eq!(read().within([11, 6, 6]), none);
-        assert_eq!(read().within([0, 0, 0]), none);
-        assert_eq!(read().within([11, 6, 7]), read());
-        assert_eq!(directives::read("SecRule x").within([0, 0, 0]).number, 13);
-        assert_eq!(directives::read("").within([0, 0, 0]).number, 0);
+        for words in [[11, 5, 7], [10, 6, 7], [11, 6, 6], [0, 0, 0]] {
+            assert_eq!(read().without_room(words).as_ref(), Some(&none), "{words:?}");
+        }
+        assert_eq!(read().without_room([11, 6, 7]), None);
+        assert_eq!(directives::read("SecRule x").without_room([0, 0, 0]), None);
+        assert_eq!(directives::read("").without_room([0, 0, 0]), None);
     }
 
     /// The join in the original's own types agrees on which packages are read, and on how many directives they have.

@@ -9,13 +9,16 @@ mod directives;
 mod edges;
 mod flaws;
 mod lent;
+mod long;
 mod original;
 mod ours;
 mod packages;
 mod readers;
 mod real;
 mod run;
+mod sizes;
 mod sources;
+mod spans;
 mod stored;
 mod underlined;
 
@@ -24,7 +27,8 @@ use std::path::PathBuf;
 const USAGE: &str = "\
 compare [--quick] [--seed N] [--random N] [--real FOLDER].. [--alone]    compare; --quick takes under two minutes
 compare bench [--real FOLDER]..                                          bytes and calls a second, ours and the original's
-compare again CASE TIMES                                                 one case of the benchmark, for callgrind; CASE: ours/tokens ..
+compare sizes [--real FOLDER]..                                          what a byte costs at 16 KB to 1 MiB, ours and the original's
+compare again CASE TIMES                                                 one of these for callgrind; CASE: rust/tokens, ours/tokens@16384
 compare stored FOLDER                                                    writes the stored questions on whole directives, and the answers";
 
 fn stored(folder: &str) -> bool {
@@ -50,11 +54,13 @@ fn main() {
             _ => rest.push(word),
         }
     }
-    // the original's next_token calls itself for each lone backslash
-    let deep = std::thread::Builder::new().stack_size(256 << 20);
+    // the original's next_token calls itself for each lone backslash, unless the compiler made a loop of it: a mebibyte of them, at up to
+    // a thousand bytes each, of which only what is used is taken
+    let deep = std::thread::Builder::new().stack_size(1 << 30);
     let work = move || match rest.iter().map(String::as_str).collect::<Vec<_>>()[..] {
         [] => run::all(&wanted),
         ["bench"] => bench::table(&wanted.real),
+        ["sizes"] => sizes::table(&wanted.real),
         ["stored", folder] => stored(folder),
         ["again", case, times] => bench::again(case, times.parse().expect("a number"), &wanted.real),
         _ => {

@@ -8,12 +8,18 @@ use crate::parser::action::{
 };
 use crate::parser::directive::{RuleIdSelector, SecRule};
 pub use crate::parser::lexer::probe::{Cursor, START};
-use crate::parser::lexer::{probe as lexing, Token, TokenKind};
 use crate::parser::operator::{all as operators, parse_operator, probe as operating, OperatorName, OperatorSpec};
-use crate::parser::variable::{all as variables, parse_single_variable, parse_update_targets, parse_variables, probe as targeting};
-use crate::parser::variable::{Selection, VariableName, VariableSpec, XmlTarget};
+use crate::parser::variable::{all as variables, probe as targeting, VariableName};
+use crate::spans::between;
 
-pub const LIMIT: usize = 16_384;
+mod targets;
+mod tokens;
+
+pub use targets::{copies, updates_behind, variables_behind, xml_target, COPIES};
+pub use tokens::{listing, step, tokens};
+
+/// The longest input.
+pub const LIMIT: usize = 1_048_576;
 
 /// What a text comes to past the checks on it: number 0 with values, texts and records, or one from 5 on with its values and the name.
 #[derive(Clone, Debug, Default, PartialEq)]
@@ -27,7 +33,7 @@ pub struct Outcome {
 impl Outcome {
     /// One more text behind the others, as a span word.
     pub fn push(&mut self, text: &str) -> u64 {
-        let word = (self.texts.len() * 65_536 + text.len()) as u64;
+        let word = between(self.texts.len(), self.texts.len() + text.len());
         self.texts.extend_from_slice(text.as_bytes());
         word
     }
@@ -35,97 +41,6 @@ impl Outcome {
     fn refused(number: u64, piece: usize, name: String) -> Self {
         Outcome { number, values: vec![piece as u64, name.len() as u64], texts: name.into_bytes(), words: Vec::new() }
     }
-}
-
-// ---- tokens
-
-/// The place of a token's first byte: `from` moved on to its line and column.
-fn first_byte(text: &[u8], from: Cursor, token: &Token) -> usize {
-    let (mut place, mut line, mut column) = (from.place, from.line, from.column);
-    while (line, column) != (token.line, token.column) {
-        (line, column) = if text[place] == b'\n' { (line + 1, 1) } else { (line, column + 1) };
-        place += 1;
-    }
-    place
-}
-
-fn kind_and_text(token: &Token) -> (u64, &str) {
-    match &token.kind {
-        TokenKind::Directive(text) => (1, text),
-        TokenKind::Word(text) => (2, text),
-        TokenKind::QuotedString(text) => (3, text),
-        TokenKind::Comment => (4, ""),
-        TokenKind::Newline => (5, ""),
-        TokenKind::Eof => unreachable!("the original never makes it"),
-    }
-}
-
-pub fn tokens(text: &str) -> Outcome {
-    let mut out = Outcome::default();
-    let (mut lexer, mut at) = (lexing::at(text, START), START);
-    while let Some(token) = lexer.next_token() {
-        let first = first_byte(text.as_bytes(), at, &token);
-        at = lexing::standing(&lexer, text.len());
-        let (kind, said) = kind_and_text(&token);
-        let word = out.push(said);
-        out.words.extend([kind, token.line as u64, token.column as u64, (first * 65_536 + at.place - first) as u64, word]);
-    }
-    let stop = lexing::standing(&lexer, text.len());
-    let count = out.words.len() / 5;
-    out.values = [count, out.texts.len(), stop.place, stop.line, stop.column].map(|n| n as u64).to_vec();
-    out
-}
-
-fn cursor_words(c: Cursor) -> [u64; 4] {
-    [c.place as u64, c.line as u64, c.column as u64, c.mark as u64]
-}
-
-pub fn step(text: &str, from: Cursor) -> Outcome {
-    let counted = |n: usize| (1..=LIMIT + 1).contains(&n);
-    if text.len() < from.place || !counted(from.line) || !counted(from.column) {
-        return Outcome { number: 9, values: vec![0], ..Outcome::default() };
-    }
-    let mut out = Outcome::default();
-    let mut lexer = lexing::at(text, from);
-    match lexer.next_token() {
-        None => out.values.push(0),
-        Some(token) => {
-            let (kind, said) = kind_and_text(&token);
-            let first = first_byte(text.as_bytes(), from, &token);
-            out.push(said);
-            out.values.extend([1, kind, token.line as u64, token.column as u64, first as u64, said.len() as u64]);
-        }
-    }
-    out.values.extend(cursor_words(lexing::standing(&lexer, text.len())));
-    out
-}
-
-fn quoted(text: &str) -> String {
-    let mut out = String::from("\"");
-    for c in text.chars() {
-        match c {
-            '"' | '\\' => out.extend(['\\', c]),
-            '\0'..='\x1f' => out.push_str(&format!("\\u00{:02x}", c as u32)),
-            _ => out.push(c),
-        }
-    }
-    out.push('"');
-    out
-}
-
-/// Document 01's listing of the original's tokens, and where reading stopped before the end.
-pub fn listing(text: &str) -> (String, Option<(usize, usize)>) {
-    let names = ["", "directive", "word", "string", "comment", "newline"];
-    let (mut lexer, mut rows) = (lexing::at(text, START), Vec::new());
-    while let Some(token) = lexer.next_token() {
-        let (kind, said) = kind_and_text(&token);
-        let shown = if kind < 4 { format!(",{}", quoted(said)) } else { String::new() };
-        rows.push(format!("[\"{}\",{},{}{shown}]", names[kind as usize], token.line, token.column));
-    }
-    let stop = lexing::standing(&lexer, text.len());
-    let early = (stop.place < text.len()).then_some((stop.line, stop.column));
-    rows.extend(early.map(|(line, column)| format!("[\"stopped\",{line},{column}]")));
-    (format!("[{}]", rows.join(",")), early)
 }
 
 // ---- actions
@@ -251,70 +166,6 @@ pub fn phase(text: &str) -> Option<u64> {
 
 pub fn matches(ranged: bool, start: u64, end: u64, id: u64) -> bool {
     if ranged { RuleIdSelector::Range(start, end) } else { RuleIdSelector::Single(start) }.matches(id)
-}
-
-// ---- variables
-
-fn laid_out(out: &mut Outcome, list: &[VariableSpec], exclusions: &[String]) -> usize {
-    for v in list {
-        let (kind, word) = match &v.selection {
-            None => (0, 0),
-            Some(Selection::Key(text)) => (1, out.push(text)),
-            Some(Selection::Regex(text)) => (2, out.push(text)),
-        };
-        out.words.extend([1, v.name as u64, u64::from(v.count_mode), kind, word]);
-    }
-    for text in exclusions {
-        let word = out.push(text);
-        out.words.extend([2, 0, 0, 0, word]);
-    }
-    list.len() + exclusions.len()
-}
-
-/// The first part whose name is unknown; an exclusion's name is looked up in update targets only.
-fn unknown_part(error: Error, text: &str, updates: bool) -> Outcome {
-    let named = |error| match error {
-        Error::UnknownVariable { name } => name,
-        other => unreachable!("{other:?}"),
-    };
-    let bad = |part: &str| match part.strip_prefix('!') {
-        None => parse_single_variable(part).err().map(named),
-        Some(_) if !updates => None,
-        Some(rest) => {
-            let name = rest.split(':').next().unwrap_or("");
-            VariableName::from_str(name).is_none().then(|| name.to_string())
-        }
-    };
-    let parts = text.split('|').map(str::trim).filter(|part| !part.is_empty());
-    let (piece, name) = parts.enumerate().find_map(|(i, part)| bad(part).map(|name| (i, name))).expect("a part is bad");
-    assert_eq!(named(error), name, "the parts are cut another way than the original's");
-    Outcome::refused(7, piece, name)
-}
-
-/// The records of a list of variables behind what `out` has, or its refusal.
-pub fn variables_behind(out: &mut Outcome, text: &str) -> Result<usize, Outcome> {
-    match parse_variables(text) {
-        Ok(list) => Ok(laid_out(out, &list, list.first().map_or(&[], |v| v.exclusions.as_slice()))),
-        Err(error) => Err(unknown_part(error, text, false)),
-    }
-}
-
-/// The same of update targets.
-pub fn updates_behind(out: &mut Outcome, text: &str) -> Result<usize, Outcome> {
-    match parse_update_targets(text) {
-        Ok((list, exclusions)) => Ok(laid_out(out, &list, &exclusions)),
-        Err(error) => Err(unknown_part(error, text, true)),
-    }
-}
-
-pub fn xml_target(selection: u64, text: &str) -> u64 {
-    let target = match selection {
-        0 => XmlTarget::from_selection(None),
-        1 => XmlTarget::from_selection(Some(&Selection::Key(text.to_string()))),
-        2 => XmlTarget::from_selection(Some(&Selection::Regex(text.to_string()))),
-        _ => None,
-    };
-    target.map_or(3, |t| t as u64)
 }
 
 // ---- operators

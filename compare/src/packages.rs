@@ -1,7 +1,7 @@
 //! Packages to compare on: pieces that make awkward ones, and random ones out of directives with good and bad arguments.
 
-use crate::cases::Random;
-use crate::original::{self, LIMIT};
+use crate::cases::{Random, SHORT};
+use crate::original;
 
 /// Pieces with no blank of their own: what the lexer makes of them is a matter of what stands beside.
 pub const JOINTS: &[&str] = &[
@@ -165,7 +165,7 @@ impl Pools {
         Pools { bad: BAD.to_vec(), ..Pools::new() }
     }
 
-    fn list(&self, random: &mut Random) -> String {
+    pub fn list(&self, random: &mut Random) -> String {
         let parts = (0..random.below(4) + usize::from(random.below(9) != 0)).map(|_| {
             let mark = *random.one(&["", "", "", "", "&", "!", " "]);
             let name = if random.below(40) == 0 { *random.one(&["nope", "&ARGS", "ARGS!", ""]) } else { *random.one(&self.variables) };
@@ -185,7 +185,7 @@ impl Pools {
         }
     }
 
-    fn actions(&self, random: &mut Random) -> String {
+    pub fn actions(&self, random: &mut Random) -> String {
         let parts = (0..random.below(6)).map(|_| match random.below(40) {
             0 => random.one(&self.bad).to_string(),
             1 => String::new(),
@@ -224,7 +224,7 @@ impl Pools {
     /// Some lines of a package: rules most of all, and a text that no directive takes or a stop only seldom.
     pub fn package(&self, random: &mut Random, longest: usize) -> Vec<u8> {
         let (mut out, lines) = (String::new(), random.below(7));
-        for _ in 0..if longest == LIMIT { LIMIT } else { lines } {
+        for _ in 0..if longest == SHORT { SHORT } else { lines } {
             match random.below(60) {
                 0 => out.push_str("stray"),
                 1 => out.push_str(*random.one(&["\x0c", "\x0b", "\\\x0c"])),
@@ -238,8 +238,8 @@ impl Pools {
                 break;
             }
         }
-        // at the limit a text ends where it ends: beside it by one
-        let len = if longest == LIMIT { LIMIT - 1 + random.below(3) } else { out.len() };
+        // the longest end where they end: beside their length by one
+        let len = if longest == SHORT { SHORT - 1 + random.below(3) } else { out.len() };
         out.truncate(len);
         out.into_bytes()
     }

@@ -20,11 +20,13 @@ pub enum Reader {
     WriteListing,
     WriteRefusal,
     Directives,
+    SpanFromOld,
+    SpanToOld,
     /// No reader: a part that `Directives` underlines, read alone.
     Underlined,
 }
 
-pub const READERS: [Reader; 19] = [
+pub const READERS: [Reader; 21] = [
     Reader::NextToken,
     Reader::Tokens,
     Reader::PlainTokens,
@@ -43,6 +45,8 @@ pub const READERS: [Reader; 19] = [
     Reader::WriteListing,
     Reader::WriteRefusal,
     Reader::Directives,
+    Reader::SpanFromOld,
+    Reader::SpanToOld,
     Reader::Underlined,
 ];
 
@@ -81,6 +85,15 @@ pub const SHAPES: [Shape; 12] = [
     shape(Some(40), Some(20), Some(-7), Some(4)),
     shape(Some(4), Some(4), Some(31), Some(8)),
     shape(Some(1), None, Some(2), Some(4)),
+];
+
+/// What is lent for a long text: each of these, with one answer of the original.
+pub const LONG_SHAPES: [Shape; 5] = [
+    shape(Some(0), Some(0), Some(0), Some(0)),
+    shape(Some(9), Some(7), Some(13), Some(4)),
+    shape(Some(1), Some(1), Some(-1), Some(-1)),
+    shape(Some(-1), Some(0), Some(0), Some(1)),
+    shape(Some(0), Some(-1), Some(2), Some(3)),
 ];
 
 /// So many, and so many more or fewer.
@@ -125,6 +138,17 @@ pub const PACKAGE_SHAPES: [PackageShape; 19] = [
     lends(0, 0, [Some(0), None, Some(3)], None),
     lends(4, 1, [Some(1), Some(1), None], Some(-1)),
     lends(8, 8, [None; 3], Some(0)),
+];
+
+/// The same for a long package: exact, roomy by a little, and one short.
+pub const LONG_PACKAGE_SHAPES: [PackageShape; 7] = [
+    lends(0, 0, EXACT, Some(0)),
+    lends(9, 7, [Some(13), Some(9), Some(8)], Some(4)),
+    lends(-1, 0, EXACT, Some(2)),
+    lends(0, -1, EXACT, Some(3)),
+    lends(0, 1, [Some(-1), Some(0), Some(0)], Some(0)),
+    lends(1, 0, [Some(0), Some(-1), Some(0)], Some(-1)),
+    lends(0, 0, [Some(0), Some(0), Some(-1)], Some(1)),
 ];
 
 #[cfg(test)]

@@ -1,7 +1,10 @@
-//! Real rule files: cut at line ends into texts within the limit, and the arguments of their directives.
+//! Real rule files: each whole, all joined, their directives alone, and the arguments of these.
 
+use crate::cases::SHORT;
+use crate::directives;
 use crate::original::LIMIT;
 use crate::parser::lexer::{probe as lexing, Lexer, TokenKind};
+use std::collections::BTreeMap;
 use std::path::{Path, PathBuf};
 use std::{fs, io};
 
@@ -20,14 +23,14 @@ fn files(folder: &Path, found: &mut Vec<PathBuf>) -> io::Result<()> {
     Ok(())
 }
 
-/// Whole lines, as many as stay within the limit; a longer line is a text of its own.
-fn pieces(bytes: &[u8]) -> Vec<Vec<u8>> {
+/// Parts joined as long as they stay within a length; a longer part is a text of its own.
+fn within<'a>(longest: usize, parts: impl Iterator<Item = &'a [u8]>) -> Vec<Vec<u8>> {
     let mut texts = vec![Vec::new()];
-    for line in bytes.split_inclusive(|b| *b == b'\n') {
-        if LIMIT < texts.last().map_or(0, Vec::len) + line.len() {
+    for part in parts {
+        if longest < texts.last().map_or(0, Vec::len) + part.len() {
             texts.push(Vec::new());
         }
-        texts.last_mut().expect("one is there").extend_from_slice(line);
+        texts.last_mut().expect("one is there").extend_from_slice(part);
     }
     texts
 }
@@ -46,20 +49,24 @@ pub fn closed(file: &str) -> Vec<&str> {
     parts
 }
 
-/// A file whole within the limit, else as many closed parts as stay within it; and each part with a directive alone.
-fn packages(bytes: &[u8]) -> (Vec<Vec<u8>>, Vec<Vec<u8>>) {
-    let file = plain(bytes);
-    let (mut whole, mut alone) = (vec![String::new()], Vec::new());
-    for part in closed(&file) {
-        if LIMIT < whole.last().map_or(0, String::len) + part.len() {
-            whole.push(String::new());
-        }
-        whole.last_mut().expect("one is there").push_str(part);
-        if !part.trim_start().is_empty() && !part.trim_start().starts_with('#') {
-            alone.push(part.as_bytes().to_vec());
-        }
+/// A text cut into packages within a length, each behind a whole directive.
+pub fn packages(text: &str, longest: usize) -> Vec<String> {
+    let whole = within(longest, closed(text).into_iter().map(str::as_bytes));
+    whole.into_iter().map(|package| String::from_utf8(package).expect("ASCII")).collect()
+}
+
+/// A text repeated, and cut behind a whole directive within a length.
+pub fn repeated(text: &str, longest: usize) -> String {
+    if text.is_empty() {
+        return String::new();
     }
-    (whole.into_iter().map(String::into_bytes).collect(), alone)
+    packages(&text.repeat(longest / text.len() + 1), longest).swap_remove(0)
+}
+
+/// The directives of a file, each alone.
+fn rules(file: &str) -> impl Iterator<Item = Vec<u8>> + '_ {
+    let told = |part: &&str| !part.trim_start().is_empty() && !part.trim_start().starts_with('#');
+    closed(file).into_iter().filter(told).map(|part| part.as_bytes().to_vec())
 }
 
 /// A text with bytes past ASCII is refused whole: its copy without them is read too.
@@ -67,39 +74,81 @@ fn plain(text: &[u8]) -> String {
     text.iter().map(|b| if b.is_ascii() { char::from(*b) } else { '?' }).collect()
 }
 
-/// What is read out of the folders: the texts, the words and strings in them, and files cut where a package may be.
+/// The words and strings of a text.
+fn arguments(text: &str) -> Vec<Vec<u8>> {
+    let (mut lexer, mut list) = (Lexer::new(text), Vec::new());
+    while let Some(token) = lexer.next_token() {
+        if let TokenKind::Word(said) | TokenKind::QuotedString(said) = token.kind {
+            list.push(said.into_bytes());
+        }
+    }
+    list
+}
+
+/// What is read out of the folders: files whole and copies of those past ASCII, all joined, and their directives and arguments alone.
 #[derive(Default)]
 pub struct Real {
-    pub files: usize,
-    pub texts: Vec<Vec<u8>>,
+    pub files: Vec<Vec<u8>>,
+    pub copies: Vec<Vec<u8>>,
+    pub joined: Vec<Vec<u8>>,
     pub arguments: Vec<Vec<u8>>,
-    pub packages: Vec<Vec<u8>>,
     pub rules: Vec<Vec<u8>>,
 }
 
+impl Real {
+    /// The files in ASCII that are read as packages, joined.
+    pub fn readable(&self) -> String {
+        let ascii = self.files.iter().filter(|file| file.is_ascii() && file.len() < LIMIT).map(|file| plain(file) + "\n");
+        ascii.filter(|file| directives::read(file).number == 0 && closed(file).last() == Some(&"")).collect()
+    }
+
+    /// How many files come to which number as packages.
+    pub fn numbers(&self) -> BTreeMap<u64, usize> {
+        let mut numbers = BTreeMap::new();
+        for file in &self.files {
+            let number = match file {
+                file if LIMIT < file.len() => 1,
+                file if !file.is_ascii() => 2,
+                file => directives::read(&plain(file)).number,
+            };
+            *numbers.entry(number).or_default() += 1;
+        }
+        numbers
+    }
+
+    /// The files cut at line ends into short texts, and copies of those past ASCII: what the benchmark has read from the first.
+    pub fn short_texts(&self) -> Vec<Vec<u8>> {
+        let lines = |file: &Vec<u8>| within(SHORT, file.split_inclusive(|b| *b == b'\n'));
+        let mut texts: Vec<Vec<u8>> = self.files.iter().flat_map(lines).collect();
+        let copies: Vec<Vec<u8>> = texts.iter().filter(|text| !text.is_ascii()).map(|text| plain(text).into_bytes()).collect();
+        texts.extend(copies);
+        texts
+    }
+
+    /// The files, or their copies, cut behind whole directives into short packages.
+    pub fn short_packages(&self) -> Vec<String> {
+        self.files.iter().flat_map(|file| packages(&plain(file), SHORT)).collect()
+    }
+}
+
 pub fn read(folders: &[PathBuf]) -> Real {
-    let mut real = Real::default();
+    let (mut real, mut found) = (Real::default(), Vec::new());
     for folder in folders {
-        let mut found = Vec::new();
         files(folder, &mut found).unwrap_or_else(|e| panic!("{}: {e}", folder.display()));
-        real.files += found.len();
-        for path in found {
-            let bytes = fs::read(&path).unwrap_or_else(|e| panic!("{}: {e}", path.display()));
-            real.texts.extend(pieces(&bytes));
-            let (whole, alone) = packages(&bytes);
-            real.packages.extend(whole);
-            real.rules.extend(alone);
-        }
     }
-    let copies: Vec<Vec<u8>> = real.texts.iter().filter(|text| !text.is_ascii()).map(|text| plain(text).into_bytes()).collect();
-    real.texts.extend(copies);
-    for text in real.texts.iter().filter_map(|text| std::str::from_utf8(text).ok()).filter(|text| text.is_ascii()) {
-        let mut lexer = Lexer::new(text);
-        while let Some(token) = lexer.next_token() {
-            if let TokenKind::Word(said) | TokenKind::QuotedString(said) = token.kind {
-                real.arguments.push(said.into_bytes());
-            }
+    for path in found {
+        let bytes = fs::read(&path).unwrap_or_else(|e| panic!("{}: {e}", path.display()));
+        let text = plain(&bytes);
+        real.rules.extend(rules(&text));
+        real.arguments.extend(arguments(&text));
+        if !bytes.is_ascii() {
+            real.copies.push(text.into_bytes());
         }
+        real.files.push(bytes);
     }
+    let all: String = real.files.iter().map(|file| plain(file) + "\n").collect();
+    let readable = real.readable();
+    let long = [repeated(&readable, LIMIT), all, readable];
+    real.joined = long.into_iter().filter(|text| !text.is_empty()).map(String::into_bytes).collect();
     real
 }

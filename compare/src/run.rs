@@ -1,14 +1,23 @@
 //! All cases in order, with a count for each reader, a progress line, and the first difference made small.
 
-use crate::cases::{pieces_of, Random, Set, RULES, SETS, TEXT_READERS};
+use crate::cases::{Random, Set, SETS, TEXT_READERS};
 use crate::check::Checker;
-use crate::original::{self, LIMIT};
-use crate::packages::{Pools, AROUND, SPANNED};
+use crate::long::LONG_READERS;
+use crate::original;
+use crate::packages::{AROUND, SPANNED};
 use crate::readers::{Reader, READERS, SHAPES};
 use crate::real::{self, Real};
 use crate::{edges, flaws};
+use long::Extent;
+use small::{differs, minimal, shown};
+use std::collections::BTreeMap;
 use std::path::PathBuf;
 use std::time::Instant;
+
+mod long;
+mod random;
+mod small;
+mod spans;
 
 pub struct Wanted {
     pub quick: bool,
@@ -43,15 +52,16 @@ impl Run {
         if let Err(difference) = self.checker.check(reader, input) {
             self.fine = false;
             println!("{reader:?} differs: {difference}");
-            let small = minimal(input.to_vec(), |input| differs(reader, input).is_some());
-            println!("a minimal input, of {} bytes: \"{}\"", small.len(), small.escape_ascii());
-            println!("there: {}", differs(reader, &small).unwrap_or_default());
+            let long = self.checker.long;
+            let small = minimal(input.to_vec(), |input| differs(reader, input, long).is_some());
+            println!("a minimal input, of {} bytes: {}", small.len(), shown(&small));
+            println!("there: {}", differs(reader, &small, long).unwrap_or_default());
         }
         self.fine
     }
 
     fn exhaustive(&mut self, quick: bool) {
-        self.checker.every = true;
+        (self.checker.every, self.checker.converted) = (true, false);
         for set in SETS {
             let longest = if quick { set.quick } else { set.full };
             for reader in set.readers {
@@ -116,24 +126,6 @@ impl Run {
         println!("every code with every number up to 260, alone: {} cases", self.done() - before);
     }
 
-    fn random(&mut self, random: &mut Random, turns: u64, real: &Real) {
-        let names = original::names();
-        let pieces = TEXT_READERS.map(|reader| pieces_of(reader, &names));
-        let pools = Pools::new();
-        for turn in 0..turns {
-            let reader = TEXT_READERS[turn as usize % TEXT_READERS.len()];
-            let own = &pieces[turn as usize % TEXT_READERS.len()];
-            let input = match reader {
-                Reader::Directives => random_package(random, real, &pools, own),
-                _ => random_input(random, reader, real, &names, own),
-            };
-            self.progress("random");
-            if !self.case(reader, &input) {
-                return;
-            }
-        }
-    }
-
     /// Each name in three letter cases, one byte shorter and longer, and with every other byte at each of its places.
     fn names(&mut self) {
         let before = self.done();
@@ -153,22 +145,6 @@ impl Run {
         println!("every name, and every other byte at each of its places: {} cases", self.done() - before);
     }
 
-    /// Each reader at the limit and beside it, with each shape of what is lent.
-    fn limits(&mut self) {
-        for reader in TEXT_READERS {
-            for len in LIMIT - 1..=LIMIT + 2 {
-                for piece in ["a", "\\", "\n", "deny,", "TX|", "a'", " ", "#", "sec\n", "\nSecAction t:,msg"] {
-                    let input: Vec<u8> = piece.bytes().cycle().take(len).collect();
-                    for _ in 0..turns(reader, SHAPES.len()) {
-                        if !self.case(reader, &input) {
-                            return;
-                        }
-                    }
-                }
-            }
-        }
-    }
-
     /// The edges of whole directives and of arguments, which tell a difference soonest.
     fn edges(&mut self) {
         let before = self.done();
@@ -180,35 +156,40 @@ impl Run {
         }
     }
 
+    /// Texts to some readers, so often that what is lent takes turns.
+    fn texts(&mut self, texts: &[Vec<u8>], readers: &[Reader]) -> bool {
+        texts.iter().all(|text| {
+            readers.iter().all(|reader| {
+                self.progress("real rules");
+                (0..turns(*reader, 3)).all(|_| self.case(*reader, text))
+            })
+        })
+    }
+
     fn real(&mut self, real: &Real) {
-        let (before, alone) = (self.done(), self.checker.counts[Reader::Underlined as usize]);
-        let lexed = [Reader::Tokens, Reader::ListText, Reader::NextToken, Reader::Directives];
-        let whole = [Reader::Directives];
-        for (texts, readers) in
-            [(&real.texts, &lexed[..]), (&real.arguments, &TEXT_READERS[..]), (&real.packages, &whole[..]), (&real.rules, &whole[..])]
-        {
-            for text in texts {
-                for reader in readers {
-                    for _ in 0..turns(*reader, 3) {
-                        self.progress("real rules");
-                        if !self.case(*reader, text) {
-                            return;
-                        }
-                    }
-                }
-            }
+        if real.files.is_empty() {
+            return;
         }
-        println!(
-            "{} rule files, {} texts, {} arguments, {} packages and {} directives alone: {} cases",
-            real.files,
-            real.texts.len(),
-            real.arguments.len(),
-            real.packages.len(),
-            real.rules.len(),
-            self.done() - before
-        );
+        let (before, alone) = (self.done(), self.checker.counts[Reader::Underlined as usize]);
+        let whole = self.texts(&real.files, &LONG_READERS) && self.texts(&real.copies, &LONG_READERS);
+        let fine = whole && self.texts(&real.arguments, &TEXT_READERS) && self.texts(&real.rules, &[Reader::Directives]);
+        if !fine || !real.joined.iter().all(|text| LONG_READERS.iter().all(|reader| self.long_case(*reader, text))) {
+            return;
+        }
+        let [files, copies, arguments, rules] = [&real.files, &real.copies, &real.arguments, &real.rules].map(Vec::len);
+        let cases = self.done() - before;
+        println!("{files} rule files whole, {copies} copies in ASCII, {arguments} arguments and {rules} directives alone: {cases} cases");
+        println!("of the files {}", told(&real.numbers()));
+        let lengths: Vec<String> = real.joined.iter().map(|text| text.len().to_string()).collect();
+        println!("with them files joined to texts of {} bytes", lengths.join(", "));
         println!("of these {} parts that are underlined, each read alone", self.checker.counts[Reader::Underlined as usize] - alone);
     }
+}
+
+/// How many files are read whole as packages, and how many are refused with which number.
+fn told(numbers: &BTreeMap<u64, usize>) -> String {
+    let refused = numbers.iter().filter(|(number, _)| **number != 0).map(|(number, count)| format!(", {count} refused with {number}"));
+    format!("{} are read whole as packages{}", numbers.get(&0).unwrap_or(&0), refused.collect::<String>())
 }
 
 /// How often a text is read, so that what is lent takes turns; whole directives are lent every shape at once.
@@ -220,117 +201,51 @@ fn turns(reader: Reader, shapes: usize) -> usize {
     }
 }
 
-/// A damaged name or rule, or a text of the reader's own pieces.
-fn random_input(random: &mut Random, reader: Reader, real: &Real, names: &[&str], pieces: &[&str]) -> Vec<u8> {
-    let own: Vec<&str> = RULES.iter().filter(|(of, _)| *of == reader).map(|(_, rule)| *rule).collect();
-    match random.below(4) {
-        0..=2 if reader == Reader::Lookup => {
-            let name = *random.one(names);
-            random.damaged(name.as_bytes(), pieces)
-        }
-        0 if !real.arguments.is_empty() => {
-            let argument = random.one(&real.arguments);
-            random.damaged(argument, pieces)
-        }
-        0 | 1 => {
-            let rule = if own.is_empty() { random.one(RULES).1 } else { random.one(&own) };
-            random.damaged(rule.as_bytes(), pieces)
-        }
-        // one in some thousands is at the limit: those take long
-        _ => {
-            let longest = if random.below(3000) == 0 { LIMIT } else { 512 };
-            random.text(pieces, longest)
-        }
-    }
-}
-
-/// A random package or a real one, whole or damaged; one in some thousands is at the limit: those take long.
-fn random_package(random: &mut Random, real: &Real, pools: &Pools, pieces: &[&str]) -> Vec<u8> {
-    let longest = if random.below(3000) == 0 { LIMIT } else { 2000 };
-    match random.below(6) {
-        0 if !real.rules.is_empty() => {
-            let rule = random.one(&real.rules);
-            random.damaged(rule, pieces)
-        }
-        0 | 1 => {
-            let package = pools.package(random, longest);
-            random.damaged(&package, pieces)
-        }
-        2 => random.text(pieces, longest),
-        3 => {
-            let mut package = pools.package(random, longest);
-            random.flipped(&mut package);
-            package
-        }
-        _ => pools.package(random, longest),
-    }
-}
-
-/// What differs for a reader on an input, under any shape of what is lent.
-fn differs(reader: Reader, input: &[u8]) -> Option<String> {
-    let mut checker = Checker::new(false);
-    SHAPES.iter().find_map(|_| checker.check(reader, input).err())
-}
-
-/// Bytes taken out, and then made plain, while the difference stays.
-fn minimal(mut input: Vec<u8>, fails: impl Fn(&[u8]) -> bool) -> Vec<u8> {
-    let mut width = input.len();
-    while 0 < width {
-        let mut at = 0;
-        while at + width <= input.len() {
-            let shorter = [&input[..at], &input[at + width..]].concat();
-            if fails(&shorter) {
-                input = shorter
-            } else {
-                at += 1
-            }
-        }
-        width /= 2;
-    }
-    for at in 0..input.len() {
-        let was = std::mem::replace(&mut input[at], b'a');
-        if !fails(&input) {
-            input[at] = was;
+/// Each part in order, until one finds a difference; long texts have random numbers of their own, so that they move no others.
+fn parts(run: &mut Run, wanted: &Wanted, real: &Real) {
+    let [mut random, mut long] = [0, 1].map(|more| Random(wanted.seed.wrapping_add(more)));
+    let turns = wanted.random.unwrap_or(if wanted.quick { 600_000 } else { 10_000_000 });
+    let extent = match (wanted.alone, wanted.quick) {
+        (true, _) => Extent::Alone,
+        (false, true) => Extent::Quick,
+        (false, false) => Extent::Full,
+    };
+    type Part<'a> = &'a dyn Fn(&mut Run, &mut Random, &mut Random);
+    let parts: [Part; 11] = [
+        &|run, random, _| run.numbers(random, turns / 10),
+        &|run, _, _| run.records(),
+        &|run, _, long| run.conversions(long, turns / 5),
+        &|run, _, _| run.edges(),
+        &|run, _, _| run.real(real),
+        &|run, _, _| run.names(),
+        &|run, _, _| run.limits(extent),
+        &|run, _, long| run.long(long, extent),
+        &|run, random, _| run.random(random, turns, real),
+        &|run, _, _| run.exhaustive(wanted.quick),
+        &|run, _, _| run.spanned(wanted.quick),
+    ];
+    for part in parts {
+        if run.fine {
+            part(run, &mut random, &mut long);
         }
     }
-    input
 }
 
 pub fn all(wanted: &Wanted) -> bool {
     println!("seed {}", wanted.seed);
     assert!(original::codes_are_places(), "a code is its place in the original's enum");
-    let real = real::read(&wanted.real);
-    let mut random = Random(wanted.seed);
     let mut run = Run { checker: Checker::new(wanted.alone), began: Instant::now(), said: Instant::now(), fine: true };
-    let turns = wanted.random.unwrap_or(if wanted.quick { 600_000 } else { 10_000_000 });
-    run.numbers(&mut random, turns / 10);
-    if run.fine {
-        run.records();
+    run.checker.converted = true;
+    let mut real = real::read(&wanted.real);
+    if wanted.alone {
+        // a memory checker takes too long on these
+        real.joined.clear();
     }
-    if run.fine {
-        run.edges();
-    }
-    if run.fine && !wanted.real.is_empty() {
-        run.real(&real);
-    }
-    if run.fine {
-        run.names();
-    }
-    if run.fine && !wanted.alone {
-        run.limits();
-    }
-    if run.fine {
-        run.random(&mut random, turns, &real);
-    }
-    if run.fine {
-        run.exhaustive(wanted.quick);
-    }
-    if run.fine {
-        run.spanned(wanted.quick);
-    }
+    parts(&mut run, wanted, &real);
     for (reader, count) in READERS.iter().zip(run.checker.counts) {
         println!("{count:>12} {reader:?}");
     }
+    println!("{:>12} span words of records have an old word, there and back the same", run.checker.held);
     let verdict = if run.fine { "no difference" } else { "A DIFFERENCE" };
     println!("{verdict} in {} cases, {} s", run.done(), run.began.elapsed().as_secs());
     run.fine

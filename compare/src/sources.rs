@@ -1,6 +1,8 @@
 //! Where pieces stand in the input, by document 02 (M-104), a second model: each byte that is read has with it the bytes that it came
 //! from, through words, quotation marks and continuations, and a piece's span runs from those of its first byte to those of its last.
 
+use crate::spans::between;
+
 /// A byte as it is read, and the bytes of the input that it came from: from `first` on, and before `past`.
 #[derive(Clone, Copy, Debug, PartialEq)]
 pub struct Came {
@@ -18,11 +20,6 @@ impl Came {
     fn is_white(&self) -> bool {
         matches!(self.byte, 9..=13 | b' ')
     }
-}
-
-/// Offset times 65,536 plus length.
-pub fn span(first: usize, past: usize) -> u64 {
-    (first * 65_536 + past - first) as u64
 }
 
 // ---- what is read of the input
@@ -136,7 +133,7 @@ fn trimmed(mut list: &[Came]) -> &[Came] {
 /// The span of what is left between the blanks at both ends, where anything is.
 fn underline(part: &[Came]) -> Option<u64> {
     let left = trimmed(part);
-    Some(span(left.first()?.first, left.last()?.past))
+    Some(between(left.first()?.first, left.last()?.past))
 }
 
 /// The spans of an action list's pieces: a comma cuts where no quotation mark and no bracket is open.
@@ -165,32 +162,33 @@ pub fn targets(list: &[Came]) -> Vec<(u64, bool)> {
 
 /// The span of a setvar alone: nothing is left of blanks but their end.
 pub fn setvar(input: &[u8]) -> u64 {
-    underline(&as_written(input)).unwrap_or(span(input.len(), input.len()))
+    underline(&as_written(input)).unwrap_or(between(input.len(), input.len()))
 }
 
 /// The span of an operator's name, which stands so in its text; an empty one stands right behind its `@`.
 pub fn name(said: &[Came], place: usize, len: usize) -> u64 {
     let behind = said[place - 1].past;
     match &said[place..place + len] {
-        [] => span(behind, behind),
-        [first, .., last] => span(first.first, last.past),
-        [one] => span(one.first, one.past),
+        [] => between(behind, behind),
+        [first, .., last] => between(first.first, last.past),
+        [one] => between(one.first, one.past),
     }
 }
 
 #[cfg(test)]
 mod tests {
     use super::{actions, as_written, name, of_part, of_string, of_word, setvar, targets, text_of};
+    use crate::spans::{halves, span};
 
-    fn shown(spans: Vec<u64>) -> Vec<(u64, u64)> {
-        spans.into_iter().map(|word| (word / 65_536, word % 65_536)).collect()
+    fn shown(spans: Vec<u64>) -> Vec<(usize, usize)> {
+        spans.into_iter().map(halves).collect()
     }
 
-    fn in_list(list: &str) -> Vec<(u64, u64)> {
+    fn in_list(list: &str) -> Vec<(usize, usize)> {
         shown(actions(&as_written(list.as_bytes())))
     }
 
-    fn in_string(package: &str, first: usize) -> Vec<(u64, u64)> {
+    fn in_string(package: &str, first: usize) -> Vec<(usize, usize)> {
         shown(actions(&of_string(package.as_bytes(), first, package.len())))
     }
 
@@ -235,8 +233,7 @@ mod tests {
     #[test]
     fn marks_of_targets_are_underlined() {
         let read = |list: &str| targets(&as_written(list.as_bytes()));
-        let place = |first: u64, len: u64| first * 65_536 + len;
-        assert_eq!(read(" !a | |&TX:k|ARGS "), [(place(1, 2), true), (place(7, 5), false), (place(13, 4), false)]);
+        assert_eq!(read(" !a | |&TX:k|ARGS "), [(span(1, 2), true), (span(7, 5), false), (span(13, 4), false)]);
         assert_eq!(read("|"), []);
     }
 

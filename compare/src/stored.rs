@@ -3,12 +3,16 @@
 //! A question is `D`, a blank and the package in hexadecimal. Its answer is the number; for 0 the counts of directive, variable and
 //! action records, the length of the texts, the words of all three lists of records and the texts in hexadecimal (`-` where empty);
 //! for a refusal its values, and the name in hexadecimal behind 5, 7 and 10 to 12, else `-`.
+//! A package past 16,384 bytes is asked for as `D*`: how often its part stands, the lengths of its front and of the part, 8 bytes each,
+//! the largest first, and front, part and tail. A span word is told as document 01 had it where neither half is past 65,535, a text
+//! past 16,387 bytes by a sum.
 
-use crate::cases::Random;
+use crate::cases::{Random, SHORT};
 use crate::directives::{self, Package};
 use crate::edges::{Edge, EDGES, FLAWED, REFUSED, UNDERLINED};
 use crate::original::LIMIT;
 use crate::packages::Pools;
+use crate::spans::halves;
 use std::path::Path;
 use std::{fs, io};
 
@@ -17,10 +21,11 @@ const RANDOM: usize = 60;
 
 const SAMPLES: [&str; 2] = [include_str!("../../samples/desk.conf"), include_str!("../../tests/rules.conf")];
 
-/// Packages at the limit and beside it, by what they repeat: many records of each kind, one long text, nothing, and a fault at the end.
+/// Packages of so many bytes as were once the limit, by what they repeat: many records of each kind, one long text, nothing, and a fault
+/// at the end; and one byte more.
 fn long() -> Vec<Vec<u8>> {
     let filled = |first: &str, again: &str, last: &str| {
-        let middle = again.bytes().cycle().take(LIMIT - first.len() - last.len());
+        let middle = again.bytes().cycle().take(SHORT - first.len() - last.len());
         [first.as_bytes(), &middle.collect::<Vec<u8>>(), last.as_bytes()].concat()
     };
     let mut texts = vec![
@@ -32,14 +37,62 @@ fn long() -> Vec<Vec<u8>> {
         filled("", " \n", "\x0c"),
         filled("", "#\n", "\nx"),
         filled("SecMarker a", "\n", "SecRule"),
-        vec![b' '; LIMIT + 1],
+        vec![b' '; SHORT + 1],
     ];
     texts.push([&b"SecMarker "[..], &[0x80], &b" x"[..]].concat());
     texts
 }
 
+/// A package by its front, a part that stands so often, and its tail.
+struct Asked {
+    front: Vec<u8>,
+    part: Vec<u8>,
+    times: usize,
+    tail: Vec<u8>,
+}
+
+impl Asked {
+    fn whole(package: Vec<u8>) -> Self {
+        Asked { front: package, part: Vec::new(), times: 0, tail: Vec::new() }
+    }
+
+    fn package(&self) -> Vec<u8> {
+        [&self.front[..], &self.part.repeat(self.times), &self.tail].concat()
+    }
+
+    fn question(&self) -> String {
+        let package = self.package();
+        if package.len() <= SHORT {
+            return format!("D {}\n", hex(&package));
+        }
+        let lengths = [self.times, self.front.len(), self.part.len()].map(|n| format!("{n:016x}")).concat();
+        format!("D*{lengths}{}{}{}\n", hex(&self.front), hex(&self.part), hex(&self.tail))
+    }
+}
+
+/// Packages at the limit and past it, and with spans past 65,535.
+fn longest() -> Vec<Asked> {
+    let of = |front: &[u8], part: &[u8], times, tail: &[u8]| Asked { front: front.into(), part: part.into(), times, tail: tail.into() };
+    vec![
+        of(b"", b" ", LIMIT, b""),
+        of(b"", b" ", LIMIT + 1, b""),
+        of(b"SecMarker ", b"m", LIMIT - 10, b""),
+        of(b"SecMarker a\n", b"#", LIMIT - 13, b"\x80"),
+        of(b"", b"\n", LIMIT - 7, b"SecRule"),
+        of(b"", b" \n", LIMIT / 2 - 1, b" \x0c"),
+        of(b"", b" ", 70_000, b"SecRule TX:a|!b|&ip \"!@rx c\" \"id:1,msg:'d',setvar:tx.e=f\"\nSecMarker g\n"),
+        of(b"#", b"x", 70_000, b"\nSecRule TX|nope:a b\n"),
+        of(b"#", b"x", 65_535, b"\nSecRule TX \"@nope a\"\n"),
+        of(b"SecAction \"t:", b"a", 70_000, b",log,id:x\"\n"),
+        of(b"SecAction \"log,", b"\\\n", 40_000, b"deny ,pass\"\n"),
+        of(b"SecAction \"log,", b"\\\n", 500_000, b"bogus\"\n"),
+        of(b"SecRule TX:", b"k", 70_000, b" a \"deny,msg:b\"\nSecMarker c\n"),
+        of(b"SecRule TX \"@rx ", b"a", LIMIT - 17, b"\""),
+    ]
+}
+
 /// What was asked first stays in its place: a new question stands behind all others.
-fn asked() -> Vec<Vec<u8>> {
+fn asked() -> Vec<Asked> {
     let (pools, mut random) = (Pools::of_stored(), Random(100));
     let edges = |list: &[Edge]| list.iter().map(|edge| edge.0.as_bytes().to_vec()).collect::<Vec<_>>();
     let mut all = edges(EDGES);
@@ -49,7 +102,7 @@ fn asked() -> Vec<Vec<u8>> {
     all.extend(edges(FLAWED));
     all.extend(edges(REFUSED));
     all.extend(UNDERLINED.iter().map(|edge| edge.0.as_bytes().to_vec()));
-    all
+    all.into_iter().map(Asked::whole).chain(longest()).collect()
 }
 
 fn hex(bytes: &[u8]) -> String {
@@ -68,19 +121,47 @@ fn answered(package: &[u8]) -> Package {
     }
 }
 
+/// A span word as it was before its base rose, where it had such a form.
+fn stored(word: u64) -> u64 {
+    let (offset, len) = halves(word);
+    if offset.max(len) < 65_536 {
+        (offset * 65_536 + len) as u64
+    } else {
+        word
+    }
+}
+
+/// Words of records of this width, spans at these places.
+fn shown(words: &[u64], width: usize, spans: &[usize]) -> String {
+    let told = |(at, word): (usize, &u64)| if spans.contains(&(at % width)) { stored(*word) } else { *word };
+    words.iter().enumerate().map(|word| format!(" {}", told(word))).collect()
+}
+
+/// The values: of 5, 7, 8 and 10 to 12 the last is a span.
+fn shown_values(told: &Package) -> String {
+    let spans: &[usize] = if matches!(told.number, 5 | 7 | 8 | 10..=12) { &[3] } else { &[] };
+    shown(&told.values, told.values.len().max(1), spans)
+}
+
+fn shown_text(text: &[u8]) -> String {
+    match text.len() {
+        0 => "-".to_string(),
+        len if len <= SHORT + 3 => hex(text),
+        _ => format!("#{}", text.iter().fold(0, |sum: u64, byte| (sum % (1 << 32)) * 31 + u64::from(*byte))),
+    }
+}
+
 fn answer(package: &[u8]) -> String {
     let told = answered(package);
-    let words = [&told.values, &told.directives, &told.variables, &told.actions].map(|words| words.iter());
-    let shown = words.into_iter().flatten().map(|word| format!(" {word}")).collect::<String>();
-    let text = if told.texts.is_empty() { "-".to_string() } else { hex(&told.texts) };
-    format!("{}{shown} {text}", told.number)
+    let records = [shown(&told.directives, 11, &[2, 3, 6]), shown(&told.variables, 6, &[4, 5]), shown(&told.actions, 7, &[2, 3, 5, 6])];
+    format!("{}{}{} {}", told.number, shown_values(&told), records.concat(), shown_text(&told.texts))
 }
 
 /// Writes the files `stdin` and `stdout` of a folder, a line for each question.
 pub fn write(folder: &Path) -> io::Result<usize> {
     let asked = asked();
-    let questions: String = asked.iter().map(|package| format!("D {}\n", hex(package))).collect();
-    let answers: String = asked.iter().map(|package| format!("{}\n", answer(package))).collect();
+    let questions: String = asked.iter().map(Asked::question).collect();
+    let answers: String = asked.iter().map(|asked| format!("{}\n", answer(&asked.package()))).collect();
     fs::create_dir_all(folder)?;
     fs::write(folder.join("stdin"), questions)?;
     fs::write(folder.join("stdout"), answers)?;

@@ -98,10 +98,7 @@ pub fn operator(text: &str) -> Outcome {
 #[cfg(test)]
 mod tests {
     use super::{actions, operator, setvar, updates, variables};
-
-    fn span(first: u64, len: u64) -> u64 {
-        first * 65_536 + len
-    }
+    use crate::spans::span;
 
     #[test]
     fn records_have_their_spans() {

@@ -5,11 +5,12 @@ use crate::directives::{Package, WIDTHS};
 use crate::original;
 use crate::ours;
 use crate::readers::{Reader, ACTION_WORDS, TOKEN_WORDS, VARIABLE_WORDS};
-use crate::sources::{self, span};
+use crate::sources;
+use crate::spans::{between, halves};
 
 /// The part that a span word shows.
 fn shown(text: &[u8], word: u64) -> Result<&[u8], String> {
-    let (first, len) = ((word / 65_536) as usize, (word % 65_536) as usize);
+    let (first, len) = halves(word);
     text.get(first..first + len).ok_or_else(|| format!("a span of {first} and {len}, which is no part of {} bytes", text.len()))
 }
 
@@ -64,15 +65,15 @@ struct Arguments(Vec<(usize, usize, bool)>);
 impl Arguments {
     fn of(text: &str) -> Self {
         let token = |record: &[u64]| {
-            let first = (record[3] / 65_536) as usize;
-            (first, first + (record[3] % 65_536) as usize, record[0] == 3)
+            let (first, len) = halves(record[3]);
+            (first, first + len, record[0] == 3)
         };
         Arguments(original::tokens(text).words.chunks_exact(TOKEN_WORDS).map(token).collect())
     }
 
     /// A part of the package as the lexer reads it, by the argument that it stands in: a word, or a text in quotation marks.
     fn read(&self, package: &[u8], word: u64) -> Result<Vec<u8>, String> {
-        let (first, part) = ((word / 65_536) as usize, shown(package, word)?);
+        let (first, part) = (halves(word).0, shown(package, word)?);
         let behind = self.0.partition_point(|token| token.0 <= first);
         let token = behind.checked_sub(1).map(|at| self.0[at]).filter(|token| first + part.len() <= token.1);
         let (_, _, quoted) = token.ok_or_else(|| format!("the part at {first} of {} bytes is within no argument", part.len()))?;
@@ -133,7 +134,7 @@ impl Underlined<'_> {
 
 /// A part read alone is underlined whole.
 fn whole(word: u64, first: usize, len: usize) -> Checked {
-    let expected = span(first, first + len);
+    let expected = between(first, first + len);
     (word == expected).then_some(()).ok_or_else(|| format!("alone the span {word} and not {expected}"))
 }
 
@@ -174,9 +175,10 @@ impl Checker {
 #[cfg(test)]
 mod tests {
     use super::{same, Arguments};
+    use crate::spans::span;
 
     fn read(package: &str, first: u64, len: u64) -> Result<Vec<u8>, String> {
-        Arguments::of(package).read(package.as_bytes(), first * 65_536 + len)
+        Arguments::of(package).read(package.as_bytes(), span(first, len))
     }
 
     #[test]
@@ -189,10 +191,10 @@ mod tests {
 
     #[test]
     fn records_are_told_apart_by_what_they_show() {
-        let (one, other) = ([14, 0, 2, 9], [14, 0, 65_538, 7]);
+        let (one, other) = ([14, 0, span(0, 2), 9], [14, 0, span(1, 2), 7]);
         assert_eq!(same((&one, b"abab"), (&other, b"xab"), &[2]), Ok(()));
         assert!(same((&one, b"abab"), (&other, b"xba"), &[2]).is_err());
         assert!(same((&one, b"abab"), (&other, b"xab"), &[]).is_err());
-        assert!(same((&one, b"abab"), (&[14, 1, 2, 9], b"ab"), &[2]).is_err());
+        assert!(same((&one, b"abab"), (&[14, 1, span(0, 2), 9], b"ab"), &[2]).is_err());
     }
 }

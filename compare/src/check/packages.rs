@@ -1,10 +1,11 @@
 //! Whole directives: each text with every shape of what is lent, beside the model's answer.
 
+use super::spans::{all_held, of_records, of_refusal};
 use super::{gate, readable, Checked, Checker};
-use crate::directives::{self, Package};
+use crate::directives::{self, Package, WIDTHS};
 use crate::lent::After;
 use crate::ours;
-use crate::readers::{sized, PackageShape, Reader, PACKAGE_SHAPES};
+use crate::readers::{sized, PackageShape, Reader, LONG_PACKAGE_SHAPES, PACKAGE_SHAPES};
 
 /// Lengths of what is lent: text and scratch, three record buffers, values.
 #[derive(Debug)]
@@ -36,10 +37,10 @@ impl Checker {
     /// Texts or a name, the records, and zeros beyond; scratch all zero.
     fn as_read(&self, o: &Package) -> Checked {
         if !self.text.is(After::Padded(&o.texts)) {
-            return Err(format!("text {}, the model's {:?}", self.text.shown(), o.texts.escape_ascii().to_string()));
+            return Err(format!("text {}", self.text.shown(After::Padded(&o.texts))));
         }
         if !self.scratch.is(After::Padded(&[])) {
-            return Err(format!("scratch {}, which must be zero", self.scratch.shown()));
+            return Err(format!("scratch {}, which must be zero", self.scratch.shown(After::Padded(&[]))));
         }
         for (of, lent, words) in [
             ("directive", &self.records, &o.directives),
@@ -47,7 +48,7 @@ impl Checker {
             ("action", &self.actions, &o.actions),
         ] {
             if !lent.is(After::Padded(words)) {
-                return Err(format!("{of} words {}, the model's {words:?}", lent.shown()));
+                return Err(format!("{of} words {}", lent.shown(After::Padded(words))));
             }
         }
         Ok(())
@@ -71,18 +72,37 @@ impl Checker {
                 let kept = self.untouched();
                 kept.then_some(()).ok_or_else(|| format!("number {number}, and lent memory is touched"))
             }),
-            None if read.number == 0 => {
-                let o = read.clone().within(lens.words);
-                self.told(got, o.number, &o.values, values).and_then(|()| self.as_read(&o))
+            None => {
+                let without_room = read.without_room(lens.words);
+                let o = without_room.as_ref().unwrap_or(read);
+                self.told(got, o.number, &o.values, values).and_then(|()| self.as_read(o))
             }
-            None => self.told(got, read.number, &read.values, values).and_then(|()| self.as_read(read)),
         };
         checked.map_err(|e| format!("{e}; {lens:?}"))
     }
 
+    /// The span words of what our own call left in records that fit exactly, by the old base.
+    fn package_kept(&mut self, input: &[u8], read: &Package) -> Checked {
+        if !self.converted || readable(input).is_none() {
+            return Ok(());
+        }
+        let refused = of_refusal(read.number, self.values.front(read.values.len()));
+        let [d, v, a] = WIDTHS;
+        let directives = of_records(self.records.front(read.directives.len()), d);
+        let variables = of_records(self.variables.front(read.variables.len()), v);
+        let actions = of_records(self.actions.front(read.actions.len()), a);
+        let counts = all_held(input, refused.into_iter().chain(directives).chain(variables).chain(actions))?;
+        self.tally(counts);
+        Ok(())
+    }
+
     pub(super) fn packages(&mut self, input: &[u8]) -> Checked {
         let read = readable(input).map(directives::read).unwrap_or_default();
-        PACKAGE_SHAPES.iter().try_for_each(|shape| self.package(input, &read, *shape))?;
+        let shapes = if self.long { &LONG_PACKAGE_SHAPES[..] } else { &PACKAGE_SHAPES };
+        let (exact, others) = shapes.split_first().expect("the first is exact");
+        self.package(input, &read, *exact)?;
+        self.package_kept(input, &read)?;
+        others.iter().try_for_each(|shape| self.package(input, &read, *shape))?;
         self.underlined(input, &read)
     }
 }
@@ -99,6 +119,6 @@ mod tests {
         assert_eq!(gate(b"SecRule x", 8, 9), Some((3, 0)));
         assert_eq!(gate(b"SecMarker ab", 12, 12), None);
         assert_eq!(gate(b"SecMarker \x80", 0, 11), Some((2, 10)));
-        assert_eq!(gate(&[0x80; LIMIT + 1], 0, LIMIT + 1), Some((1, 16_384)));
+        assert_eq!(gate(&vec![0x80; LIMIT + 1], 0, LIMIT + 1), Some((1, 1_048_576)));
     }
 }
