@@ -4,8 +4,8 @@
 //! action records, the length of the texts, the words of all three lists of records and the texts in hexadecimal (`-` where empty);
 //! for a refusal its values, and the name in hexadecimal behind 5, 7 and 10 to 12, else `-`.
 //! A package past 16,384 bytes is asked for as `D*`: how often its part stands, the lengths of its front and of the part, 8 bytes each,
-//! the largest first, and front, part and tail. A span word is told as document 01 had it where neither half is past 65,535, a text
-//! past 16,387 bytes by a sum.
+//! the largest first, and front, part and tail. A span word is told as document 01 had it where neither half is past 65,535, and
+//! else as it is behind a `+`, a text past 16,387 bytes by a sum.
 
 use crate::cases::{Random, SHORT};
 use crate::directives::{self, Package};
@@ -121,19 +121,19 @@ fn answered(package: &[u8]) -> Package {
     }
 }
 
-/// A span word as it was before its base rose, where it had such a form.
-fn stored(word: u64) -> u64 {
+/// A span word as it was before its base rose; where it had no such form, as it is behind a `+`.
+fn stored(word: u64) -> String {
     let (offset, len) = halves(word);
     if offset.max(len) < 65_536 {
-        (offset * 65_536 + len) as u64
+        format!("{}", offset * 65_536 + len)
     } else {
-        word
+        format!("+{word}")
     }
 }
 
 /// Words of records of this width, spans at these places.
 fn shown(words: &[u64], width: usize, spans: &[usize]) -> String {
-    let told = |(at, word): (usize, &u64)| if spans.contains(&(at % width)) { stored(*word) } else { *word };
+    let told = |(at, word): (usize, &u64)| if spans.contains(&(at % width)) { stored(*word) } else { word.to_string() };
     words.iter().enumerate().map(|word| format!(" {}", told(word))).collect()
 }
 

@@ -77,7 +77,7 @@ fn print_lexeme(t: Lexeme) {
     if first <= past {
         print_span(first, past - first);
     }
-    print_number(t.len as u64);
+    print_span(0, t.len);
 }
 
 // What a step gave, with the text that it wrote.

@@ -20,11 +20,14 @@ pub fn print_text(text: &[u8], len: usize) {
     }
 }
 
-// A span word as it was when most answers were stored, or as it is where it had no such form.
+// A span word as it was when most answers were stored; where it had no such form, as it is, behind a sign.
 pub fn print_span_word(word: u64) {
     match spans::span_to_old(word) {
         Answer::Word(old) => print_number(old),
-        Answer::TooFar => print_number(word),
+        Answer::TooFar => {
+            io::write_all(1, b"+");
+            print_number(word);
+        }
     }
 }
 
