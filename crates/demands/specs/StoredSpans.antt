@@ -4,7 +4,7 @@ use mathlib.Core.Path.{_≡_}
 use mathlib.Core.Bool.{Bool, true, false}
 use mathlib.Core.Logic.{_↔_}
 use mathlib.Core.List.{List, [], _∷_}
-use Prim.Native.Nat.{ℕ, zero, suc, _≤_}
+use Prim.Native.Nat.{ℕ, zero, suc, _/_, _%_, _≤_}
 use lib.ListN.{length, drop, getD}
 use Rattle.lent.specs.Sizes.{spanOffset, spanLength}
 use Rattle.lent.specs.Sources.{Part, partWord}
@@ -17,7 +17,7 @@ use Rattle.operators.specs.Promises.{operatorOutcome}
 use Rattle.directives.specs.Directives as Whole
 use Rattle.directives.specs.Table as Directing
 use Rattle.directives.specs.Promises.{Lent, outcomeOn}
-use Rattle.spans.specs.Conversion.{oldWord, oldOffset, oldLength, fromOld, toOld, Far}
+use Rattle.spans.specs.Conversion.{oldBase, oldWord, fromOld, toOld, Far}
 use Rattle.spans.specs.declared.converting.Answer.the-variants.{Word, TooFar}
 
 -- The longest input then.
@@ -99,7 +99,7 @@ DirectivesKept (Directing.filled x) = PackageKept x
 -- ---- the theorem
 
 pub record StoredSpans : Type 0 where
-  pub from-refused : (v : ℕ) → (fromOld v ≡ TooFar) ↔ Far (oldOffset v) (oldLength v)
+  pub from-refused : (v : ℕ) → (fromOld v ≡ TooFar) ↔ Far (v / oldBase) (v % oldBase)
   pub to-refused : (w : ℕ) → (toOld w ≡ TooFar) ↔ Far (spanOffset w) (spanLength w)
   pub from-and-back : (v w : ℕ) → fromOld v ≡ Word w → toOld w ≡ Word v
   pub to-and-back : (v w : ℕ) → toOld w ≡ Word v → fromOld v ≡ Word w

@@ -63,6 +63,31 @@ fn print_trimmed(s: &[u8]) {
     }
 }
 
+// What a question is lent: a text and records; scratch besides; all of a package's buffers; those of a listing; nothing.
+pub enum Lending {
+    Reader,
+    Actor,
+    Joiner,
+    Lister,
+    Nothing,
+}
+
+pub fn needs(letter: u8) -> Lending {
+    match letter {
+        b'T' => Lending::Reader,
+        b'P' => Lending::Reader,
+        b'S' => Lending::Reader,
+        b'R' => Lending::Reader,
+        b'l' => Lending::Reader,
+        b'u' => Lending::Reader,
+        b'a' => Lending::Actor,
+        b'e' => Lending::Actor,
+        b'D' => Lending::Joiner,
+        b'L' => Lending::Lister,
+        _ => Lending::Nothing,
+    }
+}
+
 // What lends a text and records.
 pub fn answer_read(letter: u8, body: &[u8], text: &mut [u8], records: &mut [u64]) {
     match letter {

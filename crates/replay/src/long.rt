@@ -2,6 +2,7 @@
 ghost use Prim.Native.Nat.{_≤_};
 ghost use lib.ListN.{length};
 use crate::answers;
+use crate::answers::Lending;
 use crate::directing;
 use crate::hexes;
 use crate::listings;
@@ -96,18 +97,12 @@ fn spread(body: &[u8], out: &mut [u8]) -> usize
 }
 
 fn answer_spread(letter: u8, body: &[u8]) {
-    match letter {
-        b'T' => read(letter, body),
-        b'P' => read(letter, body),
-        b'S' => read(letter, body),
-        b'R' => read(letter, body),
-        b'l' => read(letter, body),
-        b'u' => read(letter, body),
-        b'a' => act(letter, body),
-        b'e' => act(letter, body),
-        b'D' => join(body),
-        b'L' => list(body),
-        _ => answers::answer_bare(letter, body),
+    match answers::needs(letter) {
+        Lending::Reader => read(letter, body),
+        Lending::Actor => act(letter, body),
+        Lending::Joiner => join(body),
+        Lending::Lister => list(body),
+        Lending::Nothing => answers::answer_bare(letter, body),
     }
 }
 

@@ -1,5 +1,6 @@
 // Questions on texts of up to 16,384 bytes, and what they are lent.
 use crate::answers;
+use crate::answers::Lending;
 use crate::directing;
 use crate::listings;
 use crate::sizes;
@@ -41,17 +42,11 @@ fn list(body: &[u8]) {
 }
 
 pub fn answer(letter: u8, body: &[u8]) {
-    match letter {
-        b'T' => read(letter, body),
-        b'P' => read(letter, body),
-        b'S' => read(letter, body),
-        b'R' => read(letter, body),
-        b'l' => read(letter, body),
-        b'u' => read(letter, body),
-        b'a' => act(letter, body),
-        b'e' => act(letter, body),
-        b'D' => join(body),
-        b'L' => list(body),
-        _ => answers::answer_bare(letter, body),
+    match answers::needs(letter) {
+        Lending::Reader => read(letter, body),
+        Lending::Actor => act(letter, body),
+        Lending::Joiner => join(body),
+        Lending::Lister => list(body),
+        Lending::Nothing => answers::answer_bare(letter, body),
     }
 }

@@ -4,14 +4,14 @@ use Prim.Native.Nat.{ℕ, _+_, _*_, _-_, _^_}
 use Rattle.lent.specs.Sizes.{spanWord, spanOffset, spanLength}
 use Rattle.spans.specs.declared.converting.Answer.{Answer}
 use Rattle.spans.specs.declared.converting.Answer.the-variants.{Word, TooFar}
-use Rattle.spans.specs.Conversion.{oldWord, oldOffset, oldLength, inBoth, made, fromOld, toOld}
+use Rattle.spans.specs.Conversion.{oldWord, inBoth, made, fromOld, toOld}
 
 unfoldable pub From : ℕ → Answer → Type 0
-unfolding spanWord spanOffset spanLength oldWord oldOffset oldLength inBoth made
+unfolding spanWord spanOffset spanLength oldWord inBoth made
 From w o = fromOld w ≡ o
 
 unfoldable pub To : ℕ → Answer → Type 0
-unfolding spanWord spanOffset spanLength oldWord oldOffset oldLength inBoth made
+unfolding spanWord spanOffset spanLength oldWord inBoth made
 To w o = toOld w ≡ o
 
 -- a word that is not used is converted with the rest

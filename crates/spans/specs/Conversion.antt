@@ -14,12 +14,6 @@ oldBase = 65536
 unfoldable pub oldWord : ℕ → ℕ → ℕ
 oldWord offset len = offset * oldBase + len
 
-unfoldable pub oldOffset : ℕ → ℕ
-oldOffset w = w / oldBase
-
-unfoldable pub oldLength : ℕ → ℕ
-oldLength w = w % oldBase
-
 -- the most that offset and length may be
 abbrev pub halfMost : ℕ
 halfMost = 65535
@@ -33,7 +27,7 @@ made form offset len = pick (inBoth offset len) (Word (form offset len)) TooFar
 
 -- a word of one form in the other
 abbrev pub fromOld : ℕ → Answer
-fromOld w = made spanWord (oldOffset w) (oldLength w)
+fromOld w = made spanWord (w / oldBase) (w % oldBase)
 
 abbrev pub toOld : ℕ → Answer
 toOld w = made oldWord (spanOffset w) (spanLength w)
