@@ -1,4 +1,4 @@
 pub mod EntryLaws
-pub mod PhaseLaws
+pub mod FindLaws
 pub mod GradeLaws
 pub mod PassLaws

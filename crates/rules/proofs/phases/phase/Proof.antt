@@ -1,46 +1,17 @@
--- The loop keeps that no phase was passed; each need is one law of PhaseLaws.
+-- The first phase's number, by the law of its definition.
 use borrow.Author.Needs.{needs}
-use mathlib.Core.Path.{refl}
-use Prim.Native.Nat.{_-_}
-use native.Mathlib.Omega.{arith}
-use lib.ListN.{length}
-use Rattle.rules.proofs.PhaseLaws.{Sofar, phase-found, phase-passed, phase-none}
+use mathlib.Core.Path.{_∙_, sym, ap}
+use Rattle.rules.specs.Phases.{orTwo, phaseOf}
 use Rattle.rules.proofs.phases.phase.Statement.{statement}
 use Rattle.rules.proofs.phases.phase.Tie as tie
 
-abbrev Inv-loop : tie.InvT-loop
-Inv-loop words at₀ at = Sofar words at
+returns : tie.Need-returns
+unfolding phaseOf
+returns c = ap orTwo (sym (c .before .n .given .1) ∙ c .before .before .before .first-number .ensures)
 
-abbrev μ-loop : tie.MeasureT-loop
-μ-loop words at₀ at = length words - at
-
-loop-holds : tie.Need-loop-holds Inv-loop μ-loop
-loop-holds c = record { inside = omega arith; left = refl }
-
-returns : tie.Need-returns Inv-loop μ-loop
-returns c = phase-found (c .before .before .before .before .loop .inv) (c .before .before .before .loop-test .taken) (c .before .if1 .taken)
-
-loop-again : tie.Need-loop-again Inv-loop μ-loop
-loop-again c = record { inside = omega arith; left = phase-passed (c .before .before .before .loop .inv) (c .before .before .loop-test .taken) (c .if1 .left) }
-
-returns-2 : tie.Need-returns-2 Inv-loop μ-loop
-returns-2 c = phase-none (c .before .loop .inv) (omega arith)
+returns-2 : tie.Need-returns-2
+unfolding phaseOf
+returns-2 c = ap orTwo (sym (c .enum-told .given .1) ∙ c .before .before .first-number .ensures)
 
 pub phase-spec : {M : Type 1} → statement M
-phase-spec =
-    tie.close
-    (tie.spec
-    Inv-loop
-    μ-loop
-    loop-holds
-    (λ c. search needs)
-    (λ c. search needs)
-    (λ c. search needs)
-    (λ c. search needs)
-    (λ c. search needs)
-    (λ c. search needs)
-    returns
-    (λ c. search needs)
-    (λ c. search needs)
-    loop-again
-    returns-2)
+phase-spec = tie.close (tie.spec (λ c κs. search needs) (λ c. search needs) (λ c. search needs) returns returns-2)
