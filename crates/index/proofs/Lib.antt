@@ -1,0 +1,11 @@
+pub mod RuleLaws
+pub mod WordLaws
+pub mod IndexLaws
+pub mod CheckLaws
+pub mod SeekLaws
+pub mod TakenLaws
+pub mod ChangeLaws
+pub mod PromiseLaws
+pub mod LaidLaws
+pub mod HistoryLaws
+pub mod StandingLaws
