@@ -2,7 +2,7 @@
  * enough to call them; samples/ids.c is a small program that does.
  *
  * Every call takes any bytes and any lent memory, returns, and refuses by number. Nothing is kept between calls, so
- * that threads may call at once.
+ * that threads may call at once; those that share an index take turns.
  *
  * WHAT A CALLER OWES. A pointer and a length stand for memory that is there for the whole call, aligned for its type,
  * and no memory that is written overlaps any other of the same call. A length of 0 still takes a pointer that is not
@@ -21,8 +21,8 @@
  * no other word of `values` is touched, and none at all where they do not fit. SECLANG_VALUES_MOST words are enough
  * for every reader. The numbers are tried in the order 1, 2, 3, 9, then 5, 7, 8 and 10 to 12 at the first bad piece,
  * then 19, then 4. In a package 5, 7, 8 and 10 to 15 come in the order of the text; of one directive 13 first, then its
- * variables, its operator and its actions. 21 is for the two that convert span words, and they give no other but 0. No
- * call gives 6.
+ * variables, its operator and its actions. 16, 17 and 20 are for the two that keep an index of ids, tried in the order
+ * 20, 16, 17, and 21 is for the two that convert span words; these four give no other but 0. No call gives 6.
  *
  *   number  given exactly when                                values          text and records afterwards
  *   0       none below                                        by reader       what was read, and zeros beyond
@@ -43,7 +43,13 @@
  *   13      a directive with a wrong count of arguments       line            all zero
  *   14      a word or string that no directive takes          line            all zero
  *   15      reading stopped early, and all before is good     line            all zero
+ *   16      the rule's id stands already (indexes)            its line there  the index is as it was
+ *   17      the rule's id is new, and there is no place       the places      the index is as it was
+ *           for it (indexes)
  *   19      a record that no reader makes (listings)          its number      all zero
+ *   20      no index: no words at all, a count above the      0               the words are as they were
+ *           places, ids that do not ascend strictly, or a
+ *           word beyond that is not 0 (indexes)
  *   21      a span word whose offset or length is above       0               nothing is lent
  *           65535 (conversions)
  *
@@ -83,11 +89,20 @@
  * bytes, each from its own place: in `SecAction "msg:a\,deny"` the sources are 11 with length 6, the backslash the
  * last, and 18 with length 4.
  *
+ * AN INDEX OF IDS tells which rules stand, and is u64 words too, which the caller keeps: how many rules it has, then id
+ * and line of each by turns, ids strictly ascending, and zeros beyond. Its places are the whole pairs behind the first
+ * word; a word that is left over is one beyond. Zeros, one or more, are the empty index, and more zeros behind an index
+ * are more places. An id has 64 bits throughout, so that 7 and 7 + 2^32 are two, and 0 is an id. After any calls that
+ * began with zeros the words are those of an index built afresh from the rules that stand, those accepted and not
+ * removed since: a freed place is used again, and a new id gets 17 exactly when as many rules with ids stand as there
+ * are places. That is proved (demands/specs/StandingRules.antt).
+ *
  * HOW MUCH TO LEND. A text as long as the input is always enough (a setvar alone: three bytes more). For records,
  * SECLANG_TOKENS_MOST and the like say how many an input of n bytes can need at most: with room for these, 4 is never
  * given. That is proved (BoundLaws in the proofs of lexer, actions, variables and directives); that some input of each
  * length needs as many is tested, but for whole directives, where fewer may do. With less room, 4 says how many records
- * this input needs, and the call can be made again.
+ * this input needs, and the call can be made again. An index with places for n rules has SECLANG_INDEX_WORDS(n) words,
+ * and a package has no more rules than directive records.
  * Zeros are written to the end of what is lent, so a large buffer for a small input costs time. At the limit the most
  * is 40 MiB of token records, 24 of variables, 19 of actions and 16 of update targets, and 72 for the three buffers of
  * seclang_directives together. Rules as people write them need a small part of that: a record in six bytes is mostly
@@ -144,6 +159,9 @@ extern "C" {
  * listing/proofs/BoundLaws (listing-most), and a line feed; the line of a refusal is shorter. */
 #define SECLANG_LISTING_MOST(n) (39 * (n) + 31)
 
+/* The words of an index with places for n rules. */
+#define SECLANG_INDEX_WORDS(n) (2 * (n) + 1)
+
 /* made: numbers */
 enum seclang_number {
     SECLANG_READ = 0,
@@ -161,7 +179,10 @@ enum seclang_number {
     SECLANG_WRONG_COUNT = 13,
     SECLANG_UNTAKEN = 14,
     SECLANG_STOPPED = 15,
+    SECLANG_ID_TAKEN = 16,
+    SECLANG_INDEX_FULL = 17,
     SECLANG_NO_TOKEN = 19,
+    SECLANG_NO_INDEX = 20,
     SECLANG_TOO_FAR = 21
 };
 /* end */
@@ -532,6 +553,21 @@ bool seclang_grade(const uint64_t *records, size_t records_len);
 
 /* Whether a selector takes an id: start alone, or with `ranged` from start to end, both included. */
 bool seclang_matches(bool ranged, uint64_t start, uint64_t end, uint64_t id);
+
+/* Adds a rule to an index of ids, by the rule's action records and its directive's line, which may be any number.
+ * Numbers 0, 16, 17 and 20. The rule goes by its first id; one without an id is accepted and not entered. Words left
+ * over are not read. Values with 0: 1 where the rule was entered and else 0, and how many rules the index has now.
+ * Rules of a package are its directives of the kinds SECLANG_DIRECTIVE_RULE and SECLANG_DIRECTIVE_ACTION; the last two
+ * words of their records tell where the actions are.
+ * Every call looks at the whole index for 20, so that building one of n rules takes time that grows with the square of
+ * n. */
+uint64_t seclang_index_add(uint64_t *index, size_t index_len, const uint64_t *actions, size_t actions_len,
+                           uint64_t line, uint64_t *values, size_t values_len);
+
+/* Removes the rules from an index whose ids a selector takes, as seclang_matches has it. Numbers 0 and 20. Values with
+ * 0: how many rules were removed, and how many the index has now. */
+uint64_t seclang_index_remove(uint64_t *index, size_t index_len, bool ranged, uint64_t start, uint64_t end,
+                              uint64_t *values, size_t values_len);
 
 /* A span word of version 3 or before, offset * SECLANG_OLD_SPAN_BASE + length, as one of this version, and back.
  * Numbers 0 and 21. Value: the word, or with 21, given exactly when its offset or length is above

@@ -870,6 +870,271 @@ static void check_limit(void)
     check_too_long();
 }
 
+/* ---- an index of ids */
+
+/* More words than most cases lend; a word that is not lent is painted. */
+enum { LENT = 8 };
+static uint64_t ids[LENT], wanted[LENT];
+
+#define HIGH (UINT64_C(1) << 32)
+#define HALF (UINT64_C(1) << 31)
+
+static void lay(uint64_t *to, const uint64_t *words, size_t len)
+{
+    memset(to, 'x', sizeof ids);
+    memcpy(to, words, len * sizeof *words);
+}
+
+/* Whether an index of so many words is this one, and nothing behind it was touched. */
+static bool stands(const uint64_t *words, size_t len)
+{
+    lay(wanted, words, len);
+    return memcmp(ids, wanted, sizeof ids) == 0;
+}
+
+static uint64_t add_by(const uint64_t *list, size_t words, uint64_t line, size_t len)
+{
+    memset(values, 'x', sizeof values);
+    return seclang_index_add(ids, len, list, words, line, values, SECLANG_VALUES_MOST);
+}
+
+static uint64_t add_id(uint64_t id, uint64_t line, size_t len)
+{
+    const uint64_t list[ONE] = {SECLANG_ACTION_ID, id, 0, 0, 0, 0, 0};
+    return add_by(list, ONE, line, len);
+}
+
+static uint64_t remove_ids(bool ranged, uint64_t start, uint64_t end, size_t len)
+{
+    memset(values, 'x', sizeof values);
+    return seclang_index_remove(ids, len, ranged, start, end, values, SECLANG_VALUES_MOST);
+}
+
+/* Whether the values are these, two with 0 and else one, and no other was touched. */
+static bool valued(uint64_t number, uint64_t a, uint64_t b)
+{
+    const size_t n = number == SECLANG_READ ? 2 : 1;
+    return values[0] == a && (n == 1 || values[1] == b) && painted(values + n, sizeof values - n * sizeof *values);
+}
+
+/* So many words as an index, an id and a line to add; the number, its values, and the words afterwards. */
+static const struct adding {
+    size_t len;
+    uint64_t before[LENT], id, line, number, a, b, after[LENT];
+} addings[] = {
+    {1, {0}, 7, 4, SECLANG_INDEX_FULL, 0, 0, {0}},
+    {2, {0, 0}, 7, 4, SECLANG_INDEX_FULL, 0, 0, {0, 0}},
+    {3, {1, 7, 4}, 7, 9, SECLANG_ID_TAKEN, 4, 0, {1, 7, 4}},
+    {3, {1, 7, 4}, 9, 9, SECLANG_INDEX_FULL, 1, 0, {1, 7, 4}},
+    {4, {1, 7, 4, 0}, 9, 9, SECLANG_INDEX_FULL, 1, 0, {1, 7, 4, 0}},
+    {5, {2, 5, 1, 9, 2}, 7, 9, SECLANG_INDEX_FULL, 2, 0, {2, 5, 1, 9, 2}},
+    {5, {1, 0, 9, 0, 0}, 0, 3, SECLANG_ID_TAKEN, 9, 0, {1, 0, 9, 0, 0}},
+    {3, {1, 7, 0}, 7, 3, SECLANG_ID_TAKEN, 0, 0, {1, 7, 0}},
+    {3, {1, 7, UINT64_MAX}, 7, 3, SECLANG_ID_TAKEN, UINT64_MAX, 0, {1, 7, UINT64_MAX}},
+    /* the first, and one before, between and behind others */
+    {3, {0, 0, 0}, 0, 0, SECLANG_READ, 1, 1, {1, 0, 0}},
+    {6, {1, 7, 4, 0, 0, 0}, 5, UINT64_MAX, SECLANG_READ, 1, 2, {2, 5, UINT64_MAX, 7, 4, 0}},
+    {7, {2, 5, 1, 9, 2, 0, 0}, 7, 3, SECLANG_READ, 1, 3, {3, 5, 1, 7, 3, 9, 2}},
+    {5, {1, 7, 4, 0, 0}, UINT64_MAX, 3, SECLANG_READ, 1, 2, {2, 7, 4, UINT64_MAX, 3}},
+    /* ids that a narrower field takes for one */
+    {5, {1, 7, 4, 0, 0}, 7 + HALF, 5, SECLANG_READ, 1, 2, {2, 7, 4, 7 + HALF, 5}},
+    {5, {1, 7, 4, 0, 0}, 7 + HIGH, 5, SECLANG_READ, 1, 2, {2, 7, 4, 7 + HIGH, 5}},
+    {5, {1, 7 + HIGH, 4, 0, 0}, 7, 5, SECLANG_READ, 1, 2, {2, 7, 5, 7 + HIGH, 4}},
+    {3, {1, 7 + HIGH, 4}, 7, 5, SECLANG_INDEX_FULL, 1, 0, {1, 7 + HIGH, 4}},
+    {3, {1, 7 + HIGH, 4}, 7 + HIGH, 5, SECLANG_ID_TAKEN, 4, 0, {1, 7 + HIGH, 4}},
+    {3, {1, UINT64_MAX, 4}, UINT32_MAX, 5, SECLANG_INDEX_FULL, 1, 0, {1, UINT64_MAX, 4}},
+};
+
+/* So many words as an index, and a selector; the rules removed, those left, and the words afterwards. */
+static const struct removing {
+    size_t len;
+    uint64_t before[LENT];
+    bool ranged;
+    uint64_t start, end, a, b, after[LENT];
+} removings[] = {
+    {5, {2, 5, 1, 9, 2}, false, 5, 0, 1, 1, {1, 9, 2, 0, 0}},
+    {5, {2, 5, 1, 9, 2}, false, 5, UINT64_MAX, 1, 1, {1, 9, 2, 0, 0}},
+    {5, {2, 5, 1, 9, 2}, false, 7, 0, 0, 2, {2, 5, 1, 9, 2}},
+    {8, {3, 5, 1, 7, 3, 9, 2, 0}, false, 7, 0, 1, 2, {2, 5, 1, 9, 2, 0, 0, 0}},
+    {5, {2, 5, 1, 9, 2}, true, 9, 5, 0, 2, {2, 5, 1, 9, 2}},
+    {5, {2, 5, 1, 9, 2}, true, 5, 9, 2, 0, {0, 0, 0, 0, 0}},
+    {5, {2, 5, 1, 9, 2}, true, 6, 8, 0, 2, {2, 5, 1, 9, 2}},
+    {5, {2, 5, 1, 9, 2}, true, 9, 9, 1, 1, {1, 5, 1, 0, 0}},
+    {5, {2, 0, 1, UINT64_MAX, 2}, true, 0, UINT64_MAX, 2, 0, {0, 0, 0, 0, 0}},
+    {5, {2, 7, 1, 7 + HIGH, 2}, false, 7, 0, 1, 1, {1, 7 + HIGH, 2, 0, 0}},
+    {5, {2, 7, 1, 7 + HIGH, 2}, true, 8, HIGH + 6, 0, 2, {2, 7, 1, 7 + HIGH, 2}},
+    {1, {0}, true, 0, UINT64_MAX, 0, 0, {0}},
+    {2, {0, 0}, false, 0, 0, 0, 0, {0, 0}},
+};
+
+/* Words that are no index: none, a word beyond, ids that do not ascend, a count past the places. */
+static const struct no_index {
+    size_t len;
+    uint64_t words[LENT];
+} no_indexes[] = {
+    {0, {0}},
+    {2, {0, 1}},
+    {3, {0, 0, 1}},
+    {5, {0, 0, 0, 5, 0}},
+    {6, {1, 7, 4, 0, 0, 9}},
+    {5, {2, 5, 1, 5, 2}},
+    {5, {2, 9, 1, 5, 2}},
+    {5, {2, 5 + HIGH, 1, 9, 2}},
+    {1, {1}},
+    {2, {1, 7}},
+    {3, {2, 5, 1}},
+    {3, {HIGH, 0, 0}},
+    {3, {UINT64_C(1) << 63, 0, 0}},
+    {3, {UINT64_MAX, 5, 1}},
+};
+
+static const char *nth(const char *what, size_t k)
+{
+    static char said[64];
+    snprintf(said, sizeof said, "%s, row %zu", what, k);
+    return said;
+}
+
+static void check_index_rows(void)
+{
+    for (size_t k = 0; k < sizeof addings / sizeof *addings; k++) {
+        const struct adding *r = addings + k;
+        lay(ids, r->before, r->len);
+        check(add_id(r->id, r->line, r->len) == r->number && valued(r->number, r->a, r->b) && stands(r->after, r->len),
+              nth("adding", k), __LINE__);
+    }
+    for (size_t k = 0; k < sizeof removings / sizeof *removings; k++) {
+        const struct removing *r = removings + k;
+        lay(ids, r->before, r->len);
+        check(remove_ids(r->ranged, r->start, r->end, r->len) == SECLANG_READ && valued(SECLANG_READ, r->a, r->b) &&
+                  stands(r->after, r->len),
+              nth("removing", k), __LINE__);
+    }
+}
+
+static bool is_no_index(uint64_t number) { return number == SECLANG_NO_INDEX && valued(number, 0, 0); }
+
+/* Refused by either call, whatever it is asked. */
+static void check_no_index(void)
+{
+    for (size_t k = 0; k < sizeof no_indexes / sizeof *no_indexes; k++) {
+        const uint64_t *words = no_indexes[k].words;
+        const size_t len = no_indexes[k].len;
+        lay(ids, words, len);
+        check(is_no_index(add_id(5, 1, len)) && is_no_index(add_by(records, 0, 1, len)), nth("adding to no index", k),
+              __LINE__);
+        check(is_no_index(remove_ids(false, 5, 0, len)) && is_no_index(remove_ids(true, 0, UINT64_MAX, len)),
+              nth("removing from no index", k), __LINE__);
+        check(stands(words, len), nth("no index", k), __LINE__);
+    }
+}
+
+/* A rule goes by its first id; what is no whole record, and records of any other code, are passed over. */
+static void check_first_ids(void)
+{
+    static const uint64_t none[LENT] = {0}, nine[] = {1, 9, 3, 0, 0}, seven[] = {1, 7, 3, 0, 0};
+    static const uint64_t odd[3 * ONE] = {0, 3, 0, 0, 0, 0, 0, 33, 4, 0, 0, 0, 0, 0, SECLANG_ACTION_ID, 7};
+    lay(ids, none, 5);
+    CHECK(actions("deny,phase:1") == SECLANG_READ && add_by(records, 2 * ONE, 3, 5) == SECLANG_READ);
+    CHECK(valued(SECLANG_READ, 0, 0) && stands(none, 5));
+    CHECK(add_by(records, 0, 3, 1) == SECLANG_READ && valued(SECLANG_READ, 0, 0));
+    CHECK(actions("id:9,id:7") == SECLANG_READ && add_by(records, ONE - 1, 3, 5) == SECLANG_READ);
+    CHECK(valued(SECLANG_READ, 0, 0) && stands(none, 5));
+    CHECK(add_by(records, 2 * ONE, 3, 5) == SECLANG_READ && valued(SECLANG_READ, 1, 1) && stands(nine, 5));
+    CHECK(add_by(records, ONE + 1, 4, 5) == SECLANG_ID_TAKEN && valued(SECLANG_ID_TAKEN, 3, 0) && stands(nine, 5));
+    CHECK(actions("deny") == SECLANG_READ && add_by(records, ONE, 4, 3) == SECLANG_READ);
+    CHECK(valued(SECLANG_READ, 0, 1) && stands(nine, 5));
+    lay(ids, none, 5);
+    CHECK(add_by(odd, 3 * ONE, 3, 5) == SECLANG_READ && valued(SECLANG_READ, 1, 1) && stands(seven, 5));
+}
+
+/* Values that do not fit are not stored; the index is as with room for them. */
+static void check_index_values(void)
+{
+    static const uint64_t none[LENT] = {0}, seven[] = {1, 7, 3}, list[ONE] = {SECLANG_ACTION_ID, 7, 0, 0, 0, 0, 0};
+    static const uint64_t other[ONE] = {SECLANG_ACTION_ID, 9, 0, 0, 0, 0, 0};
+    uint64_t few[2] = {77, 77};
+    lay(ids, none, 3);
+    CHECK(seclang_index_add(ids, 3, list, ONE, 3, few, 1) == SECLANG_READ && few[0] == 77 && stands(seven, 3));
+    CHECK(seclang_index_add(ids, 3, list, ONE, 4, few, 0) == SECLANG_ID_TAKEN && few[0] == 77);
+    CHECK(seclang_index_add(ids, 3, other, ONE, 4, few, 0) == SECLANG_INDEX_FULL && few[0] == 77);
+    CHECK(seclang_index_add(ids, 0, list, ONE, 4, few, 0) == SECLANG_NO_INDEX && few[0] == 77 && stands(seven, 3));
+    CHECK(seclang_index_remove(ids, 0, false, 7, 0, few, 0) == SECLANG_NO_INDEX && few[0] == 77 && stands(seven, 3));
+    CHECK(seclang_index_remove(ids, 3, false, 7, 0, few, 1) == SECLANG_READ && few[0] == 77 && stands(none, 3));
+}
+
+/* Full, one removed and another added: the same words as built afresh, in another order. */
+static void check_freed_places(void)
+{
+    static const uint64_t none[LENT] = {0};
+    uint64_t afresh[5];
+    lay(ids, none, 5);
+    CHECK(add_id(5, 1, 5) == SECLANG_READ && add_id(3, 8, 5) == SECLANG_READ && valued(SECLANG_READ, 1, 2));
+    memcpy(afresh, ids, sizeof afresh);
+    lay(ids, none, 5);
+    CHECK(add_id(9, 2, 5) == SECLANG_READ && add_id(5, 1, 5) == SECLANG_READ);
+    CHECK(add_id(3, 8, 5) == SECLANG_INDEX_FULL && valued(SECLANG_INDEX_FULL, 2, 0));
+    CHECK(remove_ids(false, 9, 0, 5) == SECLANG_READ && valued(SECLANG_READ, 1, 1));
+    CHECK(add_id(3, 8, 5) == SECLANG_READ && valued(SECLANG_READ, 1, 2) && stands(afresh, 5));
+}
+
+/* The rules of a package by the records that their directives tell, a second rule of one id among them. */
+static void check_package_index(void)
+{
+    static const uint64_t none[LENT] = {0}, both[] = {2, 7, 2, 4294967303, 1, 0, 0};
+    static const uint64_t numbers[] = {SECLANG_READ, SECLANG_READ, SECLANG_READ, SECLANG_ID_TAKEN};
+    static const char s[] = "SecAction log,id:4294967303\nSecRule TX a id:7\nSecAction deny\nSecRule TX b id:7,id:9";
+    CHECK(directives(s) == SECLANG_READ && values[0] == 4);
+    lay(ids, none, 7);
+    for (size_t k = 0; k < 4; k++) {
+        const uint64_t *d = heads + k * SECLANG_DIRECTIVE_WORDS, *list = acts + d[SECLANG_AT_FIRST_ACTION] * ONE;
+        CHECK(add_by(list, (size_t)d[SECLANG_AT_ACTIONS] * ONE, d[SECLANG_AT_LINE], 7) == numbers[k]);
+    }
+    CHECK(valued(SECLANG_ID_TAKEN, 2, 0) && stands(both, 7));
+}
+
+/* As many rules as there are places, whose ids differ in their upper halves alone, out of order. */
+static void check_full_index(void)
+{
+    enum { MANY = 1000, MANY_WORDS = SECLANG_INDEX_WORDS(MANY) };
+    static uint64_t many[MANY_WORDS], before[MANY_WORDS], list[ONE] = {SECLANG_ACTION_ID, 0, 0, 0, 0, 0, 0};
+    for (uint64_t k = 0; k <= MANY; k++) {
+        const bool fits = k < MANY;
+        list[1] = (fits ? k * 617 % MANY : k) * HIGH + 7;
+        CHECK(seclang_index_add(many, MANY_WORDS, list, ONE, k, values, 10) ==
+              (fits ? SECLANG_READ : SECLANG_INDEX_FULL));
+        CHECK(fits ? first_values(1, k + 1) : values[0] == MANY);
+    }
+    for (uint64_t k = 0; k < MANY; k++) {
+        const uint64_t id = k * 617 % MANY, *pair = many + 1 + 2 * id;
+        list[1] = id * HIGH + 7;
+        CHECK(pair[0] == list[1] && pair[1] == k);
+        CHECK(seclang_index_add(many, MANY_WORDS, list, ONE, 0, values, 10) == SECLANG_ID_TAKEN && values[0] == k);
+    }
+    memcpy(before, many, sizeof many);
+    CHECK(seclang_index_remove(many, MANY_WORDS, true, 250 * HIGH, 750 * HIGH, values, 10) == SECLANG_READ);
+    CHECK(first_values(500, 500) && many[0] == 500 && memcmp(many + 1, before + 1, 500 * sizeof *many) == 0);
+    CHECK(memcmp(many + 501, before + 1501, 500 * sizeof *many) == 0);
+    for (size_t i = 1001; i < MANY_WORDS; i++) CHECK(many[i] == 0);
+    for (uint64_t k = 250; k < 750; k++) {
+        list[1] = k * HIGH + 7;
+        CHECK(seclang_index_add(many, MANY_WORDS, list, ONE, before[2 + 2 * k], values, 10) == SECLANG_READ);
+    }
+    CHECK(memcmp(many, before, sizeof many) == 0);
+}
+
+static void check_index(void)
+{
+    CHECK(SECLANG_INDEX_WORDS(0) == 1 && SECLANG_INDEX_WORDS(1 + 2) == 7);
+    check_index_rows();
+    check_no_index();
+    check_first_ids();
+    check_index_values();
+    check_freed_places();
+    check_package_index();
+    check_full_index();
+}
+
 /* ---- bounds */
 
 /* n bytes of a first part, and then of another again and again; blanks where it does not fit. */
@@ -968,6 +1233,7 @@ int main(void)
     check_numbers();
     check_conversions();
     check_limit();
+    check_index();
     for (size_t n = 0; n <= 100; n++) check_bounds_at(n), check_package_bounds_at(n);
     for (size_t n = 65533; n <= 65538; n++) check_bounds_at(n), check_package_bounds_at(n);
     for (size_t n = SECLANG_LIMIT - 5; n <= SECLANG_LIMIT; n++) check_bounds_at(n), check_package_bounds_at(n);

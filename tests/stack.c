@@ -19,6 +19,9 @@ static uint64_t records[SECLANG_TOKENS_MOST(FULL) * SECLANG_TOKEN_WORDS], values
 static uint64_t heads[SECLANG_DIRECTIVES_MOST(FULL) * SECLANG_DIRECTIVE_WORDS];
 static uint64_t targets[SECLANG_DIRECTIVES_VARIABLES_MOST(FULL) * SECLANG_VARIABLE_WORDS];
 static uint64_t acts[SECLANG_DIRECTIVES_ACTIONS_MOST(FULL) * SECLANG_ACTION_WORDS];
+/* An index has as many bytes as the input, and its first word besides. */
+#define PLACES(n) ((n) / (2 * WORD))
+static uint64_t ids[SECLANG_INDEX_WORDS(PLACES(FULL))];
 static _Alignas(4096) uint8_t stack[STACK];
 
 /* What a call is asked: n bytes of input, with room for the most records or with none, and two numbers of its own: a
@@ -111,6 +114,18 @@ static uint64_t phase(const struct asked *a) { return seclang_phase(records, a->
 static bool grade(const struct asked *a) { return seclang_grade(records, a->other); }
 static bool test(const struct asked *a) { return seclang_test(a->other, a->word); }
 static bool matches(const struct asked *a) { return seclang_matches(a->room, a->other, a->word, a->word); }
+
+static uint64_t index_add(const struct asked *a)
+{
+    return seclang_index_add(ids, SECLANG_INDEX_WORDS(PLACES(a->n)), records, a->other, a->word, VALUES);
+}
+
+/* All rules or all but a few, or one. */
+static uint64_t index_remove(const struct asked *a)
+{
+    return seclang_index_remove(ids, SECLANG_INDEX_WORDS(PLACES(a->n)), a->room, 8 + a->word, UINT64_MAX, VALUES);
+}
+
 static uint64_t span_from_old(const struct asked *a) { return seclang_span_from_old(a->word, VALUES); }
 static uint64_t span_to_old(const struct asked *a) { return seclang_span_to_old(a->word, VALUES); }
 static uint64_t version(const struct asked *a) { return a->n ? 0 : seclang_version(); }
@@ -214,6 +229,11 @@ static const struct sample names[] = {
     {NULL, "", "", 0},
 };
 
+/* Rules with the id 7, the last without one. */
+static const struct sample rules[] = {
+    {"id:7", NULL, "", 0}, {"", "deny,", "id:7", 0}, {"id:7", ",log", "", 0}, {"", "deny,", "", 0}, {NULL, "", "", 0},
+};
+
 static const struct sample selections[] = {
     {"/*", NULL, "", 0}, {"//@*", NULL, "", 0}, {"", NULL, "", 0},
     {"", " ", "", 0},    {"", "/", "", 0},      {NULL, "", "", 0},
@@ -230,13 +250,27 @@ static size_t fill(const struct sample *s, size_t size)
     return size;
 }
 
+/* An index that is full, or has places left: of ids from 8 on, so that 7 goes before them all; from 7 on; or of none
+ * that ascend. */
+static void fill_index(const struct asked *a)
+{
+    ids[0] = a->room ? PLACES(a->n) / 2 : PLACES(a->n);
+    for (size_t k = 0; k < PLACES(a->n); k++) {
+        const bool there = k < ids[0];
+        ids[2 * k + 1] = there && a->word < 2 ? 8 - a->word + k : 0;
+        ids[2 * k + 2] = there ? k : 0;
+    }
+}
+
 /* ---- the functions */
 
 /* A function and its inputs. The records that it is about come from a call before it, so many words to a record, which
- * is not counted. It is asked with the words 0 to the last, and gives each sample's number where it is a reader. */
+ * is not counted; nor is what fills the memory again that it changes. It is asked with the words 0 to the last, and
+ * gives each sample's number where it is a reader. */
 static const struct about {
     const char *name;
     call *call, *before;
+    void (*again)(const struct asked *);
     judgement *judgement;
     const struct sample *samples;
     size_t width, last;
@@ -262,6 +296,14 @@ static const struct about {
      .samples = lists,
      .width = SECLANG_ACTION_WORDS},
     {.name = "seclang_matches", .judgement = matches},
+    {.name = "seclang_index_add",
+     .call = index_add,
+     .before = parse_actions,
+     .again = fill_index,
+     .samples = rules,
+     .width = SECLANG_ACTION_WORDS,
+     .last = 2},
+    {.name = "seclang_index_remove", .call = index_remove, .again = fill_index, .samples = rules, .last = 2},
     {.name = "seclang_span_from_old", .call = span_from_old},
     {.name = "seclang_span_to_old", .call = span_to_old},
     {.name = "seclang_list_text", .call = list_text, .samples = texts},
@@ -307,6 +349,7 @@ static size_t depth(struct started *s, uint8_t paint)
     pthread_attr_t how;
     pthread_t thread;
     size_t at = 0;
+    if (s->about->again) s->about->again(s->asked);
     memset(stack, paint, STACK);
     must(pthread_attr_init(&how) == 0 && pthread_attr_setstack(&how, stack, STACK) == 0, "no thread on its own stack");
     must(pthread_create(&thread, &how, start, s) == 0 && pthread_join(thread, NULL) == 0, "no thread");

@@ -1,6 +1,7 @@
-//! Prints line, id and phase of each rule of a package, and what is refused: `cargo run --example ids -- FILE`.
+//! Prints line, id and phase of each rule of a package, what is refused, and where an id stands already:
+//! `cargo run --example ids -- FILE`.
 
-use seclang::{Action, Token, TokenKind};
+use seclang::{Action, Index, Token, TokenKind};
 use std::error::Error;
 
 /// The action list of a rule, by its directive and the texts behind it.
@@ -18,6 +19,7 @@ fn main() -> Result<(), Box<dyn Error>> {
     tokens.retain(|token| !matches!(token.kind, TokenKind::Comment | TokenKind::Newline));
     let is_directive = |token: &Token| matches!(token.kind, TokenKind::Directive(_));
     let starts: Vec<usize> = (0..tokens.len()).filter(|at| is_directive(&tokens[*at])).collect();
+    let mut index = Index::with_places(starts.len());
     for (start, end) in starts.iter().zip(starts.iter().skip(1).chain([&tokens.len()])) {
         let Some(list) = actions_of(&tokens[*start..*end]) else { continue };
         let line = tokens[*start].line;
@@ -26,6 +28,9 @@ fn main() -> Result<(), Box<dyn Error>> {
             Ok(actions) => {
                 let id = actions.iter().find_map(|action| if let Action::Id(id) = action.thing { Some(id) } else { None });
                 println!("{line}: id {}, phase {}", id.map_or("none".to_string(), |id| id.to_string()), seclang::phase(&actions));
+                if let Err(refusal) = index.add(&actions, line) {
+                    println!("{line}: {refusal}");
+                }
             }
         }
     }

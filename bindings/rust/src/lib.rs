@@ -3,7 +3,8 @@
 //!
 //! The functions here take any bytes, size what the library is lent, and give Rust types back: [`Directive`], [`Token`], [`Action`],
 //! [`Variable`], [`Operator`], or a [`Refusal`]. Actions, variables and exclusions know which bytes they were read from ([`Sourced`]),
-//! and a refusal shows its own as a compiler does ([`Refusal::message`]). [`raw`] has the library's own functions over lent buffers.
+//! and a refusal shows its own as a compiler does ([`Refusal::message`]). An [`Index`] tells which rules stand, by id. [`raw`] has the
+//! library's own functions over lent buffers.
 //!
 //! ```
 //! use seclang::{Action, OperatorName, TokenKind, VariableName};
@@ -44,6 +45,7 @@
 mod actions;
 mod codes;
 mod directives;
+mod index;
 mod lent;
 mod messages;
 mod operators;
@@ -59,6 +61,7 @@ mod variables;
 pub use actions::{parse_actions, parse_setvar, Action, SetVar, SetVarValue};
 pub use codes::{severity, ActionCode, DirectiveCode, OperatorName, ValueKind, VariableName};
 pub use directives::{directives, Directive, DirectiveKind, RuleOperator};
+pub use index::{Index, IndexRefusal};
 pub use operators::{parse_operator, Operator};
 pub use refusals::{Flaw, Refusal};
 pub use rules::{grade, phase, RuleIdSelector};

@@ -103,6 +103,24 @@ mod c {
         pub fn seclang_phase(records: *const u64, records_len: usize) -> u64;
         pub fn seclang_grade(records: *const u64, records_len: usize) -> bool;
         pub fn seclang_matches(ranged: bool, start: u64, end: u64, id: u64) -> bool;
+        pub fn seclang_index_add(
+            index: *mut u64,
+            index_len: usize,
+            actions: *const u64,
+            actions_len: usize,
+            line: u64,
+            values: *mut u64,
+            values_len: usize,
+        ) -> u64;
+        pub fn seclang_index_remove(
+            index: *mut u64,
+            index_len: usize,
+            ranged: bool,
+            start: u64,
+            end: u64,
+            values: *mut u64,
+            values_len: usize,
+        ) -> u64;
         pub fn seclang_list_text(
             input: *const u8,
             input_len: usize,
@@ -308,6 +326,27 @@ pub fn grade(records: &[u64]) -> bool {
 pub fn matches(ranged: bool, start: u64, end: u64, id: u64) -> bool {
     // SAFETY: numbers only.
     unsafe { c::seclang_matches(ranged, start, end, id) }
+}
+
+/// Adds a rule to an index of ids: its action records, whole ones, and its directive's line. By values whether it was entered (1, else
+/// 0) and how many rules the index has now; with 16 the line of the rule that has the id, with 17 the places, with 20 a 0.
+///
+/// An index is a count, then id and line of each rule by turns, ids strictly ascending, and zeros beyond: `1 + 2 * n` zeros are an empty
+/// one with places for n rules. [`IndexRefusal::from_raw`](crate::IndexRefusal::from_raw) tells what a number refuses.
+#[inline]
+pub fn index_add(index: &mut [u64], actions: &[u64], line: u64, values: &mut [u64]) -> u64 {
+    // SAFETY: as above.
+    unsafe {
+        c::seclang_index_add(index.as_mut_ptr(), index.len(), actions.as_ptr(), actions.len(), line, values.as_mut_ptr(), values.len())
+    }
+}
+
+/// Removes the rules from an index whose ids a selector takes, which is that of [`matches()`]. By values how many were removed and how
+/// many rules the index has now; with 20 a 0.
+#[inline]
+pub fn index_remove(index: &mut [u64], ranged: bool, start: u64, end: u64, values: &mut [u64]) -> u64 {
+    // SAFETY: as above.
+    unsafe { c::seclang_index_remove(index.as_mut_ptr(), index.len(), ranged, start, end, values.as_mut_ptr(), values.len()) }
 }
 
 /// A text's listing, as JSON and a line feed, in `out`; `text` and `records` as [`tokens`] leaves them.

@@ -3,8 +3,8 @@
 use crate::actions::WIDTH;
 use crate::{raw, Action};
 
-/// Records with what grade and phase look at: codes and numbers.
-fn records(actions: &[impl AsRef<Action>]) -> Vec<u64> {
+/// Records with what grade, phase and index look at: codes and numbers.
+pub(crate) fn records(actions: &[impl AsRef<Action>]) -> Vec<u64> {
     let words = |action: &Action| -> [u64; WIDTH] { [action.code().code(), action.number(), 0, 0, 0, 0, 0] };
     actions.iter().flat_map(|action| words(action.as_ref())).collect()
 }
@@ -48,9 +48,15 @@ impl RuleIdSelector {
     /// assert!(RuleIdSelector::Range(10, 20).matches(20));
     /// ```
     pub fn matches(self, id: u64) -> bool {
+        let (ranged, start, end) = self.told();
+        raw::matches(ranged, start, end, id)
+    }
+
+    /// As the library is told it: whether it is a range, its start and its end.
+    pub(crate) fn told(self) -> (bool, u64, u64) {
         match self {
-            RuleIdSelector::Single(start) => raw::matches(false, start, 0, id),
-            RuleIdSelector::Range(start, end) => raw::matches(true, start, end, id),
+            RuleIdSelector::Single(start) => (false, start, 0),
+            RuleIdSelector::Range(start, end) => (true, start, end),
         }
     }
 }

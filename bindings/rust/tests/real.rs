@@ -1,7 +1,9 @@
 //! Real rules through the typed readers: samples/desk.conf, and the Core Rule Set where it is installed (Debian: modsecurity-crs).
 //! What was read is held against the source, cut here a second time by plain text searches.
 
-use seclang::{Action, ActionCode, Directive, DirectiveKind, Refusal, Selection, SetVarValue, Sourced, Targets, Token, TokenKind, LIMIT};
+use seclang::{
+    Action, ActionCode, Directive, DirectiveKind, Index, Refusal, Selection, SetVarValue, Sourced, Targets, Token, TokenKind, LIMIT,
+};
 use std::path::{Path, PathBuf};
 
 const FOLDER: &str = "/usr/share/modsecurity-crs";
@@ -331,6 +333,24 @@ fn a_merged_package_is_read() {
     }
     assert!(LIMIT / 2 < package.len());
     assert_eq!(seclang::directives(&package), Ok(expected));
+}
+
+/// File by file into one index: no rule has another's id, and the ids are those that a search finds.
+#[test]
+fn each_id_of_the_core_rule_set_stands_once() {
+    let (mut found, mut index, mut searched) = (Vec::new(), Index::with_places(5_000), Vec::new());
+    files(Path::new(FOLDER), &mut found);
+    for path in &found {
+        let text = plain(&std::fs::read(path).expect("a file that can be read"));
+        let Ok(list) = seclang::directives(&text) else { continue };
+        searched.extend(searched_ids(&text));
+        for rule in list.iter().filter(|one| matches!(one.kind, DirectiveKind::Rule { .. } | DirectiveKind::Action(_))) {
+            let added = index.add(rule.actions(), rule.line);
+            assert!(added.is_ok(), "{}:{}: {added:?}", path.display(), rule.line);
+        }
+    }
+    searched.sort_unstable();
+    assert_eq!(index.iter().map(|(id, _)| id).collect::<Vec<_>>(), searched);
 }
 
 #[test]

@@ -1,3 +1,4 @@
 pub mod Told
 pub mod Readers
 pub mod Codes
+pub mod Indexing

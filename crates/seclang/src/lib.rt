@@ -1,5 +1,6 @@
 // The readers and lookups for C and Rust: numbers and slices in, document 01's number back, its values in lent words.
 mod converting;
+mod indexing;
 mod looking;
 mod printing;
 mod reading;
@@ -8,6 +9,8 @@ mod versioning;
 
 pub use converting::seclang_span_from_old;
 pub use converting::seclang_span_to_old;
+pub use indexing::seclang_index_add;
+pub use indexing::seclang_index_remove;
 pub use looking::seclang_grade;
 pub use looking::seclang_lookup;
 pub use looking::seclang_matches;

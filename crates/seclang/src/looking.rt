@@ -69,7 +69,7 @@ pub extern "C" fn seclang_grade(records: &[u64]) -> bool
     rules::grade(records)
 }
 
-fn selector(ranged: bool, start: u64, end: u64) -> RuleIdSelector
+pub fn selector(ranged: bool, start: u64, end: u64) -> RuleIdSelector
     ensures { λ r. ⌜ r ≡ selectorOf ranged start end ⌝ }
 {
     if ranged {

@@ -11,12 +11,15 @@ ghost use Rattle.operators.specs.Promises as Operating;
 ghost use Rattle.listing.specs.Promises as Listing;
 ghost use Rattle.directives.specs.Promises as Directing;
 ghost use Rattle.spans.specs.Promises as Converting;
+ghost use Rattle.index.specs.Promises as Indexing;
 ghost use Rattle.seclang.specs.Told.{Told, NearName};
 use actions::Answer as Acted;
 use directives::Answer as Directed;
 use directives::ArgumentFault;
 use directives::Fault;
 use directives::LineFault;
+use index::Added;
+use index::Removed;
 use lexer::Answer as Reading;
 use lexer::Cursor;
 use lexer::Kind;
@@ -35,18 +38,30 @@ pub fn tell(number: u64, words: &[u64], values: &mut [u64]) -> u64
     number
 }
 
+fn tell_word(number: u64, word: u64, values: &mut [u64]) -> u64
+    ensures { λ r. ⌜ Told (given number (word ∷ [])) (now (values .entry)) (now (values .exit)) r ⌝ }
+{
+    let words = [word];
+    tell(number, &words, values)
+}
+
+fn tell_words(number: u64, first: u64, second: u64, values: &mut [u64]) -> u64
+    ensures { λ r. ⌜ Told (given number (first ∷ second ∷ [])) (now (values .entry)) (now (values .exit)) r ⌝ }
+{
+    let words = [first, second];
+    tell(number, &words, values)
+}
+
 pub fn tell_one(number: u64, value: usize, values: &mut [u64]) -> u64
     ensures { λ r. ⌜ Told (given number (value ∷ [])) (now (values .entry)) (now (values .exit)) r ⌝ }
 {
-    let words = [value as u64];
-    tell(number, &words, values)
+    tell_word(number, value as u64, values)
 }
 
 pub fn tell_two(number: u64, first: usize, second: usize, values: &mut [u64]) -> u64
     ensures { λ r. ⌜ Told (given number (first ∷ second ∷ [])) (now (values .entry)) (now (values .exit)) r ⌝ }
 {
-    let words = [first as u64, second as u64];
-    tell(number, &words, values)
+    tell_words(number, first as u64, second as u64, values)
 }
 
 fn tell_three(number: u64, first: usize, second: usize, third: usize, values: &mut [u64]) -> u64
@@ -228,6 +243,27 @@ pub fn tell_converted(answer: Converted, values: &mut [u64]) -> u64
             tell(0, &words, values)
         }
         Converted::TooFar => tell_one(21, 0, values),
+    }
+}
+
+pub fn tell_added(answer: Added, values: &mut [u64]) -> u64
+    ensures { λ r. ⌜ Told (Indexing.addedGiven answer) (now (values .entry)) (now (values .exit)) r ⌝ }
+{
+    match answer {
+        Added::Entered(count) => tell_words(0, 1, count, values),
+        Added::Passed(count) => tell_words(0, 0, count, values),
+        Added::Taken(line) => tell_word(16, line, values),
+        Added::Full(places) => tell_word(17, places, values),
+        Added::Broken => tell_word(20, 0, values),
+    }
+}
+
+pub fn tell_removed(answer: Removed, values: &mut [u64]) -> u64
+    ensures { λ r. ⌜ Told (Indexing.removedGiven answer) (now (values .entry)) (now (values .exit)) r ⌝ }
+{
+    match answer {
+        Removed::Done(removed, count) => tell_words(0, removed, count, values),
+        Removed::Broken => tell_word(20, 0, values),
     }
 }
 
