@@ -74,22 +74,26 @@ use Rattle.operators.proofs.operator_argument as OperatorArgument
 use Rattle.operators.proofs.operator_in as OperatorIn
 use Rattle.operators.proofs.parse_operator as ParseOperator
 use Rattle.directives.proofs.directives as DirectivesOf
+use Rattle.rules.proofs.first_number as FirstNumber
 use Rattle.rules.proofs.grade as Grade
 use Rattle.rules.proofs.phase as Phase
 use Rattle.rules.proofs.selecting.RuleIdSelector.matches as Matches
 use Rattle.spans.proofs.span_from_old as SpanFromOld
 use Rattle.spans.proofs.span_to_old as SpanToOld
+use Rattle.index.proofs.add as Add
+use Rattle.index.proofs.remove as Remove
 use Rattle.listing.proofs.list_text as ListText
 use Rattle.listing.proofs.write_listing as WriteListing
 use Rattle.listing.proofs.write_refusal as WriteRefusal
 use Rattle.listing.proofs.write_refusal_line as WriteRefusalLine
-use Rattle.demands.specs.Demand1.{OfBytes, OfTexts, OfNumbers, OfLent, OfNames, OfSpans, OfLexer, OfPlaces, OfSingles, OfParsers, OfDirectives, OfListing, Demand1}
+use Rattle.demands.specs.Demand1.{OfBytes, OfTexts, OfNumbers, OfLent, OfNames, OfSpans, OfLexer, OfPlaces, OfSingles, OfParsers, OfDirectives, OfIndex, OfListing, Demand1}
 use Rattle.demands.proofs.FixedLaws.{gives, both-given, finish-fixed, site-word-fixed, resite-fixed, end-reading-fixed, reader-fixed}
 use Rattle.demands.proofs.TokenCalls.{step-in-fixed, next-token-fixed, tokens-fixed, tokens-row}
 use Rattle.demands.proofs.ActionCalls.{parse-actions-fixed, normalise-fixed, read-actions-fixed, parse-setvar-fixed, parse-actions-row, parse-setvar-row}
 use Rattle.demands.proofs.VariableCalls.{read-targets-fixed, parse-variables-fixed, parse-update-targets-fixed, parse-variables-row, parse-update-targets-row}
 use Rattle.demands.proofs.OperatorCalls.{operator-in-fixed, parse-operator-fixed, operator-argument-fixed}
 use Rattle.demands.proofs.DirectiveCalls.{directives-fixed, directives-row}
+use Rattle.demands.proofs.IndexCalls.{add-fixed, remove-fixed}
 use Rattle.demands.proofs.Library.{of-library}
 use Rattle.demands.proofs.ListingCalls.{write-listing-fixed, write-refusal-fixed, write-refusal-line-fixed, list-text-fixed}
 
@@ -150,6 +154,7 @@ of-names = record {
   requires-argument = record { promises = record { tied = λ M 𝓤 H A mem run. refl; met = λ M 𝓤. RequiresArgument.Met.met 𝓤 }; fixed = λ κs. gives _ };
   xml-target = record { promises = record { tied = λ M 𝓤 H A mem run. refl; met = λ M 𝓤. XmlTarget.Met.met 𝓤 }; fixed = λ κs. gives _ };
   matches = record { promises = record { tied = λ M 𝓤 H A mem run. refl; met = λ M 𝓤. Matches.Met.met 𝓤 }; fixed = λ κs. gives _ };
+  first-number = record { promises = record { tied = λ M 𝓤 H A mem run. refl; met = λ M 𝓤. FirstNumber.Met.met 𝓤 }; fixed = λ κs. gives _ };
   phase = record { promises = record { tied = λ M 𝓤 H A mem run. refl; met = λ M 𝓤. Phase.Met.met 𝓤 }; fixed = λ κs. gives _ };
   grade = record { promises = record { tied = λ M 𝓤 H A mem run. refl; met = λ M 𝓤. Grade.Met.met 𝓤 }; fixed = λ κs. gives _ };
   is-text = record { promises = record { tied = λ M 𝓤 H A mem run. refl; met = λ M 𝓤. IsText.Met.met 𝓤 }; fixed = λ κs. gives _ };
@@ -212,6 +217,12 @@ of-parsers = record {
 of-directives : OfDirectives
 of-directives = record { directives = record { promises = record { tied = λ M 𝓤 H A mem run. refl; met = λ M 𝓤. DirectivesOf.Met.met 𝓤 }; fixed = directives-fixed } }
 
+of-index : OfIndex
+of-index = record {
+  add = record { promises = record { tied = λ M 𝓤 H A mem run. refl; met = λ M 𝓤. Add.Met.met 𝓤 }; fixed = add-fixed };
+  remove = record { promises = record { tied = λ M 𝓤 H A mem run. refl; met = λ M 𝓤. Remove.Met.met 𝓤 }; fixed = remove-fixed };
+}
+
 of-listing : OfListing
 of-listing = record {
   write-listing = record { promises = record { tied = λ M 𝓤 H A mem run. refl; met = λ M 𝓤. WriteListing.Met.met 𝓤 }; fixed = write-listing-fixed };
@@ -233,6 +244,7 @@ demand1 = record {
   of-singles = of-singles;
   of-parsers = of-parsers;
   of-directives = of-directives;
+  of-index = of-index;
   of-listing = of-listing;
   of-library = of-library;
   by-table = record {

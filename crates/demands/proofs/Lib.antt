@@ -4,6 +4,7 @@ pub mod ActionCalls
 pub mod VariableCalls
 pub mod OperatorCalls
 pub mod DirectiveCalls
+pub mod IndexCalls
 pub mod ListingCalls
 pub mod RowLaws
 pub mod AnswerLaws
@@ -21,4 +22,5 @@ pub mod UnderlineCalls
 pub mod Underline
 pub mod StoredSpans
 pub mod StoredReaders
+pub mod StandingRules
 pub mod NoSix

@@ -12,6 +12,7 @@ use Rattle.operators.specs.Promises as Operators
 use Rattle.spans.specs.Conversion.{fromOld, toOld}
 use Rattle.spans.specs.Promises as Spans
 use Rattle.spans.specs.declared.converting.Answer.{Answer as Converted}
+use Rattle.index.specs.Promises as Indexing
 use Rattle.directives.specs.Table as Directing
 use Rattle.directives.specs.Promises as Whole
 use Rattle.listing.specs.Listings.{lineOf}
@@ -19,6 +20,8 @@ use Rattle.listing.specs.Promises as Listing
 use Rattle.seclang.specs.Told.{Told}
 use Rattle.seclang.specs.Readers.{Fills, Lists}
 use Rattle.seclang.proofs.seclang_grade as SeclangGrade
+use Rattle.seclang.proofs.seclang_index_add as SeclangIndexAdd
+use Rattle.seclang.proofs.seclang_index_remove as SeclangIndexRemove
 use Rattle.seclang.proofs.seclang_lookup as SeclangLookup
 use Rattle.seclang.proofs.seclang_matches as SeclangMatches
 use Rattle.seclang.proofs.seclang_phase as SeclangPhase
@@ -40,8 +43,8 @@ use Rattle.seclang.proofs.seclang_span_to_old as SeclangSpanToOld
 use Rattle.seclang.proofs.seclang_tokens as SeclangTokens
 use Rattle.seclang.proofs.seclang_version as SeclangVersion
 use Rattle.demands.specs.Fixed.{Fixed}
-use Rattle.demands.specs.Calls.{Lent, Left, left, Wrote, wrote, Place}
-use Rattle.demands.specs.Library.{With, fills-promise, fills-actions-promise, fills-directives-promise, steps-promise, operator-promise, converts-promise, lists-promise, recordsOutcome, refusalOutcome, lists-text-promise, OfLibrary}
+use Rattle.demands.specs.Calls.{Lent, Left, left, Wrote, wrote, Place, Adding, Removing}
+use Rattle.demands.specs.Library.{With, fills-promise, fills-actions-promise, fills-directives-promise, steps-promise, operator-promise, converts-promise, adds-promise, removes-promise, lists-promise, recordsOutcome, refusalOutcome, lists-text-promise, OfLibrary}
 use Rattle.demands.proofs.FixedLaws.{gives, left-same, wrote-same}
 use Rattle.demands.proofs.DirectiveCalls.{all-left}
 
@@ -127,6 +130,26 @@ converts-fixed to = record {
   once = λ i o p a b. pair (one-answer (a .number) (b .number)) (one-answer (a .values) (b .values));
 }
 
+-- ---- the index
+
+adds-fixed : Fixed (With Adding) (With (Wrote ℕ)) adds-promise
+adds-fixed = record {
+  total = λ i.
+      let g = Indexing.addedGiven (Indexing.addAnswer (i .0 .index) (i .0 .actions) (i .0 .line)) in
+      ((wrote (g .number) _, told g (i .1)), record { told = record { number = refl; values = refl }; left = refl });
+  once = λ i o p a b.
+      pair (wrote-same (o .0) (p .0) (one-answer (a .told .number) (b .told .number), one-answer (a .left) (b .left))) (one-answer (a .told .values) (b .told .values));
+}
+
+removes-fixed : Fixed (With Removing) (With (Wrote ℕ)) removes-promise
+removes-fixed = record {
+  total = λ i.
+      let g = Indexing.removedGiven (Indexing.removeAnswer (i .0 .index) (i .0 .selector)) in
+      ((wrote (g .number) _, told g (i .1)), record { told = record { number = refl; values = refl }; left = refl });
+  once = λ i o p a b.
+      pair (wrote-same (o .0) (p .0) (one-answer (a .told .number) (b .told .number), one-answer (a .left) (b .left))) (one-answer (a .told .values) (b .told .values));
+}
+
 -- ---- the listings
 
 lists-fixed : {In : Type 0} (outcome : In → Listing.Outcome) (buffer : In → List ℕ) → Fixed (With In) (With (Wrote ℕ)) (lists-promise outcome buffer)
@@ -174,6 +197,8 @@ of-library = record {
   matches = record { promises = record { tied = λ M 𝓤 H A mem run. refl; met = λ M 𝓤. SeclangMatches.Met.met 𝓤 }; fixed = λ κs. gives _ };
   span-from-old = record { promises = record { tied = λ M 𝓤 H A mem run. refl; met = λ M 𝓤. SeclangSpanFromOld.Met.met 𝓤 }; fixed = converts-fixed fromOld };
   span-to-old = record { promises = record { tied = λ M 𝓤 H A mem run. refl; met = λ M 𝓤. SeclangSpanToOld.Met.met 𝓤 }; fixed = converts-fixed toOld };
+  index-add = record { promises = record { tied = λ M 𝓤 H A mem run. refl; met = λ M 𝓤. SeclangIndexAdd.Met.met 𝓤 }; fixed = adds-fixed };
+  index-remove = record { promises = record { tied = λ M 𝓤 H A mem run. refl; met = λ M 𝓤. SeclangIndexRemove.Met.met 𝓤 }; fixed = removes-fixed };
   write-listing = record { promises = record { tied = λ M 𝓤 H A mem run. refl; met = λ M 𝓤. SeclangWriteListing.Met.met 𝓤 }; fixed = lists-fixed recordsOutcome (λ i. i .buffer) };
   write-refusal = record { promises = record { tied = λ M 𝓤 H A mem run. refl; met = λ M 𝓤. SeclangWriteRefusal.Met.met 𝓤 }; fixed = lists-fixed refusalOutcome (λ i. i .buffer) };
   list-text = record { promises = record { tied = λ M 𝓤 H A mem run. refl; met = λ M 𝓤. SeclangListText.Met.met 𝓤 }; fixed = lists-text-fixed };

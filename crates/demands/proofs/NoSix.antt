@@ -23,6 +23,11 @@ use Rattle.spans.specs.Conversion.{fromOld, toOld}
 use Rattle.spans.specs.Promises as Spans
 use Rattle.spans.specs.declared.converting.Answer.{Answer as Converted}
 use Rattle.spans.specs.declared.converting.Answer.the-variants as Converted
+use Rattle.index.specs.Promises as Indexing
+use Rattle.index.specs.declared.adding.Added.{Added}
+use Rattle.index.specs.declared.adding.Added.the-variants as Added
+use Rattle.index.specs.declared.removing.Removed.{Removed}
+use Rattle.index.specs.declared.removing.Removed.the-variants as Removed
 use Rattle.demands.specs.Calls.{Lent}
 use Rattle.demands.specs.Library.{recordsOutcome, refusalOutcome}
 use Rattle.demands.specs.NoSix.{OfReaders, OfLibrary, NoSix}
@@ -61,6 +66,17 @@ span-not : (r : Converted) → Spans.answerGiven r .number ≡ 6 → ⊥
 span-not (Converted.Word w) e = omega arith
 span-not Converted.TooFar e = omega arith
 
+added-not : (r : Added) → Indexing.addedGiven r .number ≡ 6 → ⊥
+added-not (Added.Entered count) e = omega arith
+added-not (Added.Passed count) e = omega arith
+added-not (Added.Taken line) e = omega arith
+added-not (Added.Full places) e = omega arith
+added-not Added.Broken e = omega arith
+
+removed-not : (r : Removed) → Indexing.removedGiven r .number ≡ 6 → ⊥
+removed-not (Removed.Done removed count) e = omega arith
+removed-not Removed.Broken e = omega arith
+
 flaw-not : (flaw : Flaw) → flawNumber flaw ≡ 6 → ⊥
 flaw-not Flaw.Absent e = omega arith
 flaw-not Flaw.Unreadable e = omega arith
@@ -88,6 +104,8 @@ of-readers = record {
   write-refusal-line = λ i o x. given-not (x .answer) (listing-not (Listing.fitted (length (i .buffer)) (refusal (i .number) (i .place) ++ (10 ∷ []))));
   span-from-old = λ w. span-not (fromOld w);
   span-to-old = λ w. span-not (toOld w);
+  add = λ i o x. added-not (o .answer);
+  remove = λ i o x. removed-not (o .answer);
   list-text = λ i o x. given-not (x .line .answer) (listing-not (lineOutcome i));
 }
 
@@ -103,6 +121,8 @@ of-library = record {
   directives = λ i o x e. directives-not (Whole.outcomeOn (i .0 .0) (i .0 .1)) (sym (x .told .number) ∙ e);
   span-from-old = λ i o x e. span-not (fromOld (i .0)) (sym (x .number) ∙ e);
   span-to-old = λ i o x e. span-not (toOld (i .0)) (sym (x .number) ∙ e);
+  index-add = λ i o x e. added-not (Indexing.addAnswer (i .0 .index) (i .0 .actions) (i .0 .line)) (sym (x .told .number) ∙ e);
+  index-remove = λ i o x e. removed-not (Indexing.removeAnswer (i .0 .index) (i .0 .selector)) (sym (x .told .number) ∙ e);
   write-listing = λ i o x e. listing-not (recordsOutcome (i .0)) (sym (x .told .number) ∙ e);
   write-refusal = λ i o x e. listing-not (refusalOutcome (i .0)) (sym (x .told .number) ∙ e);
   list-text = λ i o x e. listing-not (lineOutcome (i .0)) (sym (x .lists .told .number) ∙ e);

@@ -10,7 +10,7 @@ use Rattle.ascii.specs.Choice.{pick}
 use Rattle.lent.specs.Sizes.{variableWords, roomFor}
 use Rattle.lent.specs.Gates.{gateOf}
 use Rattle.lent.specs.Sources.{partWord, Sourced}
-use Rattle.lent.specs.Table.{noRoom, Outcome, refuses, reads, Filled, textBy, recordsBy}
+use Rattle.lent.specs.Table.{noRoom, Outcome, pastGate, refuses, reads, Filled, textBy, recordsBy}
 use Rattle.variables.specs.Parts.{pieces}
 use Rattle.variables.specs.Variables.{Variable, Targets, targets, refused, asWritten, lookedUp, readAll}
 use Rattle.lent.specs.Layout.{wordsOf}
@@ -91,6 +91,10 @@ module _ (o : Lent → Outcome Filled) (a : (i : Lent) → AnsweredVariables (o 
   met-row : (i : Lent) (l : Left Answer) → Met i l → Row variableWords (Vars.answerGiven (l .answer)) (i .text) (l .text) (i .records) (l .records)
   met-row i l x = row-of variableWords (o i) (a i .filling) (x .answer) (x .texts) (x .words)
 
+-- what is told past the gate
+past-input : (i : Lent) {x : Outcome Filled} → AnsweredVariables x → AnsweredVariables (pastGate (gateOf (i .input) (length (i .text)) (length (i .input))) x)
+past-input i a = past-gate variableWords Vars.answerGiven gated (gateOf (i .input) (length (i .text)) (length (i .input))) _ a
+
 -- ---- parse_variables
 
 abbrev listOutcome : Lent → Outcome Filled
@@ -98,9 +102,7 @@ listOutcome i = Vars.variablesOutcome (i .input) (length (i .text)) (length (i .
 
 list-answered : (i : Lent) → AnsweredVariables (listOutcome i)
 unfolding Vars.variablesOutcome
-list-answered i =
-    past-gate variableWords Vars.answerGiven gated (gateOf (i .input) (length (i .text)) (length (i .input))) _
-    (hung-told (length (i .records)) (readAll asWritten (pieces (i .input))))
+list-answered i = past-input i (hung-told (length (i .records)) (readAll asWritten (pieces (i .input))))
 
 pub parse-variables-fixed : Fixed Lent (Left Answer) parse-variables-promise
 parse-variables-fixed = met-fixed listOutcome list-answered
@@ -115,9 +117,7 @@ updatesOutcome i = Vars.updateOutcome (i .input) (length (i .text)) (length (i .
 
 updates-answered : (i : Lent) → AnsweredVariables (updatesOutcome i)
 unfolding Vars.updateOutcome
-updates-answered i =
-    past-gate variableWords Vars.answerGiven gated (gateOf (i .input) (length (i .text)) (length (i .input))) _
-    (update-told (length (i .records)) (readAll lookedUp (pieces (i .input))))
+updates-answered i = past-input i (update-told (length (i .records)) (readAll lookedUp (pieces (i .input))))
 
 pub parse-update-targets-fixed : Fixed Lent (Left Answer) parse-update-targets-promise
 parse-update-targets-fixed = met-fixed updatesOutcome updates-answered

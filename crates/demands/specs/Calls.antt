@@ -25,6 +25,10 @@ use Rattle.operators.specs.Promises.{OperatorIn, ParseOperator, OperatorArgumen
 use Rattle.operators.specs.declared.Answer as Operators
 use Rattle.directives.specs.Promises as Whole
 use Rattle.directives.specs.declared.Answer as Directives
+use Rattle.rules.specs.declared.selecting.RuleIdSelector.{RuleIdSelector}
+use Rattle.index.specs.Promises.{Adds, Removes}
+use Rattle.index.specs.declared.adding.Added.{Added}
+use Rattle.index.specs.declared.removing.Removed.{Removed}
 use Rattle.listing.specs.declared.Stop.{Stop}
 use Rattle.listing.specs.Promises.{WriteListing, WriteRefusal, WriteRefusalLine, ListText}
 use Rattle.listing.specs.declared.Answer as Listing
@@ -172,6 +176,25 @@ operator-argument-promise = OperatorArgument
 -- A package, and lent to its reader two byte buffers and three record buffers.
 abbrev pub directives-promise : List ℕ × Whole.Lent → Directives.Answer × Whole.Lent → Type 0
 directives-promise i o = Whole.Directives (i .0) (i .1) (o .1) (o .0)
+
+-- ---- the index
+
+-- add: the index's words, the records of a rule's actions and its directive's line.
+pub record Adding : Type 0 where
+  pub index : List ℕ
+  pub actions : List ℕ
+  pub line : ℕ
+
+abbrev pub add-promise : Adding → Wrote Added → Type 0
+add-promise i o = Adds (i .actions) (i .line) (i .index) (o .buffer) (o .answer)
+
+-- remove: the index's words, and what is removed.
+pub record Removing : Type 0 where
+  pub index : List ℕ
+  pub selector : RuleIdSelector
+
+abbrev pub remove-promise : Removing → Wrote Removed → Type 0
+remove-promise i o = Removes (i .selector) (i .index) (o .buffer) (o .answer)
 
 -- ---- the listings
 

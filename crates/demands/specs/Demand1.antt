@@ -49,11 +49,13 @@ use Rattle.variables.specs.Promises as Variables
 use Rattle.variables.specs.declared.Answer as Targets
 use Rattle.variables.specs.declared.Reached.{Reached}
 use Rattle.operators.specs.declared.Answer as Operator
-use Rattle.rules.specs.Entries.{entries}
+use Rattle.rules.specs.Entries.{entries, firstOf as firstNumberOf}
 use Rattle.rules.specs.Phases.{phaseOf}
 use Rattle.rules.specs.Grades.{grades}
 use Rattle.rules.specs.Selectors.{matched}
 use Rattle.spans.specs.Conversion.{fromOld, toOld}
+use Rattle.index.specs.declared.adding.Added.{Added}
+use Rattle.index.specs.declared.removing.Removed.{Removed}
 use Rattle.listing.specs.declared.Answer as Listing
 use Rattle.ascii.proofs.ends_operator_name as EndsOperatorName
 use Rattle.ascii.proofs.is_digit as IsDigit
@@ -125,17 +127,20 @@ use Rattle.operators.proofs.operator_argument as OperatorArgument
 use Rattle.operators.proofs.operator_in as OperatorIn
 use Rattle.operators.proofs.parse_operator as ParseOperator
 use Rattle.directives.proofs.directives as DirectivesOf
+use Rattle.rules.proofs.first_number as FirstNumber
 use Rattle.rules.proofs.grade as Grade
 use Rattle.rules.proofs.phase as Phase
 use Rattle.rules.proofs.selecting.RuleIdSelector.matches as Matches
 use Rattle.spans.proofs.span_from_old as SpanFromOld
 use Rattle.spans.proofs.span_to_old as SpanToOld
+use Rattle.index.proofs.add as Add
+use Rattle.index.proofs.remove as Remove
 use Rattle.listing.proofs.list_text as ListText
 use Rattle.listing.proofs.write_listing as WriteListing
 use Rattle.listing.proofs.write_refusal as WriteRefusal
 use Rattle.listing.proofs.write_refusal_line as WriteRefusalLine
 use Rattle.demands.specs.Contracts.{Promises, Decides, Answers, Keeps}
-use Rattle.demands.specs.Calls.{Lent, lent, Left, left, Wrote, wrote, Filling, finish-promise, Placing, site-word-promise, Replacing, resite-promise, Place, place, Records, Refusal, step-in-promise, next-token-promise, tokens-promise, Ending, end-reading-promise, parse-actions-promise, normalise-promise, read-actions-promise, parse-setvar-promise, parse-variables-promise, parse-update-targets-promise, From, read-targets-promise, operator-in-promise, parse-operator-promise, operator-argument-promise, directives-promise, write-listing-promise, write-refusal-promise, write-refusal-line-promise, list-text-promise}
+use Rattle.demands.specs.Calls.{Lent, lent, Left, left, Wrote, wrote, Filling, finish-promise, Placing, site-word-promise, Replacing, resite-promise, Place, place, Records, Refusal, step-in-promise, next-token-promise, tokens-promise, Ending, end-reading-promise, parse-actions-promise, normalise-promise, read-actions-promise, parse-setvar-promise, parse-variables-promise, parse-update-targets-promise, From, read-targets-promise, operator-in-promise, parse-operator-promise, operator-argument-promise, directives-promise, Adding, add-promise, Removing, remove-promise, write-listing-promise, write-refusal-promise, write-refusal-line-promise, list-text-promise}
 use Rattle.demands.specs.Rows.{Row}
 use Rattle.demands.specs.DirectiveRows as Directive
 use Rattle.demands.specs.Library.{OfLibrary}
@@ -205,6 +210,7 @@ pub record OfNames : Type 3 where
   pub requires-argument : Answers RequiresArgument.ended (λ M 𝓤. RequiresArgument.spec 𝓤) RequiresArgument.Symbol.routine (λ _ a. requiresArgument (a .0))
   pub xml-target : Answers XmlTarget.ended (λ M 𝓤. XmlTarget.spec 𝓤) XmlTarget.Symbol.routine (λ _ a. xmlTarget (a .0) (now (a .1 .0)))
   pub matches : Answers Matches.ended (λ M 𝓤. Matches.spec 𝓤) Matches.Symbol.routine (λ _ a. matched (a .0) (a .1 .0))
+  pub first-number : Answers FirstNumber.ended (λ M 𝓤. FirstNumber.spec 𝓤) FirstNumber.Symbol.routine (λ _ a. firstNumberOf (a .1 .0) (entries (now (a .0))))
   pub phase : Answers Phase.ended (λ M 𝓤. Phase.spec 𝓤) Phase.Symbol.routine (λ _ a. phaseOf (entries (now (a .0))))
   pub grade : Answers Grade.ended (λ M 𝓤. Grade.spec 𝓤) Grade.Symbol.routine (λ _ a. grades (entries (now (a .0))))
   pub is-text : Answers IsText.ended (λ M 𝓤. IsText.spec 𝓤) IsText.Symbol.routine (λ _ a. getD (marksFor (a .0) (a .1 .0)) (a .1 .1 .0) false)
@@ -304,6 +310,13 @@ pub record OfDirectives : Type 3 where
       (λ _ a. (now (a .0), Whole.lentOf (now (a .1 .0)) (now (a .1 .1 .0)) (now (a .1 .1 .1 .0)) (now (a .1 .1 .1 .1 .0)) (now (a .1 .1 .1 .1 .1 .0))))
       (λ _ r e. (r, Whole.lentOf (now (e .1 .0)) (now (e .1 .1 .0)) (now (e .1 .1 .1 .0)) (now (e .1 .1 .1 .1 .0)) (now (e .1 .1 .1 .1 .1 .0))))
 
+-- The index of ids.
+pub record OfIndex : Type 3 where
+  pub add : Keeps Add.ended (λ M 𝓤. Add.spec 𝓤) Add.Symbol.routine Adding (Wrote Added) add-promise
+      (λ _ a. record { index = now (a .0); actions = now (a .1 .0); line = a .1 .1 .0 }) (λ _ r e. wrote r (now (e .0)))
+  pub remove : Keeps Remove.ended (λ M 𝓤. Remove.spec 𝓤) Remove.Symbol.routine Removing (Wrote Removed) remove-promise
+      (λ _ a. record { index = now (a .0); selector = a .1 .0 }) (λ _ r e. wrote r (now (e .0)))
+
 pub record OfListing : Type 3 where
   pub write-listing : Keeps WriteListing.ended (λ M 𝓤. WriteListing.spec 𝓤) WriteListing.Symbol.routine Records (Wrote Listing.Answer) write-listing-promise
       (λ _ a. record { words = now (a .0); texts = now (a .1 .0); stop = a .1 .1 .0; buffer = now (a .1 .1 .1 .0) }) (λ _ r e. wrote r (now (e .1 .1 .1 .0)))
@@ -344,6 +357,7 @@ pub record Demand1 : Type 3 where
   pub of-singles : OfSingles
   pub of-parsers : OfParsers
   pub of-directives : OfDirectives
+  pub of-index : OfIndex
   pub of-listing : OfListing
   pub of-library : OfLibrary
   pub by-table : ByTable

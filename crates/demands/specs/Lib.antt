@@ -13,4 +13,5 @@ pub mod Demand2
 pub mod WholeDirectives
 pub mod Underline
 pub mod StoredSpans
+pub mod StandingRules
 pub mod NoSix

@@ -22,8 +22,11 @@ use Rattle.listing.specs.Listings.{refusal}
 use Rattle.listing.specs.Promises as Listing
 use Rattle.seclang.specs.Told.{Told}
 use Rattle.seclang.specs.Readers.{Fills, FillsActions, FillsDirectives, Steps, Lists, ListsText, stopOf}
+use Rattle.seclang.specs.Indexing.{AddsTold, RemovesTold}
 use Rattle.seclang.specs.Codes.{codeOf, lookupIn, testOf, targetOf, selectorOf, version}
 use Rattle.seclang.proofs.seclang_grade as SeclangGrade
+use Rattle.seclang.proofs.seclang_index_add as SeclangIndexAdd
+use Rattle.seclang.proofs.seclang_index_remove as SeclangIndexRemove
 use Rattle.seclang.proofs.seclang_lookup as SeclangLookup
 use Rattle.seclang.proofs.seclang_matches as SeclangMatches
 use Rattle.seclang.proofs.seclang_phase as SeclangPhase
@@ -45,7 +48,7 @@ use Rattle.seclang.proofs.seclang_span_to_old as SeclangSpanToOld
 use Rattle.seclang.proofs.seclang_tokens as SeclangTokens
 use Rattle.seclang.proofs.seclang_version as SeclangVersion
 use Rattle.demands.specs.Contracts.{Answers, Keeps}
-use Rattle.demands.specs.Calls.{Lent, lent, Left, left, Wrote, wrote, Place, place, Records, Refusal}
+use Rattle.demands.specs.Calls.{Lent, lent, Left, left, Wrote, wrote, Place, place, Adding, Removing, Records, Refusal}
 
 -- What is lent besides: the words for values. They come second, in and out.
 abbrev pub With : Type 0 → Type 0
@@ -73,6 +76,13 @@ operator-promise i o = Told (Operators.givenBy (i .0) (Operators.operatorOutcome
 -- a stored span word, by what it is in the other form
 abbrev pub converts-promise : (ℕ → Converted) → With ℕ → With ℕ → Type 0
 converts-promise to i o = Told (Spans.answerGiven (to (i .0))) (i .1) (o .1) (o .0)
+
+-- the index, and the words for values
+abbrev pub adds-promise : With Adding → With (Wrote ℕ) → Type 0
+adds-promise i o = AddsTold (i .0 .actions) (i .0 .line) (i .0 .index) (o .0 .buffer) (i .1) (o .1) (o .0 .answer)
+
+abbrev pub removes-promise : With Removing → With (Wrote ℕ) → Type 0
+removes-promise i o = RemovesTold (i .0 .selector) (i .0 .index) (o .0 .buffer) (i .1) (o .1) (o .0 .answer)
 
 -- what is written of a listing, by what it comes to
 abbrev pub lists-promise : {In : Type 0} → (In → Listing.Outcome) → (In → List ℕ) → With In → With (Wrote ℕ) → Type 0
@@ -125,6 +135,12 @@ pub record OfLibrary : Type 3 where
       (λ _ a. (a .0, now (a .1 .0))) (λ _ r e. (r, now (e .1 .0)))
   pub span-to-old : Keeps SeclangSpanToOld.ended (λ M 𝓤. SeclangSpanToOld.spec 𝓤) SeclangSpanToOld.Symbol.routine (With ℕ) (With ℕ) (converts-promise toOld)
       (λ _ a. (a .0, now (a .1 .0))) (λ _ r e. (r, now (e .1 .0)))
+  pub index-add : Keeps SeclangIndexAdd.ended (λ M 𝓤. SeclangIndexAdd.spec 𝓤) SeclangIndexAdd.Symbol.routine (With Adding) (With (Wrote ℕ)) adds-promise
+      (λ _ a. (record { index = now (a .0); actions = now (a .1 .0); line = a .1 .1 .0 }, now (a .1 .1 .1 .0)))
+      (λ _ r e. (wrote r (now (e .0)), now (e .1 .1 .1 .0)))
+  pub index-remove : Keeps SeclangIndexRemove.ended (λ M 𝓤. SeclangIndexRemove.spec 𝓤) SeclangIndexRemove.Symbol.routine (With Removing) (With (Wrote ℕ)) removes-promise
+      (λ _ a. (record { index = now (a .0); selector = selectorOf (a .1 .0) (a .1 .1 .0) (a .1 .1 .1 .0) }, now (a .1 .1 .1 .1 .0)))
+      (λ _ r e. (wrote r (now (e .0)), now (e .1 .1 .1 .1 .0)))
   pub write-listing : Keeps SeclangWriteListing.ended (λ M 𝓤. SeclangWriteListing.spec 𝓤) SeclangWriteListing.Symbol.routine (With Records) (With (Wrote ℕ)) (lists-promise recordsOutcome (λ i. i .buffer))
       (λ _ a. (
         record {

@@ -19,10 +19,13 @@ use Rattle.directives.specs.Promises as Whole
 use Rattle.directives.specs.declared.Answer as Directives
 use Rattle.spans.specs.Conversion.{fromOld, toOld}
 use Rattle.spans.specs.Promises as Spans
+use Rattle.index.specs.Promises as Indexing
+use Rattle.index.specs.declared.adding.Added.{Added}
+use Rattle.index.specs.declared.removing.Removed.{Removed}
 use Rattle.listing.specs.Promises as Listing
 use Rattle.listing.specs.declared.Answer as Listings
-use Rattle.demands.specs.Calls.{Lent, Left, Wrote, Place, Records, Refusal, step-in-promise, next-token-promise, tokens-promise, parse-actions-promise, parse-setvar-promise, parse-variables-promise, parse-update-targets-promise, operator-in-promise, parse-operator-promise, directives-promise, write-listing-promise, write-refusal-promise, write-refusal-line-promise, list-text-promise}
-use Rattle.demands.specs.Library.{With, fills-promise, fills-actions-promise, fills-directives-promise, steps-promise, operator-promise, converts-promise, lists-promise, recordsOutcome, refusalOutcome, lists-text-promise}
+use Rattle.demands.specs.Calls.{Lent, Left, Wrote, Place, Records, Refusal, step-in-promise, next-token-promise, tokens-promise, parse-actions-promise, parse-setvar-promise, parse-variables-promise, parse-update-targets-promise, operator-in-promise, parse-operator-promise, directives-promise, add-promise, remove-promise, write-listing-promise, write-refusal-promise, write-refusal-line-promise, list-text-promise}
+use Rattle.demands.specs.Library.{With, fills-promise, fills-actions-promise, fills-directives-promise, steps-promise, operator-promise, converts-promise, adds-promise, removes-promise, lists-promise, recordsOutcome, refusalOutcome, lists-text-promise}
 
 -- A call that keeps this promise never gives 6: of all that may come out, none has it for a number.
 abbrev pub Never : {In Out : Type 0} → (In → Out → Type 0) → (Out → ℕ) → Type 0
@@ -46,6 +49,8 @@ pub record OfReaders : Type 0 where
   pub write-refusal-line : Never write-refusal-line-promise (λ (o : Wrote Listings.Answer). Listing.answerGiven (o .answer) .number)
   pub span-from-old : (w : ℕ) → Spans.answerGiven (fromOld w) .number ≡ 6 → ⊥
   pub span-to-old : (w : ℕ) → Spans.answerGiven (toOld w) .number ≡ 6 → ⊥
+  pub add : Never add-promise (λ (o : Wrote Added). Indexing.addedGiven (o .answer) .number)
+  pub remove : Never remove-promise (λ (o : Wrote Removed). Indexing.removedGiven (o .answer) .number)
   pub list-text : Never list-text-promise (λ (o : Left Listings.Answer × List ℕ). Listing.answerGiven (o .0 .answer) .number)
 
 -- The C functions: the number is what they return.
@@ -60,6 +65,8 @@ pub record OfLibrary : Type 0 where
   pub directives : Never fills-directives-promise (λ (o : With (ℕ × Whole.Lent)). o .0 .0)
   pub span-from-old : Never (converts-promise fromOld) (λ (o : With ℕ). o .0)
   pub span-to-old : Never (converts-promise toOld) (λ (o : With ℕ). o .0)
+  pub index-add : Never adds-promise (λ (o : With (Wrote ℕ)). o .0 .answer)
+  pub index-remove : Never removes-promise (λ (o : With (Wrote ℕ)). o .0 .answer)
   pub write-listing : Never (lists-promise recordsOutcome (λ i. i .buffer)) (λ (o : With (Wrote ℕ)). o .0 .answer)
   pub write-refusal : Never (lists-promise refusalOutcome (λ i. i .buffer)) (λ (o : With (Wrote ℕ)). o .0 .answer)
   pub list-text : Never lists-text-promise (λ (o : With (Left ℕ × List ℕ)). o .0 .0 .answer)
