@@ -2,6 +2,7 @@
 use crate::acting;
 use crate::converting;
 use crate::hexes;
+use crate::indexing;
 use crate::lexing;
 use crate::matching;
 use crate::operating;
@@ -133,6 +134,8 @@ pub fn answer_bare(letter: u8, body: &[u8]) {
         b'c' => print_flags(hexes::word(body)),
         b'f' => converting::print_from_old(hexes::word(body)),
         b'g' => converting::print_to_old(hexes::word(body)),
+        b'j' => indexing::print_add(body),
+        b'k' => indexing::print_remove(body),
         _ => {
             io::write_all(1, b"?");
         }

@@ -47,6 +47,24 @@ pub fn word(bytes: &[u8]) -> u64 {
     v
 }
 
+// The words of a body, 8 bytes each, the largest first, as many as fit.
+pub fn words_into(body: &[u8], words: &mut [u64]) -> usize
+    ensures { λ r. ⌜ r ≤ length (now (words .exit)) ⌝ }
+{
+    let mut n = 0;
+    let mut at = 0;
+    while n < words.len() {
+        if body.len() - at < 8 {
+            return n;
+        }
+        let past = at + 8;
+        words[n] = word(&body[at..past]);
+        n += 1;
+        at = past;
+    }
+    n
+}
+
 // The first `n` bytes, or all, as one number: each before times 31, and the next.
 pub fn sum_front(s: &[u8], n: usize) -> u64 {
     let mut sum: u64 = 0;

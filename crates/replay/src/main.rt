@@ -5,6 +5,7 @@ mod answers;
 mod converting;
 mod directing;
 mod hexes;
+mod indexing;
 mod lexing;
 mod lines;
 mod listings;

@@ -25,6 +25,9 @@ pub const VARIABLES: usize = PIECES * lent::VARIABLE_WORDS;
 // Words of the records that a phase is asked of.
 pub const PHASED: usize = 64 * lent::ACTION_WORDS;
 
+// Words of an index.
+pub const INDEXED: usize = 64;
+
 // A span word's base.
 pub const SPAN: u64 = 4294967296;
 

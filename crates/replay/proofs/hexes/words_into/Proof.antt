@@ -4,8 +4,8 @@ use mathlib.Core.Path.{_≡_}
 use native.Mathlib.Omega.{arith}
 use lib.ListN.{length, length-set}
 use borrow.Author.Needs.{needs}
-use Rattle.replay.proofs.phasing.words_into.Statement.{statement}
-use Rattle.replay.proofs.phasing.words_into.Tie as tie
+use Rattle.replay.proofs.hexes.words_into.Statement.{statement}
+use Rattle.replay.proofs.hexes.words_into.Tie as tie
 
 abbrev Inv-loop : tie.InvT-loop
 Inv-loop body words₀ n₀ at₀ words n at = (length words ≡ length words₀) × (n ≤ length words) × (at ≤ length body)
