@@ -13,6 +13,7 @@ use std::path::PathBuf;
 use timing::{exact, exact_package, fills};
 pub use timing::{Needs, Room, Row};
 
+pub mod index;
 mod timing;
 
 /// The inputs of each row.
@@ -239,11 +240,13 @@ fn passes(all: &[Row], side: &str, name: &str, times: u64) -> bool {
     true
 }
 
-/// The same of a case: `ours/tokens` or `rust/tokens`, or with inputs of one size `ours/tokens@1048576`.
+/// The same of a case: `ours/tokens` or `rust/tokens`, with inputs of one size `ours/tokens@1048576`, or on an index of so many rules
+/// `ours/index@1000`.
 pub fn again(case: &str, times: u64, folders: &[PathBuf]) -> bool {
     let (side, name) = case.split_once('/').unwrap_or(("", case));
     match name.split_once('@') {
         None => passes(&rows(&Inputs::of(folders), &names()), side, name, times),
+        Some(("index", rules)) => index::again(side, rules, times),
         Some((name, size)) => {
             let sized = sizes::OfSize::of(&sizes::Parts::of(folders), size.parse().expect("a size in bytes"));
             passes(&sized.rows(), side, name, times)

@@ -7,6 +7,7 @@ use crate::readers::{sized, Reader, Shape, ACTION_WORDS, LONG_SHAPES, READERS, S
 use crate::underlined;
 
 mod alone;
+mod index;
 mod listings;
 mod packages;
 mod spans;
@@ -19,6 +20,7 @@ pub struct Checker {
     records: Lent<u64>,
     variables: Lent<u64>,
     actions: Lent<u64>,
+    index: Lent<u64>,
     values: Lent<u64>,
     alone: bool,
     pub shape: usize,
@@ -79,6 +81,7 @@ impl Checker {
             records: words(),
             variables: words(),
             actions: words(),
+            index: words(),
             values: words(),
             alone,
             shape: 0,
@@ -195,20 +198,20 @@ impl Checker {
         }
     }
 
-    /// A rule's phase and grade, out of its records and words left over.
+    /// A rule's phase and grade, and the id that it goes by, out of its records and words left over.
     fn records_of(&mut self, input: &[u8], words: &[u64]) -> Checked {
         self.counts[Reader::Phase as usize] += 1;
         self.counts[Reader::Grade as usize] += 1;
         let lent = [words, &[12, 1, 0][..self.shape % 4]].concat();
-        let phase = readable(input).and_then(original::phase);
-        if Some(ours::phase(&lent)) != phase {
-            return Err(format!("phase {}, the original's {phase:?}", ours::phase(&lent)));
+        let rule = readable(input).and_then(original::rule).expect("a list that is read");
+        let (phase, id) = (u64::from(rule.phase()), rule.id());
+        if ours::phase(&lent) != phase {
+            return Err(format!("phase {}, the original's {phase}", ours::phase(&lent)));
         }
         if ours::grade(&lent) != grade(words) {
-            Err(format!("grade {}", ours::grade(&lent)))
-        } else {
-            Ok(())
+            return Err(format!("grade {}", ours::grade(&lent)));
         }
+        self.entered(&lent, id)
     }
 
     fn operator(&mut self, input: &[u8]) -> Checked {
@@ -300,7 +303,8 @@ impl Checker {
             Reader::ListText | Reader::WriteListing => self.listing(input),
             Reader::Directives => self.packages(input),
             Reader::Test | Reader::Matches | Reader::WriteRefusal => unreachable!("these take no text"),
-            Reader::SpanFromOld | Reader::SpanToOld | Reader::Underlined => unreachable!("these take no text"),
+            Reader::SpanFromOld | Reader::SpanToOld | Reader::IndexAdd | Reader::IndexRemove => unreachable!("these take no text"),
+            Reader::Underlined => unreachable!("this is no reader"),
         }
     }
 

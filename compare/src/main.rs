@@ -8,6 +8,7 @@ mod check;
 mod directives;
 mod edges;
 mod flaws;
+mod index;
 mod lent;
 mod long;
 mod original;
@@ -28,6 +29,7 @@ const USAGE: &str = "\
 compare [--quick] [--seed N] [--random N] [--real FOLDER].. [--alone]    compare; --quick takes under two minutes
 compare bench [--real FOLDER]..                                          bytes and calls a second, ours and the original's
 compare sizes [--real FOLDER]..                                          what a byte costs at 16 KB to 1 MiB, ours and the original's
+compare index                                                            what a call on the id index costs, ours and in plain Rust
 compare again CASE TIMES                                                 one of these for callgrind; CASE: rust/tokens, ours/tokens@16384
 compare stored FOLDER                                                    writes the stored questions on whole directives, and the answers";
 
@@ -61,6 +63,7 @@ fn main() {
         [] => run::all(&wanted),
         ["bench"] => bench::table(&wanted.real),
         ["sizes"] => sizes::table(&wanted.real),
+        ["index"] => bench::index::table(),
         ["stored", folder] => stored(folder),
         ["again", case, times] => bench::again(case, times.parse().expect("a number"), &wanted.real),
         _ => {

@@ -157,11 +157,11 @@ pub fn setvar(text: &str) -> Outcome {
     out
 }
 
-/// A rule's phase, where its actions are read.
-pub fn phase(text: &str) -> Option<u64> {
+/// A rule, where its actions are read.
+pub fn rule(text: &str) -> Option<SecRule> {
     let operator = OperatorSpec { negated: false, name: OperatorName::Rx, argument: String::new() };
     let actions = parse_actions(text).ok()?;
-    Some(u64::from(SecRule { variables: Vec::new(), operator, actions, location: SourceLocation::default() }.phase()))
+    Some(SecRule { variables: Vec::new(), operator, actions, location: SourceLocation::default() })
 }
 
 pub fn matches(ranged: bool, start: u64, end: u64, id: u64) -> bool {

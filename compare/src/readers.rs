@@ -22,11 +22,13 @@ pub enum Reader {
     Directives,
     SpanFromOld,
     SpanToOld,
+    IndexAdd,
+    IndexRemove,
     /// No reader: a part that `Directives` underlines, read alone.
     Underlined,
 }
 
-pub const READERS: [Reader; 21] = [
+pub const READERS: [Reader; 23] = [
     Reader::NextToken,
     Reader::Tokens,
     Reader::PlainTokens,
@@ -47,6 +49,8 @@ pub const READERS: [Reader; 21] = [
     Reader::Directives,
     Reader::SpanFromOld,
     Reader::SpanToOld,
+    Reader::IndexAdd,
+    Reader::IndexRemove,
     Reader::Underlined,
 ];
 

@@ -14,6 +14,7 @@ use std::collections::BTreeMap;
 use std::path::PathBuf;
 use std::time::Instant;
 
+mod index;
 mod long;
 mod random;
 mod small;
@@ -201,7 +202,8 @@ fn turns(reader: Reader, shapes: usize) -> usize {
     }
 }
 
-/// Each part in order, until one finds a difference; long texts have random numbers of their own, so that they move no others.
+/// Each part in order, until one finds a difference; long texts and the index have random numbers of their own, so that they move no
+/// others.
 fn parts(run: &mut Run, wanted: &Wanted, real: &Real) {
     let [mut random, mut long] = [0, 1].map(|more| Random(wanted.seed.wrapping_add(more)));
     let turns = wanted.random.unwrap_or(if wanted.quick { 600_000 } else { 10_000_000 });
@@ -211,10 +213,11 @@ fn parts(run: &mut Run, wanted: &Wanted, real: &Real) {
         (false, false) => Extent::Full,
     };
     type Part<'a> = &'a dyn Fn(&mut Run, &mut Random, &mut Random);
-    let parts: [Part; 11] = [
+    let parts: [Part; 12] = [
         &|run, random, _| run.numbers(random, turns / 10),
         &|run, _, _| run.records(),
         &|run, _, long| run.conversions(long, turns / 5),
+        &|run, _, _| run.index(&mut Random(wanted.seed.wrapping_add(2)), turns / 2, extent, real),
         &|run, _, _| run.edges(),
         &|run, _, _| run.real(real),
         &|run, _, _| run.names(),

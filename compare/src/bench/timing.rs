@@ -5,7 +5,7 @@ use crate::{directives, ours};
 use std::hint::black_box;
 
 /// Rounds of each side in turn; the median of each is shown.
-const ROUNDS: usize = 11;
+pub const ROUNDS: usize = 11;
 
 /// How long a round is, in nanoseconds.
 const ROUND: f64 = 1e8;
@@ -54,11 +54,17 @@ extern "C" {
 const OF_THIS_THREAD: i32 = 3;
 
 /// Nanoseconds that this thread ran, which other programs on the machine do not add to.
-fn ran() -> f64 {
+pub fn ran() -> f64 {
     let mut time = [0; 2];
     let done = unsafe { clock_gettime(OF_THIS_THREAD, &mut time) };
     assert_eq!(done, 0, "no clock of this thread");
     time[0] as f64 * 1e9 + time[1] as f64
+}
+
+/// The median of some times.
+pub fn middle(times: &mut [f64]) -> f64 {
+    times.sort_by(f64::total_cmp);
+    times[times.len() / 2]
 }
 
 pub struct Row<'a> {
@@ -123,10 +129,7 @@ impl Row<'_> {
                 of.push(self.timed(sides[side], passes[side], room));
             }
         }
-        let mut middle = times.into_iter().map(|mut of| {
-            of.sort_by(f64::total_cmp);
-            of[of.len() / 2]
-        });
-        (middle.next().expect("ours"), middle.next())
+        let mut middles = times.iter_mut().map(|of| middle(of));
+        (middles.next().expect("ours"), middles.next())
     }
 }
