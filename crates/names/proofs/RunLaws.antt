@@ -1,86 +1,103 @@
--- What a loop over the parts of a run comes to, and what is found there.
-use mathlib.Core.Path.{_≡_, _∙_, refl, sym, ap}
-use mathlib.Core.Bool.{Bool, true, false}
+-- What a loop over names of one length comes to: what is left of them decides.
+use mathlib.Core.Path.{_≡_, refl, ap}
+use mathlib.Core.Bool.{true, false}
 use mathlib.Core.List.{List, [], _∷_}
-use Prim.Native.Nat.{ℕ, _+_, _<_, _≤_}
+use Prim.Native.Nat.{ℕ, zero, suc, _+_, _<_, _≤_}
+use native.Mathlib.Nat.{le-of-suc-le-suc, not-suc-le-zero}
+use native.Mathlib.Numerals.{add-one}
 use native.Mathlib.Omega.{arith}
-use borrow.Author.Needs.{needs}
-use lib.ListN.{length, take, drop, getD, length-drop, drop-of-length-le}
-use lib.Seq.{drop-drop, take-all}
+use lib.ListN.{length, take, drop, getD, length-map, drop-of-length-le}
+use lib.Seq.{drop-cons}
+use lib.Dec.{leb, ltb}
+use borrow.Author.Tests.{leb-true, ltb-true}
 use Rattle.ascii.specs.Choice.{pick}
-use Rattle.ascii.specs.Text.{bytes}
-use Rattle.ascii.specs.Fold.{lower, upper, same}
-use Rattle.ascii.proofs.ListLaws.{next-byte}
-use Rattle.ascii.proofs.SameLaws.{same-false}
-use Rattle.names.specs.Tables.{find, answered}
-use Rattle.names.specs.Variables.{variables, variableCode}
-use Rattle.names.specs.Operators.{operators, operatorCode}
+use Rattle.ascii.specs.Fold.{same}
+use Rattle.ascii.proofs.TestLaws.{both, apart}
+use Rattle.names.specs.Tables.{Row, row, find, nameAt, codeAt}
+use Rattle.names.specs.Runs.{parts, partsFit, fronts, frontsFit}
 use Rattle.names.specs.declared.Lookup.{Lookup}
 use Rattle.names.specs.declared.Lookup.the-variants.{Code, Unknown}
-use Rattle.names.proofs.TableLaws.{carried}
-use Rattle.names.specs.Runs.{cut, InRun, Hinted}
+use Rattle.names.proofs.TableLaws.{getD-map}
 
--- what the parts from a place of the run on give
-abbrev pub left : ℕ → List ℕ → List ℕ → List ℕ → ℕ → ℕ → Lookup
-left n run codes name at k = find (cut n (drop at run) (drop k codes)) name
+-- what the names from the k-th on give
+abbrev pub left : List Row → List ℕ → ℕ → Lookup
+left table name k = find (drop k table) name
 
-module _ (n : ℕ) (run codes name : List ℕ) (at k : ℕ) (h : k < length codes) where
-  step : left n run codes name at k ≡ pick (same (take n (drop at run)) name) (Code (getD codes k 0)) (left n run codes name (at + n) (k + 1))
-  unfolding cut find
-  step = rw (next-byte codes k h, drop-drop n at run)
+module _ (table : List Row) (name : List ℕ) (k : ℕ) where
+  step : k < length table → left table name k ≡ pick (same (nameAt table k) name) (Code (codeAt table k)) (left table name (k + 1))
+  unfolding find
+  step h = rw (drop-cons table k (row "" 0) h, add-one k)
 
-  pub found : same (take n (drop at run)) name ≡ true → Code (getD codes k 0) ≡ left n run codes name at k
-  found e = rw (step, e)
+  pub found : k < length table → same (nameAt table k) name ≡ true → Code (codeAt table k) ≡ left table name k
+  found h e = rw (step h, e)
 
-  pub passed : same (take n (drop at run)) name ≡ false → left n run codes name (at + n) (k + 1) ≡ left n run codes name at k
-  passed e = rw (step, e)
+  pub passed : k < length table → same (nameAt table k) name ≡ false → left table name (k + 1) ≡ left table name k
+  passed h e = rw (step h, e)
 
-pub none-left : (n : ℕ) (run codes name : List ℕ) (at k : ℕ) → length codes ≤ k → left n run codes name at k ≡ Unknown
-unfolding cut find
-none-left n run codes name at k h = rw (drop-of-length-le codes h)
+  pub none-left : length table ≤ k → Unknown ≡ left table name k
+  unfolding find
+  none-left h = rw (drop-of-length-le table h)
 
--- a run that is shorter than a name has no part that is the name
-pub too-short : (n : ℕ) (run codes name : List ℕ) → length run < n → length name ≡ n → find (cut n run codes) name ≡ Unknown
-unfolding cut find
-too-short n run [] name h e = refl
-too-short n run (c ∷ codes) name h e =
-    rw (same-false (take n run) name other)
-    (too-short n (drop n run) codes name (omega (arith, length-drop n run)) e)
-  where
-    other : take n run ≡ name → ⊥
-    other p = omega (arith, ap length (sym (take-all n run (omega arith)) ∙ p))
+-- ---- parts of a run
 
--- ---- what is found is the answer
+-- what the test says of the k-th part
+pub record Part (n : ℕ) (run places codes : List ℕ) (k : ℕ) : Type 0 where
+  pub listed : k < length (parts n run places codes)
+  pub placed : k < length places
+  pub fits : getD places k 0 + n ≤ length run
+  pub named : nameAt (parts n run places codes) k ≡ take n (drop (getD places k 0) run)
+  pub coded : codeAt (parts n run places codes) k ≡ getD codes k 0
 
-pub hint : (answer : List ℕ → Lookup) (n : ℕ) {run codes name : List ℕ} {r : Lookup} → InRun run codes name r
-    → length name ≡ n
-    → answered answer (cut n run codes) ≡ true
-    → Hinted (answer name) r
-hint answer n {run} {codes} {name} {r} x e t = go r (x .first)
-  where
-    go : (q : Lookup) → q ≡ find (cut (length name) run codes) name → Hinted (answer name) q
-    go (Code c) p = carried answer (cut n run codes) t name c (sym (rw e at p))
-    go Unknown p = tt
+pub part-at : (n : ℕ) (run places codes : List ℕ) → partsFit n (length run) places codes ≡ true → (k : ℕ) → k < length codes → Part n run places codes k
+unfolding parts partsFit
+part-at n run [] [] t k h = absurd (not-suc-le-zero h)
+part-at n run [] (c ∷ codes) t k h = absurd (apart t refl)
+part-at n run (p ∷ places) [] t k h = absurd (not-suc-le-zero h)
+part-at n run (p ∷ places) (c ∷ codes) t zero h = record {
+  listed = omega arith;
+  placed = omega arith;
+  fits = leb-true _ _ (both (leb (p + n) (length run)) (partsFit n (length run) places codes) t .0);
+  named = refl;
+  coded = refl;
+}
+part-at n run (p ∷ places) (c ∷ codes) t (suc k) h =
+    let q = part-at n run places codes (both (leb (p + n) (length run)) (partsFit n (length run) places codes) t .1) k (le-of-suc-le-suc h) in
+    record { listed = omega (arith, q .listed); placed = omega (arith, q .placed); fits = q .fits; named = q .named; coded = q .coded }
 
-pub hint-is : {answer r : Lookup} {c : ℕ} → Hinted answer r → r ≡ Code c → Code c ≡ answer
-hint-is h e = sym (rw e at h)
+pub parts-end : (n : ℕ) (run places codes : List ℕ) (k : ℕ) → length codes ≤ k → length (parts n run places codes) ≤ k
+unfolding parts
+parts-end n run [] codes k h = omega arith
+parts-end n run (p ∷ places) [] k h = omega arith
+parts-end n run (p ∷ places) (c ∷ codes) zero h = absurd (not-suc-le-zero h)
+parts-end n run (p ∷ places) (c ∷ codes) (suc k) h = omega (arith, parts-end n run places codes k (le-of-suc-le-suc h))
 
-pub ruleset hints = (hint-is, needs)
+pub parts-width : (n long : ℕ) (places codes : List ℕ) → partsFit n long places codes ≡ true → (0 < n) × (n ≤ 32)
+unfolding partsFit
+parts-width n long [] [] t = let b = both (leb 1 n) (leb n 32) t in (leb-true 1 n (b .0), leb-true n 32 (b .1))
+parts-width n long [] (c ∷ codes) t = absurd (apart t refl)
+parts-width n long (p ∷ places) [] t = absurd (apart t refl)
+parts-width n long (p ∷ places) (c ∷ codes) t = parts-width n long places codes (both (leb (p + n) long) (partsFit n long places codes) t .1)
 
--- ---- the two tables: one computed test says that each name of a run has its code
+-- ---- fronts of rows
 
-unfoldable pub variable-run : ℕ → List ℕ → List ℕ → Bool
-unfolding answered cut variableCode find variables same bytes upper
-variable-run n run codes = answered variableCode (cut n run codes)
+pub row-fits : (n count : ℕ) (listed : List ℕ) → frontsFit n count listed ≡ true → (k : ℕ) → k < length listed → getD listed k 0 < count
+unfolding frontsFit
+row-fits n count [] t k h = absurd (not-suc-le-zero h)
+row-fits n count (r ∷ listed) t zero h = ltb-true r count (both (ltb r count) (frontsFit n count listed) t .0)
+row-fits n count (r ∷ listed) t (suc k) h = row-fits n count listed (both (ltb r count) (frontsFit n count listed) t .1) k (le-of-suc-le-suc h)
 
-pub of-variables : {run codes name : List ℕ} {r : Lookup} (n : ℕ) → InRun run codes name r → length name ≡ n → variable-run n run codes ≡ true → Hinted (variableCode name) r
-unfolding variable-run
-of-variables n x e t = hint variableCode n x e t
+pub fronts-width : (n count : ℕ) (listed : List ℕ) → frontsFit n count listed ≡ true → (0 < n) × (n ≤ 20)
+unfolding frontsFit
+fronts-width n count [] t = let b = both (leb 1 n) (leb n 20) t in (leb-true 1 n (b .0), leb-true n 20 (b .1))
+fronts-width n count (r ∷ listed) t = fronts-width n count listed (both (ltb r count) (frontsFit n count listed) t .1)
 
-unfoldable pub operator-run : ℕ → List ℕ → List ℕ → Bool
-unfolding answered cut operatorCode find operators same bytes lower
-operator-run n run codes = answered operatorCode (cut n run codes)
+module _ (n : ℕ) (rows : List (List ℕ)) (listed : List ℕ) where
+  pub fronts-length : length (fronts n rows listed) ≡ length listed
+  unfolding fronts
+  fronts-length = length-map listed (λ (k : ℕ). record { name = take n (getD rows k []); code = k })
 
-pub of-operators : {run codes name : List ℕ} {r : Lookup} (n : ℕ) → InRun run codes name r → length name ≡ n → operator-run n run codes ≡ true → Hinted (operatorCode name) r
-unfolding operator-run
-of-operators n x e t = hint operatorCode n x e t
+  pub front-at : (k : ℕ) → k < length listed → (nameAt (fronts n rows listed) k ≡ take n (getD rows (getD listed k 0) [])) × (codeAt (fronts n rows listed) k ≡ getD listed k 0)
+  unfolding fronts
+  front-at k h =
+      let e = getD-map (λ (r : ℕ). record { name = take n (getD rows r []); code = r }) listed k 0 (row "" 0) h in
+      (ap (λ (r : Row). r .name) e, ap (λ (r : Row). r .code) e)

@@ -1,32 +1,19 @@
--- What is found in a table: by the place of a row, and alike in two tables that hold the same rows.
+-- What is found in a table: nothing for a name that no row has, and alike in two tables that hold the same rows.
 use mathlib.Core.Path.{_≡_, _∙_, refl, sym, ap}
 use mathlib.Core.Bool.{Bool, true, false}
 use mathlib.Core.List.{List, [], _∷_, map}
-use Prim.Native.Nat.{ℕ, zero, suc, _+_, _<_, zero-le, suc-le-suc}
-use native.Mathlib.Nat.{not-suc-le-zero, le-of-suc-le-suc, lt-irrefl, lt-of-le-of-lt, add-zero, suc-add, add-suc}
+use Prim.Native.Nat.{ℕ, zero, suc, _<_, zero-le, suc-le-suc}
+use native.Mathlib.Nat.{not-suc-le-zero, le-of-suc-le-suc}
 use lib.ListN.{length, getD}
-use lib.Dec.{leb}
-use borrow.Author.Tests.{eqb-true, leb-true}
+use borrow.Author.Tests.{eqb-true}
 use Rattle.ascii.specs.Choice.{pick}
 use Rattle.ascii.specs.Fold.{same}
 use Rattle.names.specs.declared.Lookup.{Lookup}
 use Rattle.names.specs.declared.Lookup.the-variants.{Code, Unknown}
-use Rattle.names.specs.Tables.{Row, row, find, gave, answered, nameAt, codeAt}
-use Rattle.ascii.proofs.SameLaws.{never, and-left, and-right, same-refl, same-true, same-false}
-use Rattle.names.proofs.Tests.{every, at}
+use Rattle.names.specs.Tables.{Row, row, find, gave, answered, nameAt}
+use Rattle.ascii.proofs.SameLaws.{never, and-left, and-right, same-true, same-false}
 
--- the first row of a name decides
-pub find-at : (rows : List Row) (name : List ℕ) (r : ℕ) → r < length rows
-    → ((k : ℕ) → k < r → nameAt rows k ≡ name → ⊥)
-    → nameAt rows r ≡ name
-    → find rows name ≡ Code (codeAt rows r)
-unfolding find
-find-at [] name r h n e = absurd (not-suc-le-zero h)
-find-at (t ∷ rows) name zero h n e = rw (e, same-refl name)
-find-at (t ∷ rows) name (suc r) h n e =
-    rw (same-false (t .name) name (n 0 (suc-le-suc zero-le)))
-    (find-at rows name r (le-of-suc-le-suc h) (λ k l. n (suc k) (suc-le-suc l)) e)
-
+-- a name that no row has is not found
 pub find-none : (rows : List Row) (name : List ℕ) → ((k : ℕ) → k < length rows → nameAt rows k ≡ name → ⊥) → find rows name ≡ Unknown
 unfolding find
 find-none [] name n = refl
@@ -65,32 +52,10 @@ agree a b f g name = go (find a name) (find b name) refl refl
     go Unknown (Code c) p q = carried (find a) b g name c q ∙ sym q
     go Unknown Unknown p q = p ∙ sym q
 
--- a name longer than all of the table's is not in it
-pub too-long : (rows : List Row) (top : ℕ)
-    → every (λ k. leb (length (nameAt rows k)) top) (length rows) ≡ true
-    → (name : List ℕ) → top < length name → find rows name ≡ Unknown
-too-long rows top t name h = find-none rows name other
-  where
-    other : (k : ℕ) → k < length rows → nameAt rows k ≡ name → ⊥
-    other k l e =
-        let f = leb-true (length (nameAt rows k)) top (at (λ k. leb (length (nameAt rows k)) top) (length rows) t k l) in
-        lt-irrefl (length name) (lt-of-le-of-lt (rw e at f) h)
-
 -- a table written out from a rule for each place
 unfoldable pub tabulate : (ℕ → Row) → ℕ → ℕ → List Row
 tabulate f k zero = []
 tabulate f k (suc n) = f k ∷ tabulate f (suc k) n
-
-pub tabulate-length : (f : ℕ → Row) (k n : ℕ) → length (tabulate f k n) ≡ n
-unfolding tabulate
-tabulate-length f k zero = refl
-tabulate-length f k (suc n) = ap suc (tabulate-length f (suc k) n)
-
-pub tabulate-at : (f : ℕ → Row) (k n i : ℕ) → i < n → getD (tabulate f k n) i (row "" 0) ≡ f (k + i)
-unfolding tabulate
-tabulate-at f k zero i h = absurd (not-suc-le-zero h)
-tabulate-at f k (suc n) zero h = ap f (sym (add-zero k))
-tabulate-at f k (suc n) (suc i) h = tabulate-at f (suc k) n i (le-of-suc-le-suc h) ∙ ap f (suc-add k i ∙ sym (add-suc k i))
 
 pub getD-map : {A B : Type 0} (f : A → B) (xs : List A) (k : ℕ) (d : A) (e : B) → k < length xs → getD (map f xs) k e ≡ f (getD xs k d)
 getD-map f [] k d e h = absurd (not-suc-le-zero h)

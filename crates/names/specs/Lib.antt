@@ -5,4 +5,5 @@ pub mod Variables
 pub mod Run
 pub mod Operators
 pub mod Severities
+pub mod Words
 pub mod Runs

@@ -1,26 +1,27 @@
-// A name folded to one letter case, in a buffer.
-use ascii::to_lower;
-use ascii::to_upper;
+// Letters folded in a word of up to eight bytes, all at once.
 ghost use mathlib.Core.Path.{_≡_};
-ghost use mathlib.Core.List.{map};
 ghost use Prim.Native.Nat.{_≤_};
-ghost use lib.ListN.{length, take};
-ghost use Rattle.names.specs.Tables.{casing};
+ghost use Rattle.names.specs.Words.{turned, Folds};
 
-fn cased(b: u8, capitals: bool) -> u8
-    ensures { λ r. ⌜ r ≡ casing capitals b ⌝ }
+// Bytes from one on, up to another, with the bit changed that capital and small letters differ in. `from` brings the first of
+// them to 128, in each byte of a word, and `past` the first behind them; no sum goes past its byte.
+fn turn(word: u64, from: u64, past: u64) -> u64
+    requires { ⌜ (from ≤ 9259542123273814144) × (past ≤ 9259542123273814144) ⌝ }
+    ensures { λ r. ⌜ r ≡ turned word from past ⌝ }
 {
-    if capitals { to_upper(b) } else { to_lower(b) }
+    let low = word & 9187201950435737471;
+    let among = (low + from) ^ (low + past);
+    let letters = among & (word ^ 9259542123273814144) & 9259542123273814144;
+    word ^ (letters >> 2)
 }
 
-// Writes `name` to the front of `out`, all its letters capitals or all small.
-pub fn fold(name: &[u8], capitals: bool, out: &mut [u8])
-    requires { ⌜ length (now name) ≤ length (now out) ⌝ }
-    ensures { λ r. ⌜ take (length (now (name .entry))) (now (out .exit)) ≡ map (casing capitals) (now (name .entry)) ⌝ }
+// All letters capitals, or all small.
+pub fn fold(word: u64, capitals: bool) -> u64
+    ensures { λ r. ⌜ Folds capitals word r ⌝ }
 {
-    let mut i = 0;
-    while i < name.len() {
-        out[i] = cased(name[i], capitals);
-        i += 1;
+    if capitals {
+        turn(word, 2242545357980376863, 361700864190383365)
+    } else {
+        turn(word, 4557430888798830399, 2676586395008836901)
     }
 }

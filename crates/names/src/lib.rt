@@ -1,16 +1,15 @@
 // Names and their codes (document 01, module 2): variables, operators and severity words looked up, and tests on a code.
-mod comparing;
 mod folding;
-mod halving;
 mod matching;
 mod operator_names;
-mod operator_runs;
+mod operator_rows;
 mod packing;
 mod severities;
-mod shelving;
+mod spelling;
 mod variable_names;
 mod variable_runs;
 mod widening;
+mod wording;
 
 pub use operator_names::operator_code;
 pub use operator_names::requires_argument;

@@ -1,9 +1,9 @@
 // The severity words (action.rs) with their numbers, rows as an operator's.
 use crate::Lookup;
-use crate::shelving::lowered_shelf_of;
-use crate::widening::wide;
+use crate::matching::row_among;
 ghost use mathlib.Core.Path.{_≡_};
-ghost use Rattle.names.specs.Severities.{severityCode};
+ghost use Rattle.names.specs.Shelves.{rowsOf};
+ghost use Rattle.names.specs.Severities.{severities, severityCode};
 
 const WORDS: [[u8; 20]; 8] = [
     *b"emergency\0\0\0\0\0\0\0\0\0\0\0",
@@ -16,21 +16,24 @@ const WORDS: [[u8; 20]; 8] = [
     *b"debug\0\0\0\0\0\0\0\0\0\0\0\0\0\0\0",
 ];
 
-const LENGTHS: [u8; 8] = [9, 5, 8, 5, 7, 6, 4, 5];
+// A row's number is the word's.
+fn by_length(rows: &[[u8; 20]], word: &[u8]) -> Lookup
+    requires { ⌜ now rows ≡ rowsOf severities ⌝ }
+    ensures { λ r. ⌜ r ≡ severityCode (now (word .entry)) ⌝ }
+{
+    match word.len() {
+        4 => row_among(rows, word, 4, &[6]), // info
+        5 => row_among(rows, word, 5, &[1, 3, 7]), // alert, error, debug
+        6 => row_among(rows, word, 6, &[5]), // notice
+        7 => row_among(rows, word, 7, &[4]), // warning
+        8 => row_among(rows, word, 8, &[2]), // critical
+        9 => row_among(rows, word, 9, &[0]), // emergency
+        _ => Lookup::Unknown,
+    }
+}
 
-const NUMBERS: [u8; 8] = [0, 1, 2, 3, 4, 5, 6, 7];
-
-// A word longer than a row is turned away at once.
 pub fn severity_code(word: &[u8]) -> Lookup
     ensures { λ r. ⌜ r ≡ severityCode (now (word .entry)) ⌝ }
 {
-    if 20 < word.len() {
-        return Lookup::Unknown;
-    }
-    let place = lowered_shelf_of(&WORDS, &LENGTHS, word);
-    if place < 8 {
-        Lookup::Code(wide(NUMBERS[place]))
-    } else {
-        Lookup::Unknown
-    }
+    by_length(&WORDS, word)
 }

@@ -1,13 +1,10 @@
-// The variable names (variable.rs): one run of bytes, strictly ascending by name, searched by halves.
+// The variable names (variable.rs): one run of bytes, strictly ascending by name.
 use crate::Lookup;
-use crate::folding::fold;
-use crate::halving::place_of;
-use crate::packing::CODES;
 use crate::packing::NAMES;
-use crate::packing::STARTS;
-use crate::variable_runs::commonest;
-use crate::variable_runs::variable_code_hint;
-use crate::widening::wide;
+use crate::variable_runs::of_eighteen_and_more;
+use crate::variable_runs::of_nine_to_twelve;
+use crate::variable_runs::of_thirteen_to_seventeen;
+use crate::variable_runs::up_to_eight;
 ghost use mathlib.Core.Path.{_≡_};
 ghost use Rattle.names.specs.Variables.{variableCode, isCollection, isImplemented};
 
@@ -18,45 +15,22 @@ const COLLECTIONS: [u8; 92] =
 const IMPLEMENTED: [u8; 92] =
     *b"11111111111111111111110101101100111100000001111000000000100010000000000000000011000000111110";
 
-// The search by halves, for a name in any letters. A name longer than the longest, 27 bytes, is turned away before the buffer.
-fn by_halves(name: &[u8]) -> Lookup
-    ensures { λ r. ⌜ r ≡ variableCode (now (name .entry)) ⌝ }
-{
-    let n = name.len();
-    if 27 < n {
-        return Lookup::Unknown;
-    }
-    let mut folded = [0u8; 64];
-    fold(name, true, &mut folded);
-    let place = place_of(&NAMES, &STARTS, &folded[..n]);
-    if place < 76 {
-        Lookup::Code(wide(CODES[place]))
-    } else {
-        Lookup::Unknown
-    }
-}
-
-// A name in other letters than capitals, or of no variable, is left to the search by halves; one longer than all, at once.
-fn by_length(name: &[u8]) -> Lookup
-    ensures { λ r. ⌜ r ≡ variableCode (now (name .entry)) ⌝ }
-{
-    if 27 < name.len() {
-        return by_halves(name);
-    }
-    match variable_code_hint(name) {
-        Lookup::Code(code) => Lookup::Code(code),
-        Lookup::Unknown => by_halves(name),
-    }
-}
-
-// The few names that rules have most often are asked for first.
+// The names of the length are compared with the name where they stand in the run.
 pub fn variable_code(name: &[u8]) -> Lookup
     ensures { λ r. ⌜ r ≡ variableCode (now (name .entry)) ⌝ }
 {
-    match commonest(name) {
-        Lookup::Code(code) => Lookup::Code(code),
-        Lookup::Unknown => by_length(name),
+    let n = name.len();
+    let run = &NAMES;
+    if n <= 8 {
+        return up_to_eight(run, name);
     }
+    if n <= 12 {
+        return of_nine_to_twelve(run, name);
+    }
+    if n <= 17 {
+        return of_thirteen_to_seventeen(run, name);
+    }
+    of_eighteen_and_more(run, name)
 }
 
 pub fn is_collection(code: u64) -> bool

@@ -1,136 +1,132 @@
-// Variable names by their length, compared as rules write them, in capitals.
+// Variable names by their length: where each stands in the run, in the run's order, and its code.
 ghost use mathlib.Core.Path.{_≡_};
+ghost use Prim.Native.Nat.{_<_, _≤_};
+ghost use lib.ListN.{length};
+ghost use Rattle.names.specs.Run.{run as variableRun};
 ghost use Rattle.names.specs.Variables.{variableCode};
-ghost use Rattle.names.specs.Runs.{Hinted};
 use crate::Lookup;
-use crate::matching::code_in;
+use crate::matching::among;
 
-// Two letters to eleven.
-fn of_two_to_eleven(name: &[u8]) -> Lookup
-    ensures { λ r. ⌜ Hinted (variableCode (now (name .entry))) r ⌝ }
+// Up to eight letters.
+pub fn up_to_eight(run: &[u8], name: &[u8]) -> Lookup
+    requires run { ⌜ now run ≡ variableRun ⌝ }
+    requires long { ⌜ length (now name) ≤ 8 ⌝ }
+    ensures { λ r. ⌜ r ≡ variableCode (now (name .entry)) ⌝ }
 {
     match name.len() {
-        2 => code_in(name, b"TXIP", &[35, 38]),
-        3 => code_in(name, b"XMLENVGEO", &[79, 37, 42]),
-        4 => code_in(name, b"ARGSUSERTIME", &[0, 41, 47]),
-        5 => code_in(name, b"FILES", &[56]),
-        6 => code_in(name, b"GLOBAL", &[39]),
-        7 => code_in(name, b"SESSION", &[36]),
-        8 => code_in(
+        // IP, TX
+        2 => among(run, name, 2, &[214, 932], &[38, 35]),
+        // ENV, GEO, XML
+        3 => among(run, name, 3, &[95, 189, 947], &[37, 42, 79]),
+        // ARGS, TIME, USER
+        4 => among(run, name, 4, &[0, 859, 943], &[0, 47, 41]),
+        // FILES
+        5 => among(run, name, 5, &[98], &[56]),
+        // GLOBAL
+        6 => among(run, name, 6, &[192], &[39]),
+        // SESSION
+        7 => among(run, name, 7, &[841], &[36]),
+        // ARGS_GET, DURATION, RESOURCE, TIME_DAY, TIME_MIN, TIME_MON, TIME_SEC
+        8 => among(
+            run,
             name,
-            b"ARGS_GETRESOURCETIME_DAYTIME_MINTIME_SECTIME_MONDURATION",
-            &[1, 40, 49, 51, 52, 54, 64],
-        ),
-        9 => code_in(
-            name,
-            b"ARGS_POSTTIME_HOURTIME_WDAYTIME_YEARUNIQUE_IDAUTH_TYPE",
-            &[2, 50, 53, 55, 61, 85],
-        ),
-        10 => code_in(name, b"ARGS_NAMESTIME_EPOCH", &[3, 48]),
-        11 => code_in(
-            name,
-            b"REQUEST_URIREMOTE_ADDRREMOTE_PORTREMOTE_HOSTREMOTE_USERSERVER_ADDRSERVER_PORTSERVER_NAMEMATCHED_VARFILES_SIZESFILES_NAMESSTATUS_LINE",
-            &[7, 28, 29, 30, 31, 32, 33, 34, 43, 57, 60, 82],
+            8,
+            &[22, 87, 673, 863, 890, 898, 906],
+            &[1, 64, 40, 49, 51, 54, 52],
         ),
         _ => Lookup::Unknown,
     }
 }
 
-// Twelve to seventeen.
-fn of_twelve_to_seventeen(name: &[u8]) -> Lookup
-    ensures { λ r. ⌜ Hinted (variableCode (now (name .entry))) r ⌝ }
+// Nine to twelve.
+pub fn of_nine_to_twelve(run: &[u8], name: &[u8]) -> Lookup
+    requires run { ⌜ now run ≡ variableRun ⌝ }
+    requires long { ⌜ (8 < length (now name)) × (length (now name) ≤ 12) ⌝ }
+    ensures { λ r. ⌜ r ≡ variableCode (now (name .entry)) ⌝ }
 {
     match name.len() {
-        12 => code_in(
+        // ARGS_POST, AUTH_TYPE, TIME_HOUR, TIME_WDAY, TIME_YEAR, UNIQUE_ID
+        9 => among(
+            run,
             name,
-            b"REQUEST_LINEREQUEST_BODYQUERY_STRINGMATCHED_VARSFULL_REQUEST",
-            &[11, 18, 20, 44, 83],
+            9,
+            &[54, 78, 881, 914, 923, 934],
+            &[2, 85, 50, 53, 55, 61],
         ),
-        13 => code_in(name, b"RESPONSE_BODYREQBODY_ERROR", &[25, 87]),
-        14 => code_in(
+        // ARGS_NAMES, TIME_EPOCH
+        10 => among(run, name, 10, &[44, 871], &[3, 48]),
+        // FILES_NAMES, FILES_SIZES, MATCHED_VAR, REMOTE_ADDR, REMOTE_HOST, REMOTE_PORT, REMOTE_USER, REQUEST_URI, SERVER_ADDR, SERVER_NAME, SERVER_PORT, STATUS_LINE
+        11 => among(
+            run,
             name,
-            b"REQUEST_METHODARGS_GET_NAMESFILES_TMPNAMES",
-            &[12, 4, 58],
+            11,
+            &[122, 133, 216, 329, 340, 351, 362, 647, 808, 819, 830, 848],
+            &[60, 57, 43, 28, 30, 29, 31, 7, 32, 34, 33, 82],
         ),
-        15 => code_in(
+        // FULL_REQUEST, MATCHED_VARS, QUERY_STRING, REQUEST_BODY, REQUEST_LINE
+        12 => among(
+            run,
             name,
-            b"REQUEST_HEADERSREQUEST_COOKIESARGS_POST_NAMESREQUEST_URI_RAWRESPONSE_STATUS",
-            &[14, 16, 5, 8, 21],
-        ),
-        16 => code_in(
-            name,
-            b"REQUEST_FILENAMEREQUEST_BASENAMEREQUEST_PROTOCOLRESPONSE_HEADERSMATCHED_VAR_NAMEHIGHEST_SEVERITY",
-            &[9, 10, 13, 23, 45, 81],
-        ),
-        17 => code_in(
-            name,
-            b"RESPONSE_PROTOCOLREQBODY_PROCESSORREQBODY_ERROR_MSG",
-            &[22, 86, 88],
+            12,
+            &[158, 227, 317, 486, 605],
+            &[83, 44, 20, 18, 11],
         ),
         _ => Lookup::Unknown,
     }
 }
 
-// Eighteen to twenty-seven.
-fn of_eighteen_and_more(name: &[u8]) -> Lookup
-    ensures { λ r. ⌜ Hinted (variableCode (now (name .entry))) r ⌝ }
+// Thirteen to seventeen.
+pub fn of_thirteen_to_seventeen(run: &[u8], name: &[u8]) -> Lookup
+    requires run { ⌜ now run ≡ variableRun ⌝ }
+    requires long { ⌜ (12 < length (now name)) × (length (now name) ≤ 17) ⌝ }
+    ensures { λ r. ⌜ r ≡ variableCode (now (name .entry)) ⌝ }
 {
     match name.len() {
-        18 => code_in(name, b"ARGS_COMBINED_SIZEMATCHED_VARS_NAMES", &[6, 46]),
-        19 => code_in(
+        // REQBODY_ERROR, RESPONSE_BODY
+        13 => among(run, name, 13, &[373, 681], &[87, 25]),
+        // ARGS_GET_NAMES, FILES_TMPNAMES, REQUEST_METHOD
+        14 => among(run, name, 14, &[30, 144, 617], &[4, 58, 12]),
+        // ARGS_POST_NAMES, REQUEST_COOKIES, REQUEST_HEADERS, REQUEST_URI_RAW, RESPONSE_STATUS
+        15 => among(
+            run,
             name,
-            b"REQUEST_BODY_LENGTHFILES_COMBINED_SIZEFULL_REQUEST_LENGTH",
-            &[19, 59, 84],
+            15,
+            &[63, 517, 569, 658, 793],
+            &[5, 16, 14, 8, 21],
         ),
-        21 => code_in(
+        // HIGHEST_SEVERITY, MATCHED_VAR_NAME, REQUEST_BASENAME, REQUEST_FILENAME, REQUEST_PROTOCOL, RESPONSE_HEADERS
+        16 => among(
+            run,
             name,
-            b"REQUEST_COOKIES_NAMESREQUEST_HEADERS_NAMESRESPONSE_CONTENT_TYPE",
-            &[17, 15, 26],
+            16,
+            &[198, 257, 470, 553, 631, 738],
+            &[81, 45, 10, 9, 13, 23],
         ),
-        22 => code_in(
-            name,
-            b"RESPONSE_HEADERS_NAMESMULTIPART_STRICT_ERRORMULTIPART_PART_HEADERS",
-            &[24, 91, 78],
-        ),
-        23 => code_in(
-            name,
-            b"RESPONSE_CONTENT_LENGTHREQBODY_PROCESSOR_ERROR",
-            &[27, 89],
-        ),
-        27 => code_in(name, b"REQBODY_PROCESSOR_ERROR_MSG", &[90]),
+        // REQBODY_ERROR_MSG, REQBODY_PROCESSOR, RESPONSE_PROTOCOL
+        17 => among(run, name, 17, &[386, 403, 776], &[88, 86, 22]),
         _ => Lookup::Unknown,
     }
 }
 
-// The code that a name of its length gives, if any.
-pub fn variable_code_hint(name: &[u8]) -> Lookup
-    ensures { λ r. ⌜ Hinted (variableCode (now (name .entry))) r ⌝ }
-{
-    let n = name.len();
-    if n <= 11 {
-        return of_two_to_eleven(name);
-    }
-    if n <= 17 {
-        return of_twelve_to_seventeen(name);
-    }
-    of_eighteen_and_more(name)
-}
-
-// The names that rules have most often. Where a length has one of them alone, it is one or two wide comparisons.
-pub fn commonest(name: &[u8]) -> Lookup
-    ensures { λ r. ⌜ Hinted (variableCode (now (name .entry))) r ⌝ }
+// Eighteen and more.
+pub fn of_eighteen_and_more(run: &[u8], name: &[u8]) -> Lookup
+    requires run { ⌜ now run ≡ variableRun ⌝ }
+    requires long { ⌜ 17 < length (now name) ⌝ }
+    ensures { λ r. ⌜ r ≡ variableCode (now (name .entry)) ⌝ }
 {
     match name.len() {
-        2 => code_in(name, b"TX", &[35]),
-        3 => code_in(name, b"XML", &[79]),
-        4 => code_in(name, b"ARGS", &[0]),
-        10 => code_in(name, b"ARGS_NAMES", &[3]),
-        11 => code_in(name, b"REQUEST_URI", &[7]),
-        13 => code_in(name, b"RESPONSE_BODY", &[25]),
-        14 => code_in(name, b"REQUEST_METHOD", &[12]),
-        15 => code_in(name, b"REQUEST_COOKIESREQUEST_HEADERS", &[16, 14]),
-        16 => code_in(name, b"REQUEST_FILENAME", &[9]),
-        21 => code_in(name, b"REQUEST_COOKIES_NAMES", &[17]),
+        // ARGS_COMBINED_SIZE, MATCHED_VARS_NAMES
+        18 => among(run, name, 18, &[4, 239], &[6, 46]),
+        // FILES_COMBINED_SIZE, FULL_REQUEST_LENGTH, REQUEST_BODY_LENGTH
+        19 => among(run, name, 19, &[103, 170, 498], &[59, 84, 19]),
+        // REQUEST_COOKIES_NAMES, REQUEST_HEADERS_NAMES, RESPONSE_CONTENT_TYPE
+        21 => among(run, name, 21, &[532, 584, 717], &[17, 15, 26]),
+        // MULTIPART_PART_HEADERS, MULTIPART_STRICT_ERROR, RESPONSE_HEADERS_NAMES
+        22 => among(run, name, 22, &[273, 295, 754], &[78, 91, 24]),
+        // REQBODY_PROCESSOR_ERROR, RESPONSE_CONTENT_LENGTH
+        23 => among(run, name, 23, &[420, 694], &[89, 27]),
+        // REQBODY_PROCESSOR_ERROR_MSG
+        27 => among(run, name, 27, &[443], &[90]),
         _ => Lookup::Unknown,
     }
 }

@@ -1,8 +1,9 @@
-// A code of a table as the number that a lookup gives.
+// A byte as a word.
 ghost use mathlib.Core.Path.{_≡_};
+ghost use Prim.Native.Nat.{_<_};
 
-pub fn wide(code: u8) -> u64
-    ensures { λ r. ⌜ r ≡ code ⌝ }
+pub fn wide(byte: u8) -> u64
+    ensures { λ r. ⌜ (r ≡ byte) × (r < 256) ⌝ }
 {
-    code as u64
+    byte as u64
 }
