@@ -97,17 +97,23 @@ module _ (s : List ℕ) (at : ℕ) where
   part-more n h b p = rw (next-byte s at (omega arith)) (packed-more (getD s at 0) b p)
 
 pub part-four : (s : List ℕ) (at : ℕ) → at + 4 ≤ length s → ((k : ℕ) → getD s k 0 < 256)
-    → Packed (take 4 (drop at s)) (((getD s (at + 3) 0 * 256 + getD s (at + 2) 0) * 256 + getD s (at + 1) 0) * 256 + getD s at 0)
-part-four s at h b =
-    part-more s at 3 (omega arith) (b at)
-    (next (at + 1) (at + 2) 2 (omega arith) (omega arith)
-    (next (at + 2) (at + 3) 1 (omega arith) (omega arith) last))
+    → Packed (take 4 (drop at s)) (getD s at 0 + getD s (at + 1) 0 * 256 + getD s (at + 2) 0 * 65536 + getD s (at + 3) 0 * 16777216)
+part-four s at h b = rw (sym sum) whole
   where
     last : Packed (take 1 (drop (at + 3) s)) (getD s (at + 3) 0)
     last = rw (zero-add (getD s (at + 3) 0)) at (part-more s (at + 3) 0 (omega arith) (b (at + 3)) (part-none s (at + 3 + 1)))
 
     next : (i j n : ℕ) {word : ℕ} → i + 1 ≡ j → i + 1 + n ≤ length s → Packed (take n (drop j s)) word → Packed (take (suc n) (drop i s)) (word * 256 + getD s i 0)
     next i j n e l p = part-more s i n l (b i) (rw (sym e) at p)
+
+    whole : Packed (take 4 (drop at s)) (((getD s (at + 3) 0 * 256 + getD s (at + 2) 0) * 256 + getD s (at + 1) 0) * 256 + getD s at 0)
+    whole =
+        part-more s at 3 (omega arith) (b at)
+        (next (at + 1) (at + 2) 2 (omega arith) (omega arith) (next (at + 2) (at + 3) 1 (omega arith) (omega arith) last))
+
+    sum : ((getD s (at + 3) 0 * 256 + getD s (at + 2) 0) * 256 + getD s (at + 1) 0) * 256 + getD s at 0
+        ≡ getD s at 0 + getD s (at + 1) 0 * 256 + getD s (at + 2) 0 * 65536 + getD s (at + 3) 0 * 16777216
+    sum = omega arith
 
 -- a part that is read from its end: with k bytes before it to come, one byte more
 pub part-before : (s : List ℕ) (at n k : ℕ) {word : ℕ} → 0 < k → k ≤ n → at + n ≤ length s → getD s (at + (k - 1)) 0 < 256

@@ -9,12 +9,11 @@ fn four(s: &[u8], at: usize) -> u64
     requires { ⌜ at + 4 ≤ length (now s) ⌝ }
     ensures { λ r. ⌜ Packed (take 4 (drop at (now (s .entry)))) r ⌝ }
 {
-    let upper = wide(s[at + 3]) * 256 + wide(s[at + 2]);
-    let later = upper * 256 + wide(s[at + 1]);
-    later * 256 + wide(s[at])
+    let low = wide(s[at]) + wide(s[at + 1]) * 256;
+    low + wide(s[at + 2]) * 65536 + wide(s[at + 3]) * 16777216
 }
 
-// Written without a loop, so that it is one load wherever it stands.
+// Written without a loop and as one sum, so that it is one load wherever it stands.
 pub fn eight(s: &[u8], at: usize) -> u64
     requires { ⌜ at + 8 ≤ length (now s) ⌝ }
     ensures { λ r. ⌜ Packed (take 8 (drop at (now (s .entry)))) r ⌝ }
