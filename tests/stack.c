@@ -1,7 +1,8 @@
 /* How much stack each function of include/seclang.h takes at most, in bytes, as a Markdown table.
  * A call runs on a thread whose stack is memory of our own that was painted: the deepest byte that is another
  * afterwards tells how far it came, in whole words, and what an empty call takes is left out. Arguments that are passed
- * on the stack count. Ends with 1 where an input of 1 MiB takes more than one of 16 KB. tools/stack runs it. */
+ * on the stack count. Ends with 1 where an input of 1 MiB takes more than one of 16 KB, or a lookup more than 256 bytes.
+ * tools/stack runs it. */
 #define _POSIX_C_SOURCE 200809L
 #include "seclang.h"
 
@@ -10,7 +11,7 @@
 #include <stdlib.h>
 #include <string.h>
 
-enum { FULL = SECLANG_LIMIT, STACK = 1 << 16, GAP = 1 << 13, WORD = sizeof(uint64_t) };
+enum { FULL = SECLANG_LIMIT, STACK = 1 << 18, GAP = 1 << 13, WORD = sizeof(uint64_t) };
 static const size_t sizes[] = {200, 16384, FULL};
 enum { SIZES = sizeof sizes / sizeof *sizes };
 
@@ -266,14 +267,14 @@ static void fill_index(const struct asked *a)
 
 /* A function and its inputs. The records that it is about come from a call before it, so many words to a record, which
  * is not counted; nor is what fills the memory again that it changes. It is asked with the words 0 to the last, and
- * gives each sample's number where it is a reader. */
+ * gives each sample's number where it is a reader. At most it takes `most` bytes, where that is not 0. */
 static const struct about {
     const char *name;
     call *call, *before;
     void (*again)(const struct asked *);
     judgement *judgement;
     const struct sample *samples;
-    size_t width, last;
+    size_t width, last, most;
     bool reader;
 } functions[] = {
     {.name = "seclang_version", .call = version},
@@ -286,7 +287,7 @@ static const struct about {
     {.name = "seclang_parse_variables", .call = parse_variables, .samples = variables, .reader = true},
     {.name = "seclang_parse_update_targets", .call = parse_update_targets, .samples = updates, .reader = true},
     {.name = "seclang_parse_operator", .call = parse_operator, .samples = operators, .reader = true},
-    {.name = "seclang_lookup", .call = lookup, .samples = names, .last = 3},
+    {.name = "seclang_lookup", .call = lookup, .samples = names, .last = 3, .most = 256},
     {.name = "seclang_test", .judgement = test},
     {.name = "seclang_xml_target", .call = xml_target, .samples = selections, .last = 3},
     {.name = "seclang_phase", .call = phase, .before = parse_actions, .samples = lists, .width = SECLANG_ACTION_WORDS},
@@ -416,7 +417,7 @@ static size_t of_words(const struct about *f)
 
 int main(void)
 {
-    bool grows = false;
+    bool grows = false, over = false;
     printf("| Function | Short | 16 KB | 1 MiB |\n|---|---|---|---|\n");
     for (const struct about *f = functions; f < functions + FUNCTIONS; f++) {
         size_t most[SIZES] = {0};
@@ -424,10 +425,14 @@ int main(void)
             printf("| `%s` | %zu | | |\n", f->name, of_words(f));
             continue;
         }
-        for (size_t k = 0; k < SIZES; k++) most[k] = of_size(f, k);
+        for (size_t k = 0; k < SIZES; k++) {
+            most[k] = of_size(f, k);
+            over = over || (f->most && f->most < most[k]);
+        }
         printf("| `%s` | %zu | %zu | %zu |\n", f->name, most[0], most[1], most[2]);
         grows = grows || most[1] < most[2];
     }
     if (grows) fprintf(stderr, "tests/stack.c: an input of 1 MiB takes more stack than one of 16 KB\n");
-    return grows;
+    if (over) fprintf(stderr, "tests/stack.c: a lookup takes more stack than it may\n");
+    return grows || over;
 }

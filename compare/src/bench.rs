@@ -4,16 +4,18 @@ use crate::cases::{RULES, SHORT};
 use crate::original::{self, copies, COPIES};
 use crate::parser::action::parse_actions;
 use crate::parser::lexer::{Lexer, TokenKind};
-use crate::parser::operator::{parse_operator, OperatorName};
-use crate::parser::variable::{parse_update_targets, parse_variables, VariableName};
+use crate::parser::operator::parse_operator;
+use crate::parser::variable::{parse_update_targets, parse_variables};
 use crate::readers::Reader;
 use crate::{directives, ours, real, sizes, underlined};
+use lookups::{lookups, Lookup};
 use std::hint::black_box;
 use std::path::PathBuf;
 use timing::{exact, exact_package, fills};
 pub use timing::{Needs, Room, Row};
 
 pub mod index;
+mod lookups;
 mod timing;
 
 /// The inputs of each row.
@@ -95,10 +97,6 @@ impl Inputs {
 /// One side of a row: a call with what it is lent.
 type Ours = fn(&[u8], Needs, &mut Room) -> u64;
 
-fn look<T>(found: Option<T>) {
-    black_box(found);
-}
-
 fn listed(input: &[u8], [words, ..]: Needs, room: &mut Room) -> u64 {
     let (text, scratch) = (&mut room.text[..input.len()], &mut room.scratch[..input.len()]);
     ours::parse_actions(input, text, scratch, &mut room.records[..words], &mut room.values)
@@ -166,7 +164,7 @@ fn target_rows(inputs: &Inputs) -> Vec<Row<'_>> {
     ]
 }
 
-pub fn rows<'a>(inputs: &'a Inputs, names: &'a [Vec<String>; 2]) -> Vec<Row<'a>> {
+pub fn rows<'a>(inputs: &'a Inputs, names: &'a [Lookup]) -> Vec<Row<'a>> {
     let none: fn(&str) -> Needs = |_| [0; 4];
     let mut all = text_rows(inputs);
     all.push(Row {
@@ -184,30 +182,18 @@ pub fn rows<'a>(inputs: &'a Inputs, names: &'a [Vec<String>; 2]) -> Vec<Row<'a>>
         ours: |input, _, room| ours::parse_operator(input, &mut room.values),
         original: Some(|text| drop(black_box(parse_operator(text)))),
     });
-    all.push(Row {
-        name: "lookup-variables",
-        inputs: &names[0],
+    all.extend(names.iter().map(|asked| Row {
+        name: asked.row,
+        inputs: &asked.names,
         needs: none,
-        ours: |name, _, _| ours::lookup(0, name),
-        original: Some(|name| look(VariableName::from_str(name))),
-    });
-    all.push(Row {
-        name: "lookup-operators",
-        inputs: &names[1],
-        needs: none,
-        ours: |name, _, _| ours::lookup(1, name),
-        original: Some(|name| look(OperatorName::from_str(name))),
-    });
+        ours: asked.ours,
+        original: Some(asked.original),
+    }));
     all
 }
 
-fn names() -> [Vec<String>; 2] {
-    let known = |table| original::names().into_iter().filter(|n| original::lookup(table, n).is_some()).map(str::to_string).collect();
-    [known(0), known(1)]
-}
-
 pub fn table(folders: &[PathBuf]) -> bool {
-    let (inputs, names) = (Inputs::of(folders), names());
+    let (inputs, names) = (Inputs::of(folders), lookups());
     println!(
         "| Row | Inputs | Bytes | Ours, MB/s | Rust, MB/s | Times | Ours, ns a call | Rust, ns a call |\n|---|---|---|---|---|---|---|---|"
     );
@@ -245,7 +231,7 @@ fn passes(all: &[Row], side: &str, name: &str, times: u64) -> bool {
 pub fn again(case: &str, times: u64, folders: &[PathBuf]) -> bool {
     let (side, name) = case.split_once('/').unwrap_or(("", case));
     match name.split_once('@') {
-        None => passes(&rows(&Inputs::of(folders), &names()), side, name, times),
+        None => passes(&rows(&Inputs::of(folders), &lookups()), side, name, times),
         Some(("index", rules)) => index::again(side, rules, times),
         Some((name, size)) => {
             let sized = sizes::OfSize::of(&sizes::Parts::of(folders), size.parse().expect("a size in bytes"));

@@ -85,7 +85,6 @@ pub struct OfSize {
     inputs: Inputs,
     settings: Vec<String>,
     first: Vec<String>,
-    none: [Vec<String>; 2],
 }
 
 impl OfSize {
@@ -100,12 +99,12 @@ impl OfSize {
             packages,
         };
         let first = inputs.texts.iter().take(1).cloned().collect();
-        OfSize { inputs, settings: alike("tx.key=", "a value ", size), first, none: [Vec::new(), Vec::new()] }
+        OfSize { inputs, settings: alike("tx.key=", "a value ", size), first }
     }
 
     /// The benchmark's rows on these inputs, and those that it has not.
     pub fn rows(&self) -> Vec<Row<'_>> {
-        let mut all = rows(&self.inputs, &self.none);
+        let mut all = rows(&self.inputs, &[]);
         all.push(Row {
             name: "parse_setvar",
             inputs: &self.settings,
