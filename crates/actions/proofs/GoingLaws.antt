@@ -7,9 +7,9 @@ use Prim.Native.Nat.{ℕ, suc, _+_, _-_, _*_, _≤_, _<_}
 use native.Mathlib.Numerals.{add-one}
 use native.Mathlib.Omega.{arith}
 use lib.ListN.{length, take, drop, length-drop, length-map, length-take}
-use lib.Dec.{ltb}
+use lib.Dec.{ltb, eqb}
 use borrow.Author.Tests.{ltb-true, ltb-false, lt-ltb, le-ltb}
-use Rattle.ascii.specs.Choice.{pick}
+use Rattle.ascii.specs.Choice.{pick, or}
 use Rattle.ascii.specs.Classes.{white}
 use Rattle.ascii.specs.Fold.{lower, lowered}
 use Rattle.ascii.specs.Trim.{trimEnds, trimmedPart}
@@ -32,6 +32,8 @@ use Rattle.single_action.specs.declared.plans.Verdict.the-variants.{Done, Bad, 
 use Rattle.single_action.proofs.SingleLaws.{Within, single-within}
 use Rattle.actions.specs.Pieces.{outside, Piece, placeOf, keep, piecesFrom, partLength}
 use Rattle.actions.specs.Lists.{singleThen, actionsFrom, listed}
+use Rattle.records.specs.Codes.{idCode, chainCode}
+use Rattle.actions.specs.Having.{has}
 use Rattle.actions.specs.Layout.{fullRecord, recordsFrom, texts}
 use Rattle.actions.specs.Steps.{Put}
 use Rattle.actions.specs.Listing.{Laid, ReadAll, Stopped}
@@ -39,7 +41,7 @@ use Rattle.actions.proofs.PieceLaws.{part-fits}
 use Rattle.actions.proofs.PlaceLaws.{trimmed-places}
 use Rattle.actions.proofs.WritingLaws.{cut-length}
 use Rattle.actions.proofs.LayoutLaws.{texts-more, texts-length, each-record, text-long, records-long}
-use Rattle.actions.proofs.LoopLaws.{pieces-more, pieces-last, soFar, no-piece, one-piece, so-far-more, so-far-refused, so-far-read}
+use Rattle.actions.proofs.LoopLaws.{pieces-more, pieces-last, soFar, no-piece, one-piece, so-far-more, so-far-refused, so-far-read, has-more}
 
 -- ---- the parts
 
@@ -68,17 +70,19 @@ module _ (s : List ℕ) (from end : ℕ) (inside : from ≤ length s) (end-is : 
 -- ---- what the loop keeps
 
 -- the pieces up to the place `reach` are read, and `rest` are those still to come
-pub record Going (s : List ℕ) (offset place : ℕ) (text₀ records₀ text records : List ℕ) (rest : List Piece) (reach used count at : ℕ) : Type 0 where
+pub record Going (s : List ℕ) (offset place : ℕ) (text₀ records₀ text records : List ℕ) (rest : List Piece) (reach used count at : ℕ) (id chain : Bool) : Type 0 where
   pub actions : List (Sourced Action)
   pub so-far : soFar actions (actionsFrom (length actions) rest) ≡ listed s
   pub inside : reach ≤ length s
   pub used-low : used ≤ offset + reach
   pub count-low : count ≤ reach
   pub at-is : at ≡ (place + count) * actionWords
+  pub id-is : id ≡ has idCode actions
+  pub chain-is : chain ≡ has chainCode actions
   pub laid : Laid actions offset place text₀ text records₀ records count used
 
-pub begun : (s text records : List ℕ) (offset place : ℕ) → Going s offset place text records text records (piecesFrom 0 (drop 0 s)) 0 offset 0 (place * actionWords)
-unfolding soFar textsOf recordsOf storedEach
+pub begun : (s text records : List ℕ) (offset place : ℕ) → Going s offset place text records text records (piecesFrom 0 (drop 0 s)) 0 offset 0 (place * actionWords) false false
+unfolding soFar textsOf recordsOf storedEach has
 begun s text records offset place = record {
   actions = [];
   so-far = refl;
@@ -86,10 +90,12 @@ begun s text records offset place = record {
   used-low = omega arith;
   count-low = omega arith;
   at-is = omega arith;
+  id-is = refl;
+  chain-is = refl;
   laid = record { counted = omega arith; used-is = omega arith; written = sym (stored-none text offset); recorded = refl };
 }
 
-module _ {s : List ℕ} {offset place : ℕ} {text₀ records₀ text records : List ℕ} {from used count at : ℕ} (x : Going s offset place text₀ records₀ text records (piecesFrom from (drop from s)) from used count at)
+module _ {s : List ℕ} {offset place : ℕ} {text₀ records₀ text records : List ℕ} {from used count at : ℕ} {id chain : Bool} (x : Going s offset place text₀ records₀ text records (piecesFrom from (drop from s)) from used count at id chain)
     (h : starts (length s) (length text₀) offset place ≡ true)
     (end : ℕ) (end-is : end ≡ from + partLength outside (drop from s)) (t : Part) (t-is : t ≡ trimmedPart (cut s from end)) where
   -- where the trimmed part stands in the text
@@ -151,7 +157,7 @@ module _ {s : List ℕ} {offset place : ℕ} {text₀ records₀ text records : 
   same-text = text-long (x .laid)
 
   -- a part that is no piece is passed over
-  pub passed : past ≤ first → Going s offset place text₀ records₀ text records (behind s end) end used count at
+  pub passed : past ≤ first → Going s offset place text₀ records₀ text records (behind s end) end used count at id chain
   passed h =
       let e = end-inside s from end (x .inside) end-is in
       record {
@@ -161,6 +167,8 @@ module _ {s : List ℕ} {offset place : ℕ} {text₀ records₀ text records : 
         used-low = omega (arith, e, x .used-low);
         count-low = omega (arith, e, x .count-low);
         at-is = x .at-is;
+        id-is = x .id-is;
+        chain-is = x .chain-is;
         laid = x .laid;
       }
 
@@ -216,7 +224,10 @@ module _ {s : List ℕ} {offset place : ℕ} {text₀ records₀ text records : 
             ∙ ap (λ (l : List ℕ). stored l at (fullRecord used whole)) (x .laid .recorded)
             ∙ rw (a, used-at) (each-record records₀ (place * actionWords) offset (x .actions) whole)
 
-        pub acted : Going s offset place text₀ records₀ text′ records′ (behind s end) end used′ (count + 1) (at + actionWords)
+        seen-more : {seen : Bool} (code : ℕ) → seen ≡ has code (x .actions) → or seen (eqb (plan .code) code) ≡ has code all
+        seen-more code e = rw e (sym (has-more code (x .actions) whole))
+
+        pub acted : Going s offset place text₀ records₀ text′ records′ (behind s end) end used′ (count + 1) (at + actionWords) (or id (eqb (plan .code) idCode)) (or chain (eqb (plan .code) chainCode))
         acted = record {
           actions = all;
           so-far = so-more;
@@ -224,6 +235,8 @@ module _ {s : List ℕ} {offset place : ℕ} {text₀ records₀ text records : 
           used-low = omega (arith, fits (done action) (sym (j .means)), piece-short, x .used-low, p .end);
           count-low = omega (arith, part-inside, x .count-low, some);
           at-is = omega (arith, x .at-is);
+          id-is = seen-more idCode (x .id-is);
+          chain-is = seen-more chainCode (x .chain-is);
           laid = record {
             counted = omega (arith, count-more (x .actions) whole, x .laid .counted);
             used-is = omega (arith, p .end, used-at, texts-length (x .actions) whole);
@@ -288,9 +301,9 @@ module _ {s : List ℕ} {offset place : ℕ} {text₀ records₀ text records : 
 
 -- ---- behind a part
 
-module _ {s : List ℕ} {offset place : ℕ} {text₀ records₀ text records : List ℕ} {end used count at : ℕ} (x : Going s offset place text₀ records₀ text records (behind s end) end used count at) where
+module _ {s : List ℕ} {offset place : ℕ} {text₀ records₀ text records : List ℕ} {end used count at : ℕ} {id chain : Bool} (x : Going s offset place text₀ records₀ text records (behind s end) end used count at id chain) where
   -- the next part starts behind the comma
-  pub onward : end < length s → Going s offset place text₀ records₀ text records (piecesFrom (end + 1) (drop (end + 1) s)) (end + 1) used count at
+  pub onward : end < length s → Going s offset place text₀ records₀ text records (piecesFrom (end + 1) (drop (end + 1) s)) (end + 1) used count at id chain
   unfolding behind
   onward h = record {
     actions = x .actions;
@@ -299,11 +312,13 @@ module _ {s : List ℕ} {offset place : ℕ} {text₀ records₀ text records : 
     used-low = omega (arith, x .used-low);
     count-low = omega (arith, x .count-low);
     at-is = x .at-is;
+    id-is = x .id-is;
+    chain-is = x .chain-is;
     laid = x .laid;
   }
 
   -- or the text ends
-  pub ended : length s ≤ end → ReadAll s offset place text₀ text records₀ records count used
+  pub ended : length s ≤ end → ReadAll s offset place text₀ text records₀ records count used id chain
   unfolding behind actionsFrom
   ended h =
       let a = x .actions in
@@ -311,5 +326,7 @@ module _ {s : List ℕ} {offset place : ℕ} {text₀ records₀ text records : 
         actions = a;
         all = sym (rw (le-ltb end (length s) h) at (x .so-far)) ∙ so-far-read a [] ∙ ap reads (append-nil a);
         laid = x .laid;
+        id-is = x .id-is;
+        chain-is = x .chain-is;
         fits = omega (arith, x .used-low, x .inside);
       }

@@ -1,17 +1,21 @@
 -- A loop over the parts of a text: at each turn the part up to the next comma that cuts is a piece or nothing, and the rest starts anew.
 -- `soFar xs o` is what a list comes to whose first actions xs are read and whose other pieces come to o.
 use mathlib.Core.Path.{_≡_, refl, ap, _∙_}
+use mathlib.Core.Bool.{Bool, true, false}
 use mathlib.Core.List.{List, [], _∷_, _++_}
 use Prim.Native.Nat.{ℕ, suc, _+_, _≤_, _<_}
 use native.Mathlib.Omega.{arith}
 use lib.ListN.{length, take, drop, drop-of-length-le}
+use lib.Dec.{eqb}
 use lib.Seq.{drop-drop, length-take-le}
+use Rattle.ascii.specs.Choice.{or}
 use Rattle.ascii.specs.Trim.{trimEnds}
 use Rattle.ascii.proofs.ListLaws.{next-byte}
 use Rattle.lent.specs.Sources.{Part, Sourced}
 use Rattle.lent.specs.Table.{Refusal, Outcome, refuses, reads}
 use Rattle.single_action.specs.Actions.{Action, single}
 use Rattle.actions.specs.Pieces.{outside, Piece, placeOf, keep, piecesOf, piecesFrom, partLength, partsBehind}
+use Rattle.actions.specs.Having.{has}
 use Rattle.actions.specs.Lists.{actionThen, singleThen, actionsFrom}
 use Rattle.actions.proofs.PieceLaws.{parts-first, part-fits}
 
@@ -78,3 +82,18 @@ pub so-far-read : (xs ys : List (Sourced Action)) → soFar xs (reads ys) ≡ re
 unfolding soFar
 so-far-read [] ys = refl
 so-far-read (x ∷ xs) ys = rw (so-far-read xs ys)
+
+-- ---- whether they have a code
+
+or-false : (a : Bool) → or a false ≡ a
+or-false true = refl
+or-false false = refl
+
+or-three : (a b c : Bool) → or a (or b c) ≡ or (or a b) c
+or-three true b c = refl
+or-three false b c = refl
+
+pub has-more : (code : ℕ) (xs : List (Sourced Action)) (x : Sourced Action) → has code (xs ++ (x ∷ [])) ≡ or (has code xs) (eqb (x .thing .code) code)
+unfolding has
+has-more code [] x = or-false (eqb (x .thing .code) code)
+has-more code (y ∷ xs) x = ap (or (eqb (y .thing .code) code)) (has-more code xs x) ∙ or-three (eqb (y .thing .code) code) (has code xs) (eqb (x .thing .code) code)

@@ -140,8 +140,8 @@ module _ (s text work records : List ℕ) {shorter : ℕ} {g : Gate} (m : shorte
         let b = outcome-by s (length text) (length work) (length records) Gate.Open o z a in
         record { answer = rw b (x .answer); texts = rw b (x .texts); words = rw b (x .words); scratch = rw z w }
 
-    pub actions-read : {text₁ text′ records₁ records₂ records′ : List ℕ} {count used : ℕ} {r : Answer}
-        → (x : ReadAll (normalised s) 0 0 text text₁ records records₁ count used) → records₂ ≡ storedEach records 0 (recordsFrom 0 (sitedAll (normalSite s) (x .actions)))
+    pub actions-read : {text₁ text′ records₁ records₂ records′ : List ℕ} {count used : ℕ} {id chain : Bool} {r : Answer}
+        → (x : ReadAll (normalised s) 0 0 text text₁ records records₁ count used id chain) → records₂ ≡ storedEach records 0 (recordsFrom 0 (sitedAll (normalSite s) (x .actions)))
         → Ended used count text₁ text′ records₂ records′ r → ParseActions s text text′ work work′ records records′ r
     unfolding actionsOf
     actions-read x m y =

@@ -70,7 +70,7 @@ module _ (s : List ℕ) (l : length s ≤ limit) where
       (site-word Joined 0 s y (o, omega (arith, i, normalised-length s)))
 
   -- all records
-  records-sited : {text text′ records records₁ records₂ : List ℕ} {count used : ℕ} (x : ReadAll (normalised s) 0 0 text text′ records records₁ count used)
+  records-sited : {text text′ records records₁ records₂ : List ℕ} {count used : ℕ} {id chain : Bool} (x : ReadAll (normalised s) 0 0 text text′ records records₁ count used id chain)
       → Resite s 0 Joined count actionWords 0 records₁ records₂ → records₂ ≡ storedEach records 0 (recordsFrom 0 (sitedAll (normalSite s) (x .actions)))
   records-sited {records = records} {records₁} {records₂} x m =
       resite-sources actionRecord actionText actionWords record-wide Joined 0 s records 0 0 (x .actions) l (omega arith) (omega arith)
@@ -78,7 +78,7 @@ module _ (s : List ℕ) (l : length s ≤ limit) where
       (subst (λ (n : ℕ). Resite s 0 Joined n actionWords 0 records₁ records₂) (x .laid .counted) m)
 
   -- nothing was taken out
-  records-still : {text text′ records records₁ : List ℕ} {count used : ℕ} (x : ReadAll (normalised s) 0 0 text text′ records records₁ count used)
+  records-still : {text text′ records records₁ : List ℕ} {count used : ℕ} {id chain : Bool} (x : ReadAll (normalised s) 0 0 text text′ records records₁ count used id chain)
       → length s ≤ length (normalised s) → records₁ ≡ storedEach records 0 (recordsFrom 0 (sitedAll (normalSite s) (x .actions)))
   records-still {records = records} x h =
       let z : length s - length (normalised s) ≡ 0 = omega (arith, h) in
@@ -86,7 +86,7 @@ module _ (s : List ℕ) (l : length s ≤ limit) where
       ∙ ap (λ (ys : List (Sourced Action)). storedEach records 0 (recordsFrom 0 ys))
       (sym (sited-still (x .actions)) ∙ still-all (λ (y : Part). y) s z (x .actions) (subst (AllInside (length (normalised s))) (x .all) (listed-inside (normalised s))))
 
-  pub records-settled : {text text′ records records₁ records₂ : List ℕ} {count used n : ℕ} (x : ReadAll (normalised s) 0 0 text text′ records records₁ count used)
+  pub records-settled : {text text′ records records₁ records₂ : List ℕ} {count used n : ℕ} {id chain : Bool} (x : ReadAll (normalised s) 0 0 text text′ records records₁ count used id chain)
       → n ≡ length (normalised s) → Settles s n count records₁ records₂ → records₂ ≡ storedEach records 0 (recordsFrom 0 (sitedAll (normalSite s) (x .actions)))
   records-settled {records = records} {records₂ = records₂} {n = n} x e m = go (ltb n (length s)) refl
     where

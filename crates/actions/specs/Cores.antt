@@ -1,6 +1,6 @@
 -- What a caller may use between its own gate and its own ending: normalising, and reading a normalised text, each from anywhere and on anything.
 use mathlib.Core.Path.{_≡_}
-use mathlib.Core.Bool.{Bool}
+use mathlib.Core.Bool.{Bool, false}
 use mathlib.Core.List.{List, [], _∷_, _++_}
 use Prim.Native.Nat.{ℕ, _+_, _*_}
 use lib.ListN.{length, drop, getD}
@@ -11,7 +11,9 @@ use Rattle.lent.specs.Buffers.{stored, storedEach}
 use Rattle.lent.specs.Endings.{starts}
 use Rattle.lent.specs.Sources.{Sourced}
 use Rattle.lent.specs.Table.{Given, given, flawOf, shortBuffer, refused, refusedText, refusedRecords, Outcome, refuses, reads}
+use Rattle.records.specs.Codes.{idCode, chainCode}
 use Rattle.single_action.specs.Actions.{Action}
+use Rattle.actions.specs.Having.{has}
 use Rattle.actions.specs.Normal.{normalised}
 use Rattle.actions.specs.Lists.{listed}
 use Rattle.actions.specs.Layout.{recordsFrom, texts}
@@ -42,13 +44,22 @@ abbrev pub coreGiven : ℕ → Outcome (List (Sourced Action)) → Given
 coreGiven offset (refuses f) = refused f
 coreGiven offset (reads xs) = given 0 (length xs ∷ (offset + length (texts xs)) ∷ [])
 
--- The answer for a number and its values: 0, 5 and 10 to 12 are a list's, and 3 is that it does not place.
-abbrev pub reachedFrom : Given → Reached
-reachedFrom g =
-    pick (eqb (g .number) 0) (Read (getD (g .values) 0 0) (getD (g .values) 1 0))
+-- Whether an action of that code was read.
+abbrev pub coreHas : ℕ → Outcome (List (Sourced Action)) → Bool
+coreHas code (refuses f) = false
+coreHas code (reads xs) = has code xs
+
+-- The answer for a number and its values, and whether an id and `chain` were read: 0, 5 and 10 to 12 are a list's, and 3 is that it does
+-- not place.
+abbrev pub reachedFrom : Bool → Bool → Given → Reached
+reachedFrom id chain g =
+    pick (eqb (g .number) 0) (Read (getD (g .values) 0 0) (getD (g .values) 1 0) id chain)
     (pick (eqb (g .number) 3) Unfit
     (pick (eqb (g .number) 5) (Unknown (getD (g .values) 0 0) (getD (g .values) 1 0) (getD (g .values) 2 0))
     (Bad (flawOf (g .number)) (getD (g .values) 0 0) (getD (g .values) 1 0) (getD (g .values) 2 0))))
+
+abbrev pub coreReached : ℕ → Outcome (List (Sourced Action)) → Reached
+coreReached offset o = reachedFrom (coreHas idCode o) (coreHas chainCode o) (coreGiven offset o)
 
 -- The text buffer afterwards: the texts at the offset, or what the refusal's row states.
 abbrev pub coreText : ℕ → List ℕ → Outcome (List (Sourced Action)) → List ℕ
@@ -62,6 +73,6 @@ coreRecords offset place old (reads xs) = storedEach old (place * actionWords) (
 
 -- The promise of read_actions: the answer, and text and records afterwards.
 pub record ReadActions (s : List ℕ) (offset place : ℕ) (text text′ records records′ : List ℕ) (r : Reached) : Type 0 where
-  pub answer : r ≡ reachedFrom (coreGiven offset (coreOutcome s (length text) offset place))
+  pub answer : r ≡ coreReached offset (coreOutcome s (length text) offset place)
   pub texts : text′ ≡ coreText offset text (coreOutcome s (length text) offset place)
   pub words : records′ ≡ coreRecords offset place records (coreOutcome s (length text) offset place)

@@ -1,6 +1,7 @@
 pub mod Normal
 pub mod Pieces
 pub mod Lists
+pub mod Having
 pub mod Layout
 pub mod Promises
 pub mod Steps

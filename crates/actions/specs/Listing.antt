@@ -13,7 +13,9 @@ use Rattle.lent.specs.Sources.{Part, partWord, Sourced}
 use Rattle.lent.specs.Table.{Refusal, unknownAction, badArgument, refuses, reads}
 use Rattle.places.specs.declared.Rule.the-variants.{Joined}
 use Rattle.places.specs.Moves.{Resite}
+use Rattle.records.specs.Codes.{idCode, chainCode}
 use Rattle.single_action.specs.Actions.{Action}
+use Rattle.actions.specs.Having.{has}
 use Rattle.actions.specs.Lists.{listed}
 use Rattle.actions.specs.Layout.{recordsFrom, texts}
 use Rattle.actions.specs.declared.Answer.{Answer}
@@ -36,10 +38,12 @@ pub record Laid (actions : List (Sourced Action)) (offset place : ℕ) (text tex
   pub recorded : records′ ≡ storedEach records (place * actionWords) (recordsFrom offset actions)
 
 -- All pieces are read and written.
-pub record ReadAll (s : List ℕ) (offset place : ℕ) (text text′ records records′ : List ℕ) (count used : ℕ) : Type 0 where
+pub record ReadAll (s : List ℕ) (offset place : ℕ) (text text′ records records′ : List ℕ) (count used : ℕ) (id chain : Bool) : Type 0 where
   pub actions : List (Sourced Action)
   pub all : listed s ≡ reads actions
   pub laid : Laid actions offset place text text′ records records′ count used
+  pub id-is : id ≡ has idCode actions
+  pub chain-is : chain ≡ has chainCode actions
   pub fits : used ≤ offset + length s
 
 -- A piece is refused, with its place in the text: the text buffer is its name and zeros, and the records are all zero.
@@ -56,7 +60,7 @@ pub record Stopped (refusal : List ℕ → Part → Refusal) (s text text′ rec
 
 -- The loop starts where it may, so that it is never unfit.
 abbrev pub Listed : List ℕ → ℕ → ℕ → List ℕ → List ℕ → List ℕ → List ℕ → Reached → Type 0
-Listed s offset place text text′ records records′ (Read count used) = ReadAll s offset place text text′ records records′ count used
+Listed s offset place text text′ records records′ (Read count used id chain) = ReadAll s offset place text text′ records records′ count used id chain
 Listed s offset place text text′ records records′ (Bad flaw piece name span) = Stopped (badArgument flaw piece) s text text′ records records′ name span
 Listed s offset place text text′ records records′ (Unknown piece name span) = Stopped (unknownAction piece) s text text′ records records′ name span
 Listed s offset place text text′ records records′ Unfit = ⊥

@@ -43,10 +43,12 @@ pub enum Answer {
 
 // What a normalised text comes to that is read into buffers from an offset and a count of records on.
 pub enum Reached {
-    // how many records, and the offset past the last text
+    // how many records, the offset past the last text, and whether an id and `chain` are among them
     Read {
         count: usize,
         offset: usize,
+        id: bool,
+        chain: bool,
     },
     // 5 and 10 to 12: the piece, the length of its name, and its span in that text
     Unknown {

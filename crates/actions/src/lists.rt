@@ -3,6 +3,8 @@ ghost use mathlib.Core.Path.{_≡_};
 ghost use mathlib.Core.Bool.{true};
 ghost use Prim.Native.Nat.{_+_, _≤_, min};
 ghost use lib.ListN.{length};
+ghost use lib.Dec.{eqb};
+ghost use Rattle.ascii.specs.Choice.{or};
 ghost use Rattle.ascii.specs.Fold.{lowered};
 ghost use Rattle.lent.specs.Buffers.{zeros, padded};
 ghost use Rattle.lent.specs.Endings.{starts};
@@ -74,6 +76,16 @@ fn refuse_name(
     }
 }
 
+// Whether an action of that code is among those seen, with one more.
+fn among(seen: bool, code: u64, wanted: u64) -> bool
+    ensures { λ r. ⌜ r ≡ or seen (eqb code wanted) ⌝ }
+{
+    if seen {
+        return true;
+    }
+    code == wanted
+}
+
 // Writes every action's texts from `offset` on, and its record, the first behind `place` others, where that fits; stops at the first bad piece.
 fn write_actions(
     s: &[u8],
@@ -88,6 +100,8 @@ fn write_actions(
     let mut from = 0;
     let mut used = offset;
     let mut count = 0;
+    let mut id = false;
+    let mut chain = false;
     let mut at = place * lent::ACTION_WORDS;
     loop {
         let end = part_end(s, from);
@@ -102,6 +116,8 @@ fn write_actions(
                     used = put_plan(piece, plan, span, text, used, records, at);
                     at += lent::ACTION_WORDS;
                     count += 1;
+                    id = among(id, plan.code, records::ID);
+                    chain = among(chain, plan.code, records::CHAIN);
                 }
                 Verdict::Bad { flaw, row } => {
                     return refuse_row(flaw, row, count, span, text, records);
@@ -115,6 +131,8 @@ fn write_actions(
             return Reached::Read {
                 count,
                 offset: used,
+                id,
+                chain,
             };
         }
         from = end + 1;
@@ -216,7 +234,7 @@ pub fn parse_actions(
             name,
             span: places::site_word(input, 0, Rule::Joined, span),
         },
-        Reached::Read { count, offset } => {
+        Reached::Read { count, offset, .. } => {
             settle(input, n, records, count);
             finish(text, offset, records, count)
         }

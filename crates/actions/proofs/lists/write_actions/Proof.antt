@@ -1,5 +1,5 @@
 -- The loop keeps that the actions read so far are in the buffers; each need is one law of GoingLaws.
-use mathlib.Core.Path.{refl, sym}
+use mathlib.Core.Path.{refl, sym, _∙_}
 use mathlib.Core.Logic.{⊎-elim}
 use Prim.Native.Nat.{_+_, _-_}
 use native.Mathlib.Omega.{arith}
@@ -15,10 +15,10 @@ use Rattle.actions.proofs.lists.write_actions.Statement.{statement}
 use Rattle.actions.proofs.lists.write_actions.Tie as tie
 
 abbrev Inv-loop : tie.InvT-loop
-Inv-loop s text₀ offset records₀ place from₀ used₀ count₀ at₀ text records from used count at = Going s offset place text₀ records₀ text records (piecesFrom from (drop from s)) from used count at
+Inv-loop s text₀ offset records₀ place from₀ used₀ count₀ id₀ chain₀ at₀ text records from used count id chain at = Going s offset place text₀ records₀ text records (piecesFrom from (drop from s)) from used count at id chain
 
 abbrev μ-loop : tie.MeasureT-loop
-μ-loop s text₀ offset records₀ place from₀ used₀ count₀ at₀ text records from used count at = length s + 1 - from
+μ-loop s text₀ offset records₀ place from₀ used₀ count₀ id₀ chain₀ at₀ text records from used count id chain at = length s + 1 - from
 
 -- the loop starts where it may
 started : (c : tie.Start Inv-loop μ-loop) → Started (length (now (c .args .s))) (length (now (c .args .text))) (c .args .offset) (c .args .place)
@@ -111,11 +111,11 @@ returns-2 c =
     rw (e .1 .1, c .before .before .before .before .before .before .before .before .before .before .before .before .span-of .ensures) (stopped-unknown (c .before .before .before .before .before .before .before .before .before .before .before .before .before .before .before .before .before .before .before .before .loop .inv) (c .before .before .before .before .before .before .before .before .before .before .before .before .before .before .before .before .before .before .before .before .before .before .before .before .pre) (c .before .before .before .before .before .before .before .before .before .before .before .before .before .before .before .before .before .before .before .part-end .result) (c .before .before .before .before .before .before .before .before .before .before .before .before .before .before .before .before .before .before .before .part-end .ensures) (c .before .before .before .before .before .before .before .before .before .before .before .before .before .before .before .before .before .trimmed .result) (c .before .before .before .before .before .before .before .before .before .before .before .before .before .before .before .before .before .trimmed .ensures) (c .before .before .before .before .before .before .before .before .before .before .before .before .before .before .if1 .taken) (c .before .before .before .before .before .before .before .before .before .name .given .0 .0) j (e .0) (e .1 .0))
 
 -- behind a part, whether it was a piece or not
-behind-part : (c : tie.Joined1 Inv-loop μ-loop) → Going (now (c .before .before .before .before .before .before .before .before .before .before .args .s)) (c .before .before .before .before .before .before .before .before .before .before .args .offset) (c .before .before .before .before .before .before .before .before .before .before .args .place) (now (c .before .before .before .before .before .before .before .before .before .before .args .text)) (now (c .before .before .before .before .before .before .before .before .before .before .args .records)) (c .if1 .text) (c .if1 .records) (behind (now (c .before .before .before .before .before .before .before .before .before .before .args .s)) (c .before .before .before .before .before .part-end .result)) (c .before .before .before .before .before .part-end .result) (c .if1 .used) (c .if1 .count) (c .if1 .at)
+behind-part : (c : tie.Joined1 Inv-loop μ-loop) → Going (now (c .before .before .before .before .before .before .before .before .before .before .args .s)) (c .before .before .before .before .before .before .before .before .before .before .args .offset) (c .before .before .before .before .before .before .before .before .before .before .args .place) (now (c .before .before .before .before .before .before .before .before .before .before .args .text)) (now (c .before .before .before .before .before .before .before .before .before .before .args .records)) (c .if1 .text) (c .if1 .records) (behind (now (c .before .before .before .before .before .before .before .before .before .before .args .s)) (c .before .before .before .before .before .part-end .result)) (c .before .before .before .before .before .part-end .result) (c .if1 .used) (c .if1 .count) (c .if1 .at) (c .if1 .id) (c .if1 .chain)
 behind-part c =
     ⊎-elim
-    (λ w. rw (w .14, w .15, w .16, w .17, w .18) (acted (c .before .before .before .before .before .before .loop .inv) (c .before .before .before .before .before .before .before .before .before .before .pre) (c .before .before .before .before .before .part-end .result) (c .before .before .before .before .before .part-end .ensures) (c .before .before .before .trimmed .result) (c .before .before .before .trimmed .ensures) (w .0 .taken) (w .5 .given .0 .0) (rw (w .5 .given .1) at (w .3 .ensures)) (rw (w .2 .ensures) at (w .9 .ensures))))
-    (λ w. rw (w .1, w .2, w .3, w .4, w .5) (passed (c .before .before .before .before .before .before .loop .inv) (c .before .before .before .before .before .before .before .before .before .before .pre) (c .before .before .before .before .before .part-end .result) (c .before .before .before .before .before .part-end .ensures) (c .before .before .before .trimmed .result) (c .before .before .before .trimmed .ensures) (w .0 .left)))
+    (λ w. rw (w .16, w .17, w .18, w .19, w .20 ∙ w .14 .ensures, w .21 ∙ w .15 .ensures, w .22) (acted (c .before .before .before .before .before .before .loop .inv) (c .before .before .before .before .before .before .before .before .before .before .pre) (c .before .before .before .before .before .part-end .result) (c .before .before .before .before .before .part-end .ensures) (c .before .before .before .trimmed .result) (c .before .before .before .trimmed .ensures) (w .0 .taken) (w .5 .given .0 .0) (rw (w .5 .given .1) at (w .3 .ensures)) (rw (w .2 .ensures) at (w .9 .ensures))))
+    (λ w. rw (w .1, w .2, w .3, w .4, w .5, w .6, w .7) (passed (c .before .before .before .before .before .before .loop .inv) (c .before .before .before .before .before .before .before .before .before .before .pre) (c .before .before .before .before .before .part-end .result) (c .before .before .before .before .before .part-end .ensures) (c .before .before .before .trimmed .result) (c .before .before .before .trimmed .ensures) (w .0 .left)))
     (c .if1 .came)
 
 same-length-5 : tie.Need-same-length-5 Inv-loop μ-loop
@@ -160,6 +160,8 @@ write-actions-spec =
     put-plan-requires
     add-at
     add-count
+    (λ c κs. search needs)
+    (λ c κs. search needs)
     (λ c. search needs)
     refuse-row-requires
     same-length
