@@ -23,6 +23,8 @@ use Rattle.lexer.specs.Steps.{part}
 use Rattle.operators.specs.Operators.{Spec}
 use Rattle.records.specs.Actions.{Action}
 use Rattle.records.specs.Layout as Acts
+use Rattle.records.specs.Codes.{idCode, chainCode}
+use Rattle.actions.specs.Having.{has}
 use Rattle.directives.specs.Directives.{Listed, Body, rule, act, marker, defaults, unknown, Fault, good, variablesRead, operatorRead, actionsRead, ruleBy, actBy, told, Shape, ofRule, ofAction, ofDefaults}
 use Rattle.directives.specs.Layout.{bodyText}
 use Rattle.directives.specs.Table.{faultName}
@@ -102,7 +104,7 @@ module _ (t : Tally) (l : Listed) (k : Spec) (xs : List (Sourced Action)) (shrun
   abbrev whole : Body
   whole = rule l k xs
 
-  entry-is : withActions (withOperator (withVariables (emptyEntry 1 (t .text)) (length (l .variables) + length (l .exclusions)) one) (bit (k .negated)) (k .name) (spanWord one (length (k .argument))) two) (length xs) (two + length (Acts.texts xs)) shrunk
+  entry-is : withActions (withOperator (withVariables (emptyEntry 1 (t .text)) (length (l .variables) + length (l .exclusions)) one) (bit (k .negated)) (k .name) (spanWord one (length (k .argument))) two) (length xs) (two + length (Acts.texts xs)) shrunk (has idCode xs) (has chainCode xs)
       ≡ entryOf (reachedBy t) shrunk whole
   unfolding bodyText
   entry-is =
@@ -116,7 +118,7 @@ module _ (t : Tally) (l : Listed) (k : Spec) (xs : List (Sourced Action)) (shrun
         → e ≡ withVariables (emptyEntry 1 (t .text)) (length (l .variables) + length (l .exclusions)) one
         → Grew (withOperator e (bit (k .negated)) (k .name) (spanWord (e .text) (length (k .argument))) (e .text + length (k .argument))) (e .text) (k .argument) text₁ text₂ [] [] (Judged.Good d)
         → d ≡ withOperator e (bit (k .negated)) (k .name) (spanWord (e .text) (length (k .argument))) (e .text + length (k .argument))
-        → Grew (withActions d (length xs) (d .text + length (Acts.texts xs)) shrunk) (d .text) (Acts.texts xs) text₂ text₃ (storedEach actions (t .actions * actionWords) (Acts.recordsFrom (d .text) xs)) actions₁ r
+        → Grew (withActions d (length xs) (d .text + length (Acts.texts xs)) shrunk (has idCode xs) (has chainCode xs)) (d .text) (Acts.texts xs) text₂ text₃ (storedEach actions (t .actions * actionWords) (Acts.recordsFrom (d .text) xs)) actions₁ r
         → Wrote whole shrunk t text text₃ variables variables₁ actions actions₁ r
     unfolding bodyText
     rule-wrote y v p z q w =
@@ -128,7 +130,7 @@ module _ (t : Tally) (l : Listed) (k : Spec) (xs : List (Sourced Action)) (shrun
         let f : d ≡ withOperator (withVariables (emptyEntry 1 (t .text)) (length (l .variables) + length (l .exclusions)) one) (bit (k .negated)) (k .name) (spanWord one (length (k .argument))) two =
         q ∙ ap (λ (i : Entry). withOperator i (bit (k .negated)) (k .name) (spanWord (i .text) (length (k .argument))) (i .text + length (k .argument))) p in
         record {
-          is = w .is ∙ ap (λ (i : Entry). Judged.Good (withActions i (length xs) (i .text + length (Acts.texts xs)) shrunk)) f ∙ ap (λ (i : Entry). Judged.Good i) entry-is;
+          is = w .is ∙ ap (λ (i : Entry). Judged.Good (withActions i (length xs) (i .text + length (Acts.texts xs)) shrunk (has idCode xs) (has chainCode xs))) f ∙ ap (λ (i : Entry). Judged.Good i) entry-is;
           laid = laid-more y (laid-more m o);
           listed = v ∙ rw n;
           acted = w .records-are ∙ rw (n, b);
@@ -175,7 +177,7 @@ module _ (line : ℕ) (v o x : List ℕ) (t : Tally) (text variables actions : L
 -- ---- an action list alone
 
 module _ (line kind : ℕ) (make : List (Sourced Action) → Body) (a : List ℕ) (t : Tally) (text text′ variables actions actions′ : List ℕ) (r : Judged)
-    (entry : (xs : List (Sourced Action)) → withActions (emptyEntry kind (t .text)) (length xs) (t .text + length (Acts.texts xs)) (shrunkBy a) ≡ entryOf (reachedBy t) (shrunkBy a) (make xs))
+    (entry : (xs : List (Sourced Action)) → withActions (emptyEntry kind (t .text)) (length xs) (t .text + length (Acts.texts xs)) (shrunkBy a) (has idCode xs) (has chainCode xs) ≡ entryOf (reachedBy t) (shrunkBy a) (make xs))
     (laid : (xs : List (Sourced Action)) → Acts.texts xs ≡ bodyText (make xs))
     (none : (xs : List (Sourced Action)) → listedEach (t .text) (make xs) ≡ [])
     (each : (xs : List (Sourced Action)) → Acts.recordsFrom (t .text) xs ≡ actedEach (t .text) (make xs)) where
@@ -229,11 +231,11 @@ module _ (name : List ℕ) (t : Tally) (text variables actions : List ℕ) (room
   long = ap (λ (l : List ℕ). t .text + length l) (append-nil name)
 
   pub marker-done : Bodied (good (marker name)) shrunk t text (stored text (t .text) name) variables variables actions actions (kept 3 name t text variables actions room shrunk)
-  unfolding bodyText recordsOf textsOf
+  unfolding bodyText recordsOf textsOf has
   marker-done = named-done 3 name t text variables actions room shrunk (marker name) (rw long) (sym (append-nil name)) refl refl
 
   pub unknown-done : Bodied (good (unknown name)) shrunk t text (stored text (t .text) name) variables variables actions actions (kept 5 name t text variables actions room shrunk)
-  unfolding bodyText recordsOf textsOf
+  unfolding bodyText recordsOf textsOf has
   unknown-done = named-done 5 name t text variables actions room shrunk (unknown name) (rw long) (sym (append-nil name)) refl refl
 
 -- ---- which argument is the list of actions

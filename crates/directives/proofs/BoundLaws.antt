@@ -42,7 +42,8 @@ use Rattle.actions.proofs.NormalLaws.{normalised-length}
 use Rattle.actions.proofs.BoundLaws as Acting
 use Rattle.operators.specs.Operators.{Spec}
 use Rattle.directives.specs.Groups.{Item, joined, stray, itemBy, items}
-use Rattle.directives.specs.Directives.{Listed, listedBy, Body, act, defaults, Directive, Result, bad, good, stopped, variablesRead, operatorRead, actionsRead, Shape, ofRule, ofAction, ofMarker, ofDefaults, ofOther, shapeOf, ruleBy, actBy, told, bodyBy, sited, lastPast, placed, directiveOf, itemRead, before, ending, endOf, directives}
+use Rattle.directives.specs.Directives.{Listed, listedBy, Body, act, defaults, Directive, Result, bad, good, stopped, variablesRead, operatorRead, actionsRead, Shape, ofRule, ofAction, ofMarker, ofDefaults, ofOther, shapeOf, ruleBy, actBy, told, bodyBy, sited, lastPast, placed, directiveOf, itemRead, before, over, ending, endOf, directives}
+use Rattle.directives.specs.Versions.{Version}
 use Rattle.directives.specs.Layout.{listedCount, actionCount, listedCounts, actionCounts}
 use Rattle.directives.specs.Promises.{Lent, answerGiven, Directives}
 use Rattle.directives.specs.declared.Answer.{Answer}
@@ -218,7 +219,7 @@ before-few m n (good d) (bad f) h k = tt
 before-few m n (good d) (good ds) (a, b, c) (i, j, k) = (omega arith, omega arith, omega arith)
 
 ending-few : (s : List ℕ) (o : Result (List Directive)) (xs : List Item) → Few 0 o → AllLong xs → Few (itemsTotal xs) (ending s o xs)
-unfolding ending itemsTotal
+unfolding over itemsTotal
 ending-few s o [] h l = h
 ending-few s o (x ∷ xs) h l = before-few (itemTotal x) (itemsTotal xs) (itemRead s x) (ending s o xs) (item-few s x (l .0)) (ending-few s o xs h (l .1))
 
@@ -244,14 +245,14 @@ directives-most s ds e =
     (ending-few s (endOf (length s) (reading s .stop)) (items false (reading s .tokens)) (end-few (length s) (reading s .stop)) (items-long false (reading s .tokens) (all-named s))))
 
 -- With room for so many, 4 is never given.
-pub directives-fit : {s : List ℕ} {m m′ : Lent} {r : Answer} → Directives s m m′ r
+pub directives-fit : {v : Version} {s : List ℕ} {m m′ : Lent} {r : Answer} → Directives v s m m′ r
     → length s / 3 * directiveWords ≤ length (m .directives) → length s / 2 * variableWords ≤ length (m .variables) → length s / 3 * actionWords ≤ length (m .actions)
     → answerGiven r .number ≡ 4 → ⊥
-directives-fit {s} {m} x i j k e =
+directives-fit {v} {s} {m} x i j k e =
     let f = directives-numbers x .number-4 .0 e .1 in
     let ds = f .0 in
-    let b = directives-most s ds (text-good s ds .1 (f .1 .0, end-good (length s) (reading s .stop) .1 (f .1 .1 .0))) in
+    let b = directives-most s ds (text-good s ds .1 (f .1 .0, end-good (length s) (reading s .stop) .1 (f .1 .1 .1 .0))) in
     let fits : (width words n : ℕ) → 0 < width → n * width ≤ words → roomFor width words < n → ⊥ = λ width words n p q h. omega (arith, room-is width words n p .1 q, h) in
     ⊎-elim (λ h. fits directiveWords (length (m .directives)) (length ds) (omega arith) (omega (arith, b .0)) h)
     (λ c. ⊎-elim (λ h. fits variableWords (length (m .variables)) (listedCounts ds) (omega arith) (omega (arith, b .1)) h)
-    (λ h. fits actionWords (length (m .actions)) (actionCounts ds) (omega arith) (omega (arith, b .2)) h) c) (f .1 .1 .1)
+    (λ h. fits actionWords (length (m .actions)) (actionCounts ds) (omega arith) (omega (arith, b .2)) h) c) (f .1 .1 .1 .1)

@@ -2,6 +2,7 @@
 use mathlib.Core.Path.{_≡_, refl, sym, ap, ap₂, _∙_}
 use Prim.Native.Nat.{ℕ, _+_, _*_}
 use native.Mathlib.Omega.{arith}
+use mathlib.Core.Bool.{Bool}
 use mathlib.Core.List.{List, [], _∷_, _++_, append-assoc, append-nil}
 use lib.ListN.{length, length-append}
 use Rattle.lent.specs.Layout.{textsOf, wordsOf, recordsOf}
@@ -23,9 +24,9 @@ use Rattle.directives.proofs.LayoutLaws.{pastAll, directives-long, vari
 pub same-record : (t : Tally) {l l′ i i′ j j′ : ℕ} {e e′ : Entry} → l ≡ l′ → i ≡ i′ → j ≡ j′ → e ≡ e′ → entryRecord l i j t e ≡ entryRecord l′ i′ j′ t e′
 same-record t a b c d = rw (a, b, c, d)
 
-pub same-tally : {a a′ b b′ c c′ d d′ : ℕ} → a ≡ a′ → b ≡ b′ → c ≡ c′ → d ≡ d′
-    → _≡_ {A = Tally} (record { directives = a; text = b; variables = c; actions = d }) (record { directives = a′; text = b′; variables = c′; actions = d′ })
-same-tally a b c d = rw (a, b, c, d)
+pub same-tally : {a a′ b b′ c c′ d d′ : ℕ} {e e′ : Bool} → a ≡ a′ → b ≡ b′ → c ≡ c′ → d ≡ d′ → e ≡ e′
+    → _≡_ {A = Tally} (record { directives = a; text = b; variables = c; actions = d; chained = e }) (record { directives = a′; text = b′; variables = c′; actions = d′; chained = e′ })
+same-tally a b c d e = rw (a, b, c, d, e)
 
 pub same-stored : {old old′ : List ℕ} {i i′ : ℕ} {w w′ : List ℕ} → old ≡ old′ → i ≡ i′ → w ≡ w′ → stored old i w ≡ stored old′ i′ w′
 same-stored a b c = rw (a, b, c)

@@ -16,7 +16,8 @@ use Rattle.lent.specs.declared.gating.Gate.the-variants as Gate
 use Rattle.lent.proofs.GateLaws.{open-is}
 use Rattle.lent.proofs.BufferLaws.{taken-first, each-fits, each-length}
 use Rattle.lent.proofs.EndLaws.{words-fit, beyond-cleared}
-use Rattle.directives.specs.Directives.{Directive, Result, bad, good, directives}
+use Rattle.directives.specs.Directives.{Directive, Result, bad, good}
+use Rattle.directives.specs.Versions.{Version, directivesFor}
 use Rattle.directives.specs.Layout.{reached, texts, listedCounts, actionCounts, directivesFrom, variablesFrom, actionsFrom}
 use Rattle.directives.specs.Table.{shut, overfull, filled, pastGate}
 use Rattle.directives.specs.Promises.{Lent, lentOf, roomsOf, lacks, roomed, laidOut, directivesOutcome, outcomeOn, answerGiven, naming, Directives}
@@ -100,11 +101,11 @@ words-front old rs w {n} {new} e j l h =
 
 -- ---- the ways out
 
-module _ (s text scratch records variables actions : List ℕ) {least : ℕ} {g : Gate} (m : least ≡ min (length text) (length scratch)) (e : g ≡ gateOf s least (length s)) where
+module _ (version : Version) (s text scratch records variables actions : List ℕ) {least : ℕ} {g : Gate} (m : least ≡ min (length text) (length scratch)) (e : g ≡ gateOf s least (length s)) where
   abbrev lent : Lent
   lent = lentOf text scratch records variables actions
 
-  outcome-by : (h : Gate) (o : Result (List Directive)) → g ≡ h → directives s ≡ o → outcomeOn s lent ≡ pastGate h (roomed (roomsOf lent) o)
+  outcome-by : (h : Gate) (o : Result (List Directive)) → g ≡ h → directivesFor version s ≡ o → outcomeOn version s lent ≡ pastGate h (roomed (roomsOf lent) o)
   unfolding directivesOutcome
   outcome-by h o f d = rw (← m, ← e, f, d)
 
@@ -115,23 +116,23 @@ module _ (s text scratch records variables actions : List ℕ) {least : ℕ} {g 
       (o .within, (omega (arith, o .room, m), omega (arith, o .room, m)))
 
   -- the checks: nothing is touched
-  untouched : (x : Refusal) (r : Answer) → outcomeOn s lent ≡ shut x → answerGiven r ≡ refusedGiven x → Directives s lent lent r
+  untouched : (x : Refusal) (r : Answer) → outcomeOn version s lent ≡ shut x → answerGiven r ≡ refusedGiven x → Directives version s lent lent r
   untouched x r z a = record { answer = rw z a; text = rw z; scratch = rw z; directives = rw z; variables = rw z; actions = rw z }
 
-  pub too-long : g ≡ Gate.TooLong → Directives s lent lent Answer.TooLong
-  too-long f = untouched _ _ (outcome-by Gate.TooLong (directives s) f refl) refl
+  pub too-long : g ≡ Gate.TooLong → Directives version s lent lent Answer.TooLong
+  too-long f = untouched _ _ (outcome-by Gate.TooLong (directivesFor version s) f refl) refl
 
-  pub not-ascii : (p : ℕ) → g ≡ Gate.NotAscii p → Directives s lent lent (Answer.NotAscii p)
-  not-ascii p f = untouched _ _ (outcome-by (Gate.NotAscii p) (directives s) f refl) refl
+  pub not-ascii : (p : ℕ) → g ≡ Gate.NotAscii p → Directives version s lent lent (Answer.NotAscii p)
+  not-ascii p f = untouched _ _ (outcome-by (Gate.NotAscii p) (directivesFor version s) f refl) refl
 
-  pub short : g ≡ Gate.Short → Directives s lent lent Answer.Short
-  short f = untouched _ _ (outcome-by Gate.Short (directives s) f refl) refl
+  pub short : g ≡ Gate.Short → Directives version s lent lent Answer.Short
+  short f = untouched _ _ (outcome-by Gate.Short (directivesFor version s) f refl) refl
 
   -- past them scratch is cleared
   module _ (f : g ≡ Gate.Open) {scratch′ : List ℕ} (k : scratch′ ≡ zeros (length scratch)) where
-    pub refused : {text₁ text′ records₁ records′ variables₁ variables′ actions₁ actions′ : List ℕ} {r : Fault} → FirstFault s text text₁ r
+    pub refused : {text₁ text′ records₁ records′ variables₁ variables′ actions₁ actions′ : List ℕ} {r : Fault} → FirstFault version s text text₁ r
         → length text₁ ≡ length text → length records₁ ≡ length records → length variables₁ ≡ length variables → length actions₁ ≡ length actions
-        → Refuses r text₁ text′ records₁ records′ variables₁ variables′ actions₁ actions′ → Directives s lent (lentOf text′ scratch′ records′ variables′ actions′) (Answer.Refused r)
+        → Refuses r text₁ text′ records₁ records′ variables₁ variables′ actions₁ actions′ → Directives version s lent (lentOf text′ scratch′ records′ variables′ actions′) (Answer.Refused r)
     refused {text₁ = text₁} {r = r} x lt lr lv la y =
         let z = outcome-by Gate.Open (bad (x .fault)) f (x .read) in
         record {
@@ -144,8 +145,8 @@ module _ (s text scratch records variables actions : List ℕ) {least : ℕ} {g 
         }
 
     pub finished : {text₁ text′ records₁ records′ variables₁ variables′ actions₁ actions′ : List ℕ} {t : Tally} {r : Answer}
-        → AllRead s text text₁ records records₁ variables variables₁ actions actions₁ t
-        → Finishes t text₁ text′ records₁ records′ variables₁ variables′ actions₁ actions′ r → Directives s lent (lentOf text′ scratch′ records′ variables′ actions′) r
+        → AllRead version s text text₁ records records₁ variables variables₁ actions actions₁ t
+        → Finishes t text₁ text′ records₁ records′ variables₁ variables′ actions₁ actions′ r → Directives version s lent (lentOf text′ scratch′ records′ variables′ actions′) r
     finished {text₁} {text′} {records₁} {records′} {variables₁} {variables′} {actions₁} {actions′} {t} {r} x y =
         go (lacks (roomsOf lent) ds) refl
         (subst (λ (b : Bool). EndsBy b (tallyOf ds) text₁ text′ records₁ records′ variables₁ variables′ actions₁ actions′ r) same
@@ -169,9 +170,9 @@ module _ (s text scratch records variables actions : List ℕ) {least : ℕ} {g 
         same : lacksFor (length records₁) (length variables₁) (length actions₁) (tallyOf ds) ≡ lacks (roomsOf lent) ds
         same = rw (lr, lv, la)
 
-        go : (b : Bool) → lacks (roomsOf lent) ds ≡ b → EndsBy b (tallyOf ds) text₁ text′ records₁ records′ variables₁ variables′ actions₁ actions′ r → Directives s lent (lentOf text′ scratch′ records′ variables′ actions′) r
+        go : (b : Bool) → lacks (roomsOf lent) ds ≡ b → EndsBy b (tallyOf ds) text₁ text′ records₁ records′ variables₁ variables′ actions₁ actions′ r → Directives version s lent (lentOf text′ scratch′ records′ variables′ actions′) r
         go true q y =
-            let z : outcomeOn s lent ≡ overfull (length ds) (listedCounts ds) (actionCounts ds) = outcome-by Gate.Open (good ds) f (x .read) ∙ rw q in
+            let z : outcomeOn version s lent ≡ overfull (length ds) (listedCounts ds) (actionCounts ds) = outcome-by Gate.Open (good ds) f (x .read) ∙ rw q in
             record {
               answer = rw (z, y .answer);
               text = rw z (y .texts ∙ ap zeros (w .laid .long));
@@ -181,7 +182,7 @@ module _ (s text scratch records variables actions : List ℕ) {least : ℕ} {g 
               actions = rw z (y .acted ∙ ap zeros la);
             }
         go false q y =
-            let z : outcomeOn s lent ≡ filled (laidOut ds) = outcome-by Gate.Open (good ds) f (x .read) ∙ rw q in
+            let z : outcomeOn version s lent ≡ filled (laidOut ds) = outcome-by Gate.Open (good ds) f (x .read) ∙ rw q in
             let h = rooms-fit (length records) (length variables) (length actions) (tallyOf ds) q in
             record {
               answer = rw (z, y .answer);

@@ -13,7 +13,7 @@ use Rattle.variables.specs.Variables.{Variable}
 use Rattle.variables.specs.Layout as Targets
 use Rattle.records.specs.Actions.{Action, actionText, slotText}
 use Rattle.records.specs.Layout as Acts
-use Rattle.directives.specs.Directives.{Body, rule, act, marker, defaults, unknown, Directive, Fault, wrongCount, untaken, stopped, within, Result, bad, good}
+use Rattle.directives.specs.Directives.{Body, rule, act, marker, defaults, unknown, Directive, Fault, wrongCount, untaken, stopped, idMissing, within, Result, bad, good}
 use Rattle.directives.specs.Layout.{Reached, reached, pastBody, kindCode, nameSlot, listedIn, negatedWord, operatorWord, argumentSlot, actionsIn, nameEnd, listedEnd, argumentEnd, directiveText, directiveRecord, texts, listedCount, actionCount, listedCounts, actionCounts, directivesFrom, variablesFrom, actionsFrom}
 use Rattle.directives.specs.Table.{Outcome, shut, faulty, overfull, filled, faultName, textBy, recordsBy, scratchBy}
 use Rattle.directives.specs.Promises.{Rooms, laidOut, lacks, roomed}
@@ -223,6 +223,7 @@ pub name-erased : (f : Fault) → faultName (erasedFault f) ≡ faultName f
 name-erased (wrongCount n) = refl
 name-erased (untaken n) = refl
 name-erased (stopped n) = refl
+name-erased (idMissing n) = refl
 name-erased (within n f) = resited-name nowhere f
 
 module _ (old : List ℕ) where

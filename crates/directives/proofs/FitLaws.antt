@@ -50,7 +50,7 @@ use Rattle.actions.proofs.LengthLaws as Actions
 use Rattle.actions.proofs.NormalLaws.{normalised-length}
 use Rattle.actions.proofs.CountLaws.{Counted, from-counted, pieces-count}
 use Rattle.directives.specs.Groups.{Item, joined, stray, argumentBy, argumentsOf, itemBy, items}
-use Rattle.directives.specs.Directives.{Listed, Body, act, defaults, Directive as Entry, stopped, Result, bad, good, listedBy, variablesRead, operatorRead, actionsRead, Shape, ofRule, ofAction, ofMarker, ofDefaults, ofOther, shapeOf, ruleBy, actBy, told, bodyBy, sited, lastPast, placed, directiveOf, itemRead, before, ending, endOf, directives}
+use Rattle.directives.specs.Directives.{Listed, Body, act, defaults, Directive as Entry, stopped, Result, bad, good, listedBy, variablesRead, operatorRead, actionsRead, Shape, ofRule, ofAction, ofMarker, ofDefaults, ofOther, shapeOf, ruleBy, actBy, told, bodyBy, sited, lastPast, placed, directiveOf, itemRead, before, over, ending, endOf, directives}
 use Rattle.directives.specs.Layout.{bodyText, listedCount, actionCount, directiveText, texts, listedCounts, actionCounts}
 use Rattle.directives.specs.Table.{nameLeft, faultName}
 use Rattle.directives.proofs.SitedLaws.{sited-same, fault-name}
@@ -317,7 +317,7 @@ before-fits m n (good d) (bad f) h k = omega arith
 before-fits m n (good d) (good ds) (h, i) (j, k) = (omega (arith, length-append (directiveText d) (texts ds)), omega arith)
 
 ending-fits : (s : List ℕ) (o : Result (List Entry)) (xs : List Item) → ResultFits 0 o → ResultFits (itemsTotal xs) (ending s o xs)
-unfolding ending itemsTotal
+unfolding over itemsTotal
 ending-fits s o [] h = h
 ending-fits s o (x ∷ xs) h = before-fits (itemTotal x) (itemsTotal xs) (itemRead s x) (ending s o xs) (item-fits s x) (ending-fits s o xs h)
 

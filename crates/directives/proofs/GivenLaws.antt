@@ -14,16 +14,17 @@ use Rattle.lent.specs.Table.{Given, flawOf, tooLong, notAscii, shortBuffer, noR
 use Rattle.lent.specs.declared.refusing.Flaw.the-variants as Flaw
 use Rattle.lent.specs.declared.gating.Gate.{Gate}
 use Rattle.lent.specs.declared.gating.Gate.the-variants as Gate
-use Rattle.directives.specs.Directives.{Directive, Fault, wrongCount, untaken, stopped, within, Result, bad, good, directives}
+use Rattle.directives.specs.Directives.{Directive, Fault, wrongCount, untaken, stopped, idMissing, within, Result, bad, good}
+use Rattle.directives.specs.Versions.{Version, directivesFor}
 use Rattle.directives.specs.Layout.{texts, listedCounts, actionCounts}
 use Rattle.directives.specs.Table.{overfull, filled, pastGate, faultGiven, givenBy}
 use Rattle.directives.specs.Promises.{answerGiven, laidOut, lacks, roomed, directivesOutcome, Lent, roomsOf, outcomeOn, leftBy, Directives}
-use Rattle.directives.specs.declared.LineFault.the-variants.{Stopped, Untaken, WrongCount}
+use Rattle.directives.specs.declared.LineFault.the-variants.{IdMissing, Stopped, Untaken, WrongCount}
 use Rattle.directives.specs.declared.ArgumentFault.the-variants.{BadArgument, UnknownAction, UnknownOperator, UnknownVariable}
 use Rattle.directives.specs.declared.Fault.the-variants as Fault
 use Rattle.directives.specs.declared.Answer.{Answer}
 use Rattle.directives.specs.declared.Answer.the-variants as Answer
-use Rattle.directives.proofs.NumberLaws.{KnownFault, directives-known}
+use Rattle.directives.proofs.NumberLaws.{KnownFault, known-for}
 
 -- ---- back from what is given
 
@@ -41,7 +42,8 @@ answerFrom g =
     (pick (eqb (g .number) 13) (Answer.Refused (Fault.Line WrongCount (v 0)))
     (pick (eqb (g .number) 14) (Answer.Refused (Fault.Line Untaken (v 0)))
     (pick (eqb (g .number) 15) (Answer.Refused (Fault.Line Stopped (v 0)))
-    (Answer.Refused (Fault.Argument (BadArgument (flawOf (g .number))) (v 0) (v 1) (v 2) (v 3)))))))))))))
+    (pick (eqb (g .number) 18) (Answer.Refused (Fault.Line IdMissing (v 0)))
+    (Answer.Refused (Fault.Argument (BadArgument (flawOf (g .number))) (v 0) (v 1) (v 2) (v 3))))))))))))))
 
 answer-back : (r : Answer) → answerFrom (answerGiven r) ≡ r
 unfolding answerFrom
@@ -52,6 +54,7 @@ answer-back Answer.Short = refl
 answer-back (Answer.Refused (Fault.Line WrongCount line)) = refl
 answer-back (Answer.Refused (Fault.Line Untaken line)) = refl
 answer-back (Answer.Refused (Fault.Line Stopped line)) = refl
+answer-back (Answer.Refused (Fault.Line IdMissing line)) = refl
 answer-back (Answer.Refused (Fault.Argument UnknownVariable line piece name span)) = refl
 answer-back (Answer.Refused (Fault.Argument UnknownAction line piece name span)) = refl
 answer-back (Answer.Refused (Fault.Argument (BadArgument Flaw.Absent) line piece name span)) = refl
@@ -75,7 +78,7 @@ pub record Same (m n : Lent) (r v : Answer) : Type 0 where
   pub variables : m .variables ≡ n .variables
   pub actions : m .actions ≡ n .actions
 
-pub directives-once : {s : List ℕ} {m m′ m″ : Lent} {r v : Answer} → Directives s m m′ r → Directives s m m″ v → Same m′ m″ r v
+pub directives-once : {w : Version} {s : List ℕ} {m m′ m″ : Lent} {r v : Answer} → Directives w s m m′ r → Directives w s m m″ v → Same m′ m″ r v
 directives-once {r = r} {v = v} x y = record {
   answer = answer-told r v (one-answer (x .answer) (y .answer));
   text = one-answer (x .text) (y .text);
@@ -96,6 +99,7 @@ pub fault-told : (f : Fault) → KnownFault f → Told (faultGiven f)
 fault-told (wrongCount l) h = record { reply = Answer.Refused (Fault.Line WrongCount l); is = refl }
 fault-told (untaken l) h = record { reply = Answer.Refused (Fault.Line Untaken l); is = refl }
 fault-told (stopped l) h = record { reply = Answer.Refused (Fault.Line Stopped l); is = refl }
+fault-told (idMissing l) h = record { reply = Answer.Refused (Fault.Line IdMissing l); is = refl }
 fault-told (within l (named noAction p name x)) h = record { reply = Answer.Refused (Fault.Argument UnknownAction l p (length name) (partWord x)); is = refl }
 fault-told (within l (named (noArgument flaw) p name x)) h = record { reply = Answer.Refused (Fault.Argument (BadArgument flaw) l p (length name) (partWord x)); is = refl }
 fault-told (within l (named noVariable p name x)) h = record { reply = Answer.Refused (Fault.Argument UnknownVariable l p (length name) (partWord x)); is = refl }
@@ -107,24 +111,24 @@ fault-told (within l (noRoom n)) h = absurd h
 fault-told (within l badCursor) h = absurd h
 
 -- every outcome is some answer's
-pub outcome-told : (s : List ℕ) (m : Lent) → Told (givenBy (outcomeOn s m))
+pub outcome-told : (v : Version) (s : List ℕ) (m : Lent) → Told (givenBy (outcomeOn v s m))
 unfolding directivesOutcome
-outcome-told s m = gate (gateOf s (min (length (m .text)) (length (m .scratch))) (length s))
+outcome-told v s m = gate (gateOf s (min (length (m .text)) (length (m .scratch))) (length s))
   where
     room : (ds : List Directive) (t : Bool) → Told (givenBy (pick t (overfull (length ds) (listedCounts ds) (actionCounts ds)) (filled (laidOut ds))))
     room ds true = record { reply = Answer.NoRoom (length ds) (listedCounts ds) (actionCounts ds); is = refl }
     room ds false = record { reply = Answer.Read (length ds) (listedCounts ds) (actionCounts ds) (length (texts ds)); is = refl }
 
-    past : (r : Result (List Directive)) → directives s ≡ r → Told (givenBy (roomed (roomsOf m) r))
-    past (bad f) e = fault-told f (directives-known s f e)
+    past : (r : Result (List Directive)) → directivesFor v s ≡ r → Told (givenBy (roomed (roomsOf m) r))
+    past (bad f) e = fault-told f (known-for v s f e)
     past (good ds) e = room ds (lacks (roomsOf m) ds)
 
-    gate : (g : Gate) → Told (givenBy (pastGate g (roomed (roomsOf m) (directives s))))
-    gate Gate.Open = past (directives s) refl
+    gate : (g : Gate) → Told (givenBy (pastGate g (roomed (roomsOf m) (directivesFor v s))))
+    gate Gate.Open = past (directivesFor v s) refl
     gate Gate.TooLong = record { reply = Answer.TooLong; is = refl }
     gate (Gate.NotAscii p) = record { reply = Answer.NotAscii p; is = refl }
     gate Gate.Short = record { reply = Answer.Short; is = refl }
 
 -- whatever goes in, something may come out
-pub directives-total : (s : List ℕ) (m : Lent) → Directives s m (leftBy (outcomeOn s m) m) (outcome-told s m .reply)
-directives-total s m = record { answer = outcome-told s m .is; text = refl; scratch = refl; directives = refl; variables = refl; actions = refl }
+pub directives-total : (v : Version) (s : List ℕ) (m : Lent) → Directives v s m (leftBy (outcomeOn v s m) m) (outcome-told v s m .reply)
+directives-total v s m = record { answer = outcome-told v s m .is; text = refl; scratch = refl; directives = refl; variables = refl; actions = refl }

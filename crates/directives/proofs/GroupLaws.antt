@@ -9,7 +9,7 @@ use Rattle.lexer.specs.Tokens.{Token}
 use Rattle.lexer.specs.Parts.{Closer, raised}
 use Rattle.lexer.specs.Places.{All, nil, cons}
 use Rattle.directives.specs.Groups.{Item, joined, stray, argumentBy, argumentsOf, strayBy, itemBy, items}
-use Rattle.directives.specs.Directives.{Directive as Entry, Result, ending, before, itemRead}
+use Rattle.directives.specs.Directives.{Directive as Entry, Result, over, itemRead}
 use Rattle.directives.specs.Parts.{raisedItem}
 
 -- ---- behind a token that closes a line
@@ -124,7 +124,7 @@ items-hold P taking (t ∷ ts) (cons h hs) = go (t .kind) taking (items-hold P t
 
 -- ---- items one after another
 
-pub ending-append : (s : List ℕ) (o : Result (List Entry)) (xs ys : List Item) → ending s o (xs ++ ys) ≡ ending s (ending s o ys) xs
-unfolding ending
-ending-append s o [] ys = refl
-ending-append s o (x ∷ xs) ys = ap (before (itemRead s x)) (ending-append s o xs ys)
+pub over-append : {A : Type 0} (step : Result Entry → A → A) (s : List ℕ) (o : A) (xs ys : List Item) → over step s o (xs ++ ys) ≡ over step s (over step s o ys) xs
+unfolding over
+over-append step s o [] ys = refl
+over-append step s o (x ∷ xs) ys = ap (step (itemRead s x)) (over-append step s o xs ys)

@@ -13,7 +13,7 @@ use Rattle.operators.specs.Operators.{Spec}
 use Rattle.records.specs.Actions.{Action}
 use Rattle.actions.specs.Lists.{normalSite}
 use Rattle.directives.specs.Groups.{Item, joined, stray}
-use Rattle.directives.specs.Directives.{Listed, Body, act, defaults, Directive, Fault, wrongCount, untaken, stopped, within, Result, bad, good, variablesRead, operatorRead, actionsRead, Shape, ofRule, ofAction, ofMarker, ofDefaults, ofOther, shapeOf, ruleBy, actBy, told, bodyBy, siteAt, standing, argumentSite, listSite, sited, lastPast, placed, directiveOf, itemRead}
+use Rattle.directives.specs.Directives.{Listed, Body, act, defaults, Directive, Fault, wrongCount, untaken, stopped, idMissing, within, Result, bad, good, variablesRead, operatorRead, actionsRead, Shape, ofRule, ofAction, ofMarker, ofDefaults, ofOther, shapeOf, ruleBy, actBy, told, bodyBy, siteAt, standing, argumentSite, listSite, sited, lastPast, placed, directiveOf, itemRead}
 use Rattle.directives.proofs.RefusalLaws.{OfVariable, OfOperator, OfAction, variable-only, operator-only, action-only, only-so, there-in, variable-there, operator-there, action-there}
 
 -- ---- the words
@@ -58,6 +58,7 @@ Comes s l k args (good x) = RightCount k (length args)
 Comes s l k args (bad (wrongCount n)) = (n ≡ l) × (RightCount k (length args) → ⊥)
 Comes s l k args (bad (untaken n)) = ⊥
 Comes s l k args (bad (stopped n)) = ⊥
+Comes s l k args (bad (idMissing n)) = ⊥
 Comes s l k args (bad (within n f)) = (n ≡ l) × FirstRefused s k args f
 
 module _ (s : List ℕ) (l : ℕ) (name : List ℕ) where
@@ -177,6 +178,7 @@ module _ (s : List ℕ) (t : Token) (args : List Token) where
   joined-there f (bad (wrongCount n)) (p, w) e = subst (Amiss s (joined t args)) (ap wrongCount (sym p) ∙ ap faultIn e) (miscounted t args w)
   joined-there f (bad (untaken n)) h e = absurd h
   joined-there f (bad (stopped n)) h e = absurd h
+  joined-there f (bad (idMissing n)) h e = absurd h
   joined-there f (bad (within n g)) (p, w) e = subst (Amiss s (joined t args)) (ap (λ (n : ℕ). within n g) (sym p) ∙ ap faultIn e) (refused t args g w)
 
   miscounted-back : (Counts → ⊥) → (r : Result Body) → Comes s (t .line .0) (shapeOf (t .text)) args r → r ≡ bad (wrongCount (t .line .0))
@@ -184,6 +186,7 @@ module _ (s : List ℕ) (t : Token) (args : List Token) where
   miscounted-back w (bad (wrongCount n)) (p, v) = ap (λ (n : ℕ). bad (wrongCount n)) p
   miscounted-back w (bad (untaken n)) h = absurd h
   miscounted-back w (bad (stopped n)) h = absurd h
+  miscounted-back w (bad (idMissing n)) h = absurd h
   miscounted-back w (bad (within n g)) (p, v) = absurd (w (refused-right (shapeOf (t .text)) args v))
 
 there : (s : List ℕ) (x : Item) (f : Fault) → itemRead s x ≡ bad f → Amiss s x f
@@ -202,17 +205,18 @@ back s (joined _ _) _ (refused t args f w) = ap (placed (t .line .0) (t .first) 
 pub amiss-is : (s : List ℕ) (x : Item) (f : Fault) → (itemRead s x ≡ bad f) ↔ Amiss s x f
 amiss-is s x f = (there s x f, back s x f)
 
--- and never the stop
-pub not-stopped : (s : List ℕ) (x : Item) (l : ℕ) → itemRead s x ≡ bad (stopped l) → ⊥
-not-stopped s x l e = go x (stopped l) (there s x (stopped l) e) refl
-  where
-    kind : Fault → ℕ
-    kind (wrongCount n) = 0
-    kind (untaken n) = 0
-    kind (stopped n) = 1
-    kind (within n f) = 0
+-- and never the stop, nor a missing id
+abbrev OfItem : Fault → Type 0
+OfItem (wrongCount n) = Unit {0}
+OfItem (untaken n) = Unit {0}
+OfItem (stopped n) = ⊥
+OfItem (idMissing n) = ⊥
+OfItem (within n f) = Unit {0}
 
-    go : (i : Item) (f : Fault) → Amiss s i f → f ≡ stopped l → ⊥
-    go (stray _) _ (untaken-token t) e = absurd (omega (arith, ap kind e))
-    go (joined _ _) _ (miscounted t args w) e = absurd (omega (arith, ap kind e))
-    go (joined _ _) _ (refused t args f w) e = absurd (omega (arith, ap kind e))
+pub of-item : (s : List ℕ) (x : Item) (f : Fault) → itemRead s x ≡ bad f → OfItem f
+of-item s x f e = go x f (there s x f e)
+  where
+    go : (i : Item) (f : Fault) → Amiss s i f → OfItem f
+    go (stray _) _ (untaken-token t) = tt
+    go (joined _ _) _ (miscounted t args w) = tt
+    go (joined _ _) _ (refused t args f w) = tt

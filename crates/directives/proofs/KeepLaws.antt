@@ -15,9 +15,11 @@ use Rattle.lent.proofs.GateLaws.{Row, gate-row}
 use Rattle.lent.proofs.BufferLaws.{padded-length}
 use Rattle.directives.specs.Directives.{Directive, Result, bad, good, directives}
 use Rattle.directives.specs.Layout.{reached, listedCounts, actionCounts}
+use Rattle.directives.specs.Versions.{Version, directivesFor}
 use Rattle.directives.specs.Table.{Outcome, shut, faulty, overfull, filled, pastGate, faultName}
 use Rattle.directives.specs.Promises.{Lent, roomsOf, outcomeOn, directivesOutcome, leftBy, laidOut, lacks, roomed}
 use Rattle.directives.specs.Parts.{Alike}
+use Rattle.directives.proofs.VersionLaws.{for-holds}
 use Rattle.directives.proofs.RoomLaws.{roomy-is}
 use Rattle.directives.proofs.LayoutLaws.{directives-long, variables-long, actions-long}
 use Rattle.directives.proofs.FitLaws.{ResultFits, result-more, directives-fit}
@@ -73,15 +75,17 @@ roomed-roomy m (good ds) h = go (lacks (roomsOf m) ds) refl
 
 -- ---- a call
 
-pub buffers-kept : (s : List ℕ) (m : Lent) → Alike m (leftBy (outcomeOn s m) m)
+pub buffers-kept : (v : Version) (s : List ℕ) (m : Lent) → Alike m (leftBy (outcomeOn v s m) m)
 unfolding directivesOutcome
-buffers-kept s m = keeps m (outcomeOn s m) (go (gateOf s least (length s)) (gate-row s least (length s)))
+buffers-kept v s m = keeps m (outcomeOn v s m) (go (gateOf s least (length s)) (gate-row s least (length s)))
   where
     least : ℕ
     least = min (length (m .text)) (length (m .scratch))
 
-    go : (g : Gate) → Row s least (length s) g → Roomy m (pastGate g (roomed (roomsOf m) (directives s)))
-    go Open r = roomed-roomy m (directives s) (result-more (length s) (length (m .text)) (directives s) (omega (arith, r .room)) (directives-fit s))
+    go : (g : Gate) → Row s least (length s) g → Roomy m (pastGate g (roomed (roomsOf m) (directivesFor v s)))
+    go Open r =
+        roomed-roomy m (directivesFor v s)
+        (for-holds (ResultFits (length (m .text))) (λ l. omega arith) v s (result-more (length s) (length (m .text)) (directives s) (omega (arith, r .room)) (directives-fit s)))
     go TooLong r = tt
     go (NotAscii p) r = tt
     go Short r = tt

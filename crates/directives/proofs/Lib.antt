@@ -4,6 +4,8 @@ pub mod MovedLaws
 pub mod LayoutLaws
 pub mod RoomLaws
 pub mod OrderLaws
+pub mod VersionLaws
+pub mod AskedLaws
 pub mod FitLaws
 pub mod NumberLaws
 pub mod KeepLaws

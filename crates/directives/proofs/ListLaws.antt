@@ -19,7 +19,7 @@ use Rattle.records.specs.Actions.{Action}
 use Rattle.records.specs.Layout.{texts}
 use Rattle.actions.specs.Normal.{normalised}
 use Rattle.actions.specs.Pieces.{pieces}
-use Rattle.actions.specs.Cores.{tight, Normalise, coreOutcome, coreGiven, reachedFrom, coreText, coreRecords, ReadActions}
+use Rattle.actions.specs.Cores.{tight, Normalise, coreOutcome, coreReached, coreText, coreRecords, ReadActions}
 use Rattle.actions.specs.declared.Reached.{Reached}
 use Rattle.actions.specs.declared.Reached.the-variants.{Read, Bad, Unknown, Unfit}
 use Rattle.actions.specs.declared.normalising.Normal.{Normal}
@@ -138,7 +138,7 @@ module _ (scratch : List ℕ) (first past used place : ℕ) (text : List ℕ) (e
 -- ---- as a part of a directive
 
 abbrev pub judgedBy : Entry → ℕ → ℕ → Reached → Judged
-judgedBy e line shrunk (Read count offset) = Judged.Good (withActions e count offset shrunk)
+judgedBy e line shrunk (Read count offset id chain) = Judged.Good (withActions e count offset shrunk id chain)
 judgedBy e line shrunk (Unknown piece name span) = Judged.Bad (Fault.Argument UnknownAction line piece name span)
 judgedBy e line shrunk (Bad flaw piece name span) = Judged.Bad (Fault.Argument (BadArgument flaw) line piece name span)
 judgedBy e line shrunk Unfit = Judged.Good e
@@ -150,13 +150,13 @@ module _ (e : Entry) (line place : ℕ) (s text text′ records records′ : Lis
   pub actions-judged : (a : Reached) → r .reached ≡ a → AddsActions e line place text text′ records records′ (actionsRead s) (shrunkBy s) (judgedBy e line (r .shrunk) a)
   actions-judged a q = rw (x .shrunk) (go (actionsRead s) (from-counted 0 (pieces (normalised s))) (sym q ∙ x .answer) (x .left) (x .words))
     where
-      go : (o : Outcome (List (Sourced Action))) → Counted 0 (length (pieces (normalised s))) o → a ≡ reachedFrom (coreGiven (e .text) o) → ListLeft o (e .text) text text′
+      go : (o : Outcome (List (Sourced Action))) → Counted 0 (length (pieces (normalised s))) o → a ≡ coreReached (e .text) o → ListLeft o (e .text) text text′
           → records′ ≡ coreRecords (e .text) place records o → Adds o (judgedBy e line (shrunkBy s) a)
       go (reads xs) k p l w = subst (λ (b : Reached). Adds (reads xs) (judgedBy e line (shrunkBy s) b)) (sym p) (record { is = refl; laid = l; records-are = w })
       go (refuses (named noAction i name y′)) k p l w =
           subst (λ (b : Reached). Adds (refuses (named noAction i name y′)) (judgedBy e line (shrunkBy s) b)) (sym p) (record { told = _; is = refl; faulted = record { given = refl; left = l } })
       go (refuses (named (noArgument flaw) i name y′)) k p l w =
-          subst (λ (b : Reached). Adds (refuses (named (noArgument flaw) i name y′)) (judgedBy e line (shrunkBy s) b)) (bad-back flaw i (length name) (partWord y′) ∙ sym p) (record { told = _; is = refl; faulted = record { given = refl; left = l } })
+          subst (λ (b : Reached). Adds (refuses (named (noArgument flaw) i name y′)) (judgedBy e line (shrunkBy s) b)) (bad-back false false flaw i (length name) (partWord y′) ∙ sym p) (record { told = _; is = refl; faulted = record { given = refl; left = l } })
       go (refuses (named noVariable i name y′)) k p l w = absurd k
       go (refuses tooLong) k p l w = absurd k
       go (refuses (notAscii i)) k p l w = absurd k

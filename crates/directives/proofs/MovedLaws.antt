@@ -11,7 +11,7 @@ use Rattle.lexer.specs.Layout.{textOf}
 use Rattle.operators.specs.Operators.{Spec}
 use Rattle.records.specs.Actions.{Action}
 use Rattle.actions.specs.Lists.{normalSite}
-use Rattle.directives.specs.Directives.{Listed, listed, Body, rule, act, marker, defaults, unknown, Fault, wrongCount, untaken, stopped, within, Result, bad, good, variablesRead, operatorRead, actionsRead, Shape, ofRule, ofAction, ofMarker, ofDefaults, ofOther, ruleBy, actBy, told, bodyBy, siteAt, standing, argumentSite, listSite, sited}
+use Rattle.directives.specs.Directives.{Listed, listed, Body, rule, act, marker, defaults, unknown, Fault, wrongCount, untaken, stopped, idMissing, within, Result, bad, good, variablesRead, operatorRead, actionsRead, Shape, ofRule, ofAction, ofMarker, ofDefaults, ofOther, ruleBy, actBy, told, bodyBy, siteAt, standing, argumentSite, listSite, sited}
 use Rattle.directives.specs.Parts.{resitedBody, mapped}
 use Rattle.directives.proofs.RefusalLaws.{OfVariable, OfOperator, OfAction, Only, variable-only, operator-only, action-only, variable-there, operator-there, action-there}
 
@@ -39,6 +39,7 @@ module _ (g : Part → Part) (l : ℕ) where
   movedFault (wrongCount n) = wrongCount (l + n)
   movedFault (untaken n) = untaken (l + n)
   movedFault (stopped n) = stopped (l + n)
+  movedFault (idMissing n) = idMissing (l + n)
   movedFault (within n f) = within (l + n) (resited g f)
 
   abbrev pub movedResult : Result Body → Result Body
@@ -174,6 +175,7 @@ pub result-still : (r : Result Body) → movedResult still 0 r ≡ r
 result-still (bad (wrongCount n)) = ap (λ (m : ℕ). bad (wrongCount m)) (zero-add n)
 result-still (bad (untaken n)) = ap (λ (m : ℕ). bad (untaken m)) (zero-add n)
 result-still (bad (stopped n)) = ap (λ (m : ℕ). bad (stopped m)) (zero-add n)
+result-still (bad (idMissing n)) = ap (λ (m : ℕ). bad (idMissing m)) (zero-add n)
 result-still (bad (within n f)) = ap₂ (λ (m : ℕ) (h : Refusal). bad (within m h)) (zero-add n) (resited-still f)
 result-still (good (rule vs o xs)) =
     ap₂ (λ (ws : Listed) (ys : List (Sourced Action)). good (rule ws o ys)) (ap₂ listed (sited-still (vs .variables)) (sited-still (vs .exclusions))) (sited-still xs)

@@ -24,7 +24,9 @@ use Rattle.actions.specs.Normal.{normalised}
 use Rattle.actions.specs.Pieces as Pieces
 use Rattle.actions.proofs.CountLaws.{Counted, from-counted}
 use Rattle.directives.specs.Groups.{Item, joined, stray, items}
-use Rattle.directives.specs.Directives.{Listed, Body, act, defaults, Directive, Fault, wrongCount, untaken, stopped, within, Result, bad, good, listedBy, variablesRead, operatorRead, actionsRead, Shape, ofRule, ofAction, ofMarker, ofDefaults, ofOther, shapeOf, ruleBy, actBy, told, bodyBy, refusalSite, sited, lastPast, placed, directiveOf, itemRead, before, ending, endOf, directives}
+use Rattle.directives.specs.Directives.{Listed, Body, act, defaults, Directive, Fault, wrongCount, untaken, stopped, idMissing, within, Result, bad, good, listedBy, variablesRead, operatorRead, actionsRead, Shape, ofRule, ofAction, ofMarker, ofDefaults, ofOther, shapeOf, ruleBy, actBy, told, bodyBy, refusalSite, sited, lastPast, placed, directiveOf, itemRead, before, over, ending, endOf, directives}
+use Rattle.directives.specs.Versions.{Version, directivesFor}
+use Rattle.directives.proofs.VersionLaws.{for-holds}
 use Rattle.directives.specs.Table.{faultGiven}
 
 -- ---- an argument
@@ -70,6 +72,7 @@ abbrev pub KnownFault : Fault → Type 0
 KnownFault (wrongCount l) = Unit {0}
 KnownFault (untaken l) = Unit {0}
 KnownFault (stopped l) = Unit {0}
+KnownFault (idMissing l) = Unit {0}
 KnownFault (within l f) = Known f
 
 abbrev KnownResult : {A : Type 0} → Result A → Type 0
@@ -125,6 +128,7 @@ sited-known : (s : List ℕ) (shape : Shape) (args : List Token) (x : Result Bod
 sited-known s shape args (bad (wrongCount l)) h = tt
 sited-known s shape args (bad (untaken l)) h = tt
 sited-known s shape args (bad (stopped l)) h = tt
+sited-known s shape args (bad (idMissing l)) h = tt
 sited-known s shape args (bad (within l f)) h = resited-known (refusalSite s shape args f) f h
 sited-known s shape args (good x) h = tt
 
@@ -144,7 +148,7 @@ before-known (good d) (bad f) h k = k
 before-known (good d) (good ds) h k = tt
 
 ending-known : (s : List ℕ) (o : Result (List Directive)) (xs : List Item) → KnownResult o → KnownResult (ending s o xs)
-unfolding ending
+unfolding over
 ending-known s o [] h = h
 ending-known s o (x ∷ xs) h = before-known (itemRead s x) (ending s o xs) (item-known s x) (ending-known s o xs h)
 
@@ -156,17 +160,21 @@ end-known n c = go (ltb (c .place) n)
     go true = tt
     go false = tt
 
-pub directives-known : (s : List ℕ) (f : Fault) → directives s ≡ bad f → KnownFault f
+directives-known : (s : List ℕ) → KnownResult (directives s)
 unfolding directives
-directives-known s f e =
-    subst (KnownResult {A = List Directive}) e (ending-known s (endOf (length s) (reading s .stop)) (items false (reading s .tokens)) (end-known (length s) (reading s .stop)))
+directives-known s =
+    (ending-known s (endOf (length s) (reading s .stop)) (items false (reading s .tokens)) (end-known (length s) (reading s .stop)))
+
+pub known-for : (v : Version) (s : List ℕ) (f : Fault) → directivesFor v s ≡ bad f → KnownFault f
+known-for v s f e = subst (KnownResult {A = List Directive}) e (for-holds (KnownResult {A = List Directive}) (λ l. tt) v s (directives-known s))
 
 -- ---- the number
 
-pub fault-number : (f : Fault) → KnownFault f → (faultGiven f .number ≡ 5) ⊎ ((7 ≤ faultGiven f .number) × (faultGiven f .number ≤ 15))
+pub fault-number : (f : Fault) → KnownFault f → (faultGiven f .number ≡ 5) ⊎ ((7 ≤ faultGiven f .number) × (faultGiven f .number ≤ 18))
 fault-number (wrongCount l) h = inr (omega arith, omega arith)
 fault-number (untaken l) h = inr (omega arith, omega arith)
 fault-number (stopped l) h = inr (omega arith, omega arith)
+fault-number (idMissing l) h = inr (omega arith, omega arith)
 fault-number (within l tooLong) h = absurd h
 fault-number (within l (notAscii p)) h = absurd h
 fault-number (within l shortBuffer) h = absurd h

@@ -1,4 +1,5 @@
 -- The definitions in plain words: what a directive takes, and that the first fault in text order is the answer, the end's last.
+-- For 2.7: AskedLaws.
 use mathlib.Core.Path.{_≡_, refl, sym, ap, _∙_, subst}
 use mathlib.Core.Logic.{_↔_}
 use Prim.Native.Nat.{ℕ, _≤_, _<_}
@@ -14,8 +15,9 @@ use Rattle.lexer.specs.declared.Kind.{Kind}
 use Rattle.lexer.specs.declared.Kind.the-variants.{Directive, Word, QuotedString, Comment, Newline}
 use Rattle.lexer.specs.Tokens.{Token, reading}
 use Rattle.directives.specs.Groups.{Item, joined, stray, argumentBy, argumentsOf, itemBy, items}
-use Rattle.directives.specs.Directives.{Directive as Entry, Fault, stopped, Result, bad, good, itemRead, before, ending, endOf, directives}
-use Rattle.directives.specs.Calls.{Argument, Arguments, Ender, Ends, AllGood, none, also, Faulty, in-item, at-end}
+use Rattle.directives.specs.Directives.{Directive as Entry, Fault, stopped, Result, bad, good, itemRead, before, over, ending, endOf, directives}
+use Rattle.directives.specs.Versions.{TwoSix}
+use Rattle.directives.specs.Calls.{Argument, Arguments, Ender, Ends, AllGood, none, also, Faulty, in-item, missing, at-end}
 
 -- ---- what a directive takes
 
@@ -105,55 +107,57 @@ told-kind (good ds) = 1
 
 module _ (s : List ℕ) (end : Result (List Entry)) where
   all-good : {xs : List Item} {ds : List Entry} → AllGood s xs ds → (es : List Entry) → end ≡ good es → ending s end xs ≡ good (ds ++ es)
-  unfolding ending
+  unfolding over
   all-good none es q = q
   all-good (also p a) es q = rw (p, all-good a es q)
 
   all-bad : {xs : List Item} {ds : List Entry} (f : Fault) → AllGood s xs ds → end ≡ bad f → ending s end xs ≡ bad f
-  unfolding ending
+  unfolding over
   all-bad f none q = q
   all-bad f (also p a) q = rw (p, all-bad f a q)
 
   first-bad : (passed : List Item) (this : Item) (after : List Item) (ds : List Entry) (f : Fault) → AllGood s passed ds → itemRead s this ≡ bad f → ending s end (passed ++ this ∷ after) ≡ bad f
-  unfolding ending
+  unfolding over
   first-bad [] this after [] f none q = rw q
   first-bad (x ∷ passed) this after (d ∷ ds) f (also p a) q = rw (p, first-bad passed this after ds f a q)
 
   -- what the items come to
   data Comes (xs : List Item) : Result (List Entry) → Type 0 where
-    fails : {f : Fault} → Faulty s end xs f → Comes xs (bad f)
+    fails : {f : Fault} → Faulty TwoSix s end xs f → Comes xs (bad f)
     holds : (ds es : List Entry) → AllGood s xs ds → end ≡ good es → Comes xs (good (ds ++ es))
 
   later : (x : Item) (xs : List Item) (d : Entry) → itemRead s x ≡ good d → {o : Result (List Entry)} → Comes xs o → Comes (x ∷ xs) (before (good d) o)
   later x xs d p (fails (in-item h)) =
-      fails (in-item (record { passed = x ∷ h .passed; this = h .this; after = h .after; entries = d ∷ h .entries; list = ap (λ (l : List Item). x ∷ l) (h .list); good-before = also p (h .good-before); fault = h .fault }))
-  later x xs d p (fails (at-end ds a q)) = fails (at-end (d ∷ ds) (also p a) q)
+      fails (in-item (record { passed = x ∷ h .passed; this = h .this; after = h .after; entries = d ∷ h .entries; list = ap (λ (l : List Item). x ∷ l) (h .list); good-before = also p (h .good-before); sound-before = tt; fault = h .fault }))
+  later x xs d p (fails (missing l h m e)) = absurd h
+  later x xs d p (fails (at-end ds a h q)) = fails (at-end (d ∷ ds) (also p a) tt q)
   later x xs d p (holds ds es a q) = holds (d ∷ ds) es (also p a) q
 
   comes : (xs : List Item) → Comes xs (ending s end xs)
-  unfolding ending
+  unfolding over
   comes [] = go end refl
     where
       go : (o : Result (List Entry)) → end ≡ o → Comes [] o
-      go (bad f) q = fails (at-end [] none q)
+      go (bad f) q = fails (at-end [] none tt q)
       go (good es) q = holds [] es none q
   comes (x ∷ xs) = go (itemRead s x) refl (comes xs)
     where
       go : (r : Result Entry) → itemRead s x ≡ r → Comes xs (ending s end xs) → Comes (x ∷ xs) (before r (ending s end xs))
-      go (bad f) p k = fails (in-item (record { passed = []; this = x; after = xs; entries = []; list = refl; good-before = none; fault = p }))
+      go (bad f) p k = fails (in-item (record { passed = []; this = x; after = xs; entries = []; list = refl; good-before = none; sound-before = tt; fault = p }))
       go (good d) p k = later x xs d p k
 
   -- a fault is the answer exactly when it is the first bad item's; or with all items good, the end's
-  pub fault-is : (xs : List Item) (f : Fault) → (ending s end xs ≡ bad f) ↔ Faulty s end xs f
+  pub fault-is : (xs : List Item) (f : Fault) → (ending s end xs ≡ bad f) ↔ Faulty TwoSix s end xs f
   fault-is xs f = (λ e. go (ending s end xs) (comes xs) e, back)
     where
-      go : (o : Result (List Entry)) → Comes xs o → o ≡ bad f → Faulty s end xs f
-      go (bad g) (fails h) e = subst (Faulty s end xs) (ap told-fault e) h
+      go : (o : Result (List Entry)) → Comes xs o → o ≡ bad f → Faulty TwoSix s end xs f
+      go (bad g) (fails h) e = subst (Faulty TwoSix s end xs) (ap told-fault e) h
       go (good ds) (holds _ _ a q) e = absurd (never (sym (ap told-kind e)))
 
-      back : Faulty s end xs f → ending s end xs ≡ bad f
+      back : Faulty TwoSix s end xs f → ending s end xs ≡ bad f
       back (in-item h) = rw (h .list) (first-bad (h .passed) (h .this) (h .after) (h .entries) f (h .good-before) (h .fault))
-      back (at-end ds a q) = all-bad f a q
+      back (missing l h m e) = absurd h
+      back (at-end ds a h q) = all-bad f a q
 
   -- directives are those of the items, each good, and then the end's
   record Holds (xs : List Item) (ds : List Entry) : Type 0 where
@@ -172,7 +176,7 @@ module _ (s : List ℕ) (end : Result (List Entry)) where
 
 -- ---- a whole text
 
-pub text-faulty : (s : List ℕ) (f : Fault) → (directives s ≡ bad f) ↔ Faulty s (endOf (length s) (reading s .stop)) (items false (reading s .tokens)) f
+pub text-faulty : (s : List ℕ) (f : Fault) → (directives s ≡ bad f) ↔ Faulty TwoSix s (endOf (length s) (reading s .stop)) (items false (reading s .tokens)) f
 unfolding directives
 text-faulty s f = fault-is s (endOf (length s) (reading s .stop)) (items false (reading s .tokens)) f
 

@@ -21,7 +21,8 @@ use Rattle.places.specs.declared.Rule.the-variants as Rule
 use Rattle.places.specs.Sites.{siteOf}
 use Rattle.places.proofs.RaiseLaws.{site-raised}
 use Rattle.directives.specs.Groups.{Item, joined, stray}
-use Rattle.directives.specs.Directives.{Body, Directive, wrongCount, untaken, stopped, within, Result, bad, good, isMark, between, siteAt, sited, bodyBy, shapeOf, lastPast, placed, directiveOf, itemRead, before, ending, endOf}
+use Rattle.directives.specs.Directives.{Body, Directive, wrongCount, untaken, stopped, idMissing, within, Result, bad, good, isMark, between, siteAt, sited, bodyBy, shapeOf, lastPast, placed, directiveOf, itemRead, before, over, endOf}
+use Rattle.directives.specs.Versions.{leadBy}
 use Rattle.directives.specs.Parts.{raisedItem, raisedPart, raisedFault, raisedDirective, mapped, raisedAll}
 use Rattle.directives.proofs.GroupLaws.{AllIn, AllItems}
 use Rattle.directives.proofs.MovedLaws.{movedResult, AllMove, none, also, body-moved, still, result-still}
@@ -80,15 +81,15 @@ module _ (front rest : List ℕ) where
       ∙ body-moved still front (front ++ rest) 0 (t .line .0) (t .text) (shapeOf (t .text)) args args (moves-front front rest args (p .1))
       ∙ result-still (sited front (shapeOf (t .text)) args (bodyBy (shapeOf (t .text)) (t .line .0) (t .text) (map textOf args))))
 
-  pub ending-front : (o : Result (List Directive)) (xs : List Item) → AllItems (Placed front) xs → ending (front ++ rest) o xs ≡ ending front o xs
-  unfolding ending
-  ending-front o [] p = refl
-  ending-front o (x ∷ xs) p = ap₂ before (item-front x (p .0)) (ending-front o xs (p .1))
+  pub over-front : {A : Type 0} (step : Result Directive → A → A) (o : A) (xs : List Item) → AllItems (Placed front) xs → over step (front ++ rest) o xs ≡ over step front o xs
+  unfolding over
+  over-front step o [] p = refl
+  over-front step o (x ∷ xs) p = ap₂ step (item-front x (p .0)) (over-front step o xs (p .1))
 
 -- ---- one directive further on
 
 module _ (d l : ℕ) where
-  abbrev raisedOne : Result Directive → Result Directive
+  abbrev pub raisedOne : Result Directive → Result Directive
   raisedOne = mapped (raisedFault d l) (raisedDirective d l)
 
   past-raised : (p : ℕ) (ts : List Token) → lastPast (d + p) (map (raised d l) ts) ≡ d + lastPast p ts
@@ -100,15 +101,20 @@ module _ (d l : ℕ) where
   placed-raised n first past (bad (wrongCount m)) = refl
   placed-raised n first past (bad (untaken m)) = refl
   placed-raised n first past (bad (stopped m)) = refl
+  placed-raised n first past (bad (idMissing m)) = refl
   placed-raised n first past (bad (within m f)) = refl
   placed-raised n first past (good x) = refl
 
   -- ---- all
 
-  before-raised : (x : Result Directive) (o : Result (List Directive)) → before (raisedOne x) (raisedAll d l o) ≡ raisedAll d l (before x o)
+  pub before-raised : (x : Result Directive) (o : Result (List Directive)) → before (raisedOne x) (raisedAll d l o) ≡ raisedAll d l (before x o)
   before-raised (bad f) o = refl
   before-raised (good x) (bad f) = refl
   before-raised (good x) (good xs) = refl
+
+  pub lead-raised : (x : Result Directive) (ds : List Directive) → leadBy (raisedOne x) (map (raisedDirective d l) ds) ≡ map (raisedDirective d l) (leadBy x ds)
+  lead-raised (bad f) ds = refl
+  lead-raised (good x) ds = refl
 
   module _ (pre s : List ℕ) (e : d ≡ length pre) where
     item-raised : (x : Item) → itemRead (pre ++ s) (raisedItem d l x) ≡ raisedOne (itemRead s x)
@@ -120,10 +126,12 @@ module _ (d l : ℕ) where
         (body-moved (raisedPart d) s (pre ++ s) l (t .line .0) (t .text) shape args (map (raised d l) args) (moves-behind pre s d e l args))
         ∙ placed-raised (t .line .0) (t .first) (lastPast (t .past) args) (sited s shape args (bodyBy shape (t .line .0) (t .text) (map textOf args)))
 
-    pub ending-raised : (o : Result (List Directive)) (xs : List Item) → ending (pre ++ s) (raisedAll d l o) (map (raisedItem d l) xs) ≡ raisedAll d l (ending s o xs)
-    unfolding ending
-    ending-raised o [] = refl
-    ending-raised o (x ∷ xs) = ap₂ before (item-raised x) (ending-raised o xs) ∙ before-raised (itemRead s x) (ending s o xs)
+    -- a step that moves as its directives do
+    pub over-raised : {A : Type 0} (step : Result Directive → A → A) (g : A → A) → ((x : Result Directive) (o : A) → step (raisedOne x) (g o) ≡ g (step x o))
+        → (o : A) (xs : List Item) → over step (pre ++ s) (g o) (map (raisedItem d l) xs) ≡ g (over step s o xs)
+    unfolding over
+    over-raised step g n o [] = refl
+    over-raised step g n o (x ∷ xs) = ap₂ step (item-raised x) (over-raised step g n o xs) ∙ n (itemRead s x) (over step s o xs)
 
   ltb-raised : (p n : ℕ) → ltb (d + p) (d + n) ≡ ltb p n
   ltb-raised p n = go (ltb p n) refl

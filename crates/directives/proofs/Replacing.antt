@@ -3,9 +3,10 @@
 -- rest's, further on; the line's length moves their spans, and nothing else depends on it.
 use mathlib.Core.Path.{_≡_, refl, sym, ap, ap₂, _∙_}
 use Prim.Native.Nat.{ℕ, _+_}
-use mathlib.Core.Bool.{false}
+use mathlib.Core.Bool.{Bool, true, false}
 use mathlib.Core.List.{List, [], _∷_, _++_, append-assoc, map}
 use lib.ListN.{length, length-append}
+use Rattle.ascii.specs.Choice.{pick}
 use Rattle.lexer.specs.Tokens.{reading}
 use Rattle.lent.specs.Sources.{Part, Sourced, sitedAll}
 use Rattle.lent.specs.Table.{Refusal, resited}
@@ -14,11 +15,14 @@ use Rattle.lexer.specs.Parts.{raised, puts, lineIn, restIn, ALine, Closed}
 use Rattle.lexer.proofs.PlaceLaws.{places}
 use Rattle.lexer.proofs.Demand3.{closed-at, closed-apart, demand3}
 use Rattle.directives.specs.Groups.{Item, items}
-use Rattle.directives.specs.Directives.{Body, rule, act, marker, defaults, unknown, Directive, wrongCount, untaken, stopped, within, Result, bad, good, before, itemRead, ending, endOf, directives}
+use Rattle.directives.specs.Directives.{Body, rule, act, marker, defaults, unknown, Directive, wrongCount, untaken, stopped, idMissing, within, Result, bad, good, before, itemRead, over, endOf, directives}
+use Rattle.directives.specs.Versions.{Version, TwoSix, TwoSeven, chainedOn, lacksId, asked, leadBy, leading, directivesFor}
 use Rattle.directives.specs.Parts.{Idle, raisedItem, raisedDirective, raisedAll, behind, restBehind, mapped, resitedBody, raisedPart, nowhere, erased, erasedFault, erasedAll, Unmoved}
-use Rattle.directives.proofs.GroupLaws.{items-parted, items-raised, items-hold, ending-append}
+use Rattle.directives.proofs.SitedLaws.{resited-same}
+use Rattle.directives.proofs.VersionLaws.{lacks-same, chained-same}
+use Rattle.directives.proofs.GroupLaws.{items-parted, items-raised, items-hold, over-append}
 use Rattle.directives.proofs.MovedLaws.{sited-moved, resited-moved}
-use Rattle.directives.proofs.RaiseLaws.{ending-front, ending-raised, end-raised}
+use Rattle.directives.proofs.RaiseLaws.{raisedOne, over-front, over-raised, before-raised, lead-raised, end-raised}
 use Rattle.directives.proofs.IdleLaws.{Single, idle-single, idle-feeds, idle-closed}
 
 -- ---- a text in parts
@@ -37,15 +41,33 @@ module _ (front line rest : List ℕ) (h : Single line) where
   long : length (front ++ line ++ rest) ≡ length front + length line + length rest
   long = length-append (front ++ line) rest ∙ ap (λ (n : ℕ). n + length rest) (length-append front line)
 
+  abbrev bytes : ℕ
+  bytes = length front + length line
+
+  abbrev lines : ℕ
+  lines = feeds front + 1
+
+  -- what is read item by item, behind the front's items
+  over-apart : {A : Type 0} (step : Result Directive → A → A) (g : A → A) → ((x : Result Directive) (o : A) → step (raisedOne bytes lines x) (g o) ≡ g (step x o)) → (o : A)
+      → over step (front ++ line ++ rest) (g o) (items false (reading front .tokens) ++ map (raisedItem bytes lines) (items false (reading rest .tokens)))
+      ≡ over step front (g (over step rest o (items false (reading rest .tokens)))) (items false (reading front .tokens))
+  over-apart {A} step g n o =
+      let behind-it : A = g (over step rest o (items false (reading rest .tokens))) in
+      over-append step (front ++ line ++ rest) (g o) (items false (reading front .tokens)) _
+      ∙ ap (λ (o : A). over step (front ++ line ++ rest) o (items false (reading front .tokens)))
+      (over-raised bytes lines (front ++ line) rest (sym (length-append front line)) step g n o (items false (reading rest .tokens)))
+      ∙ ap (λ (s : List ℕ). over step s behind-it (items false (reading front .tokens))) (append-assoc front line rest)
+      ∙ over-front front (line ++ rest) step behind-it (items false (reading front .tokens)) (items-hold (Placed front) false (reading front .tokens) (places front))
+
   directives-apart : Apart front line rest → directives (front ++ line ++ rest) ≡ behind front (restBehind front line rest)
   unfolding directives
   directives-apart e =
-      rw (e, long, items-apart, end-raised (length front + length line) (feeds front + 1) (length rest) (reading rest .stop))
-      (ending-append (front ++ line ++ rest) _ (items false (reading front .tokens)) _
-      ∙ ap (λ (o : Result (List Directive)). ending (front ++ line ++ rest) o (items false (reading front .tokens)))
-      (ending-raised (length front + length line) (feeds front + 1) (front ++ line) rest (sym (length-append front line)) (endOf (length rest) (reading rest .stop)) (items false (reading rest .tokens)))
-      ∙ ap (λ (s : List ℕ). ending s (restBehind front line rest) (items false (reading front .tokens))) (append-assoc front line rest)
-      ∙ ending-front front (line ++ rest) (restBehind front line rest) (items false (reading front .tokens)) (items-hold (Placed front) false (reading front .tokens) (places front)))
+      rw (e, long, items-apart, end-raised bytes lines (length rest) (reading rest .stop))
+      (over-apart before (raisedAll bytes lines) (before-raised bytes lines) (endOf (length rest) (reading rest .stop)))
+
+  leading-apart : Apart front line rest → leading (front ++ line ++ rest) ≡ over leadBy front (map (raisedDirective bytes lines) (leading rest)) (items false (reading front .tokens))
+  unfolding leading
+  leading-apart e = rw (e, items-apart) (over-apart leadBy (map (raisedDirective bytes lines)) (lead-raised bytes lines) [])
 
 -- ---- without spans
 
@@ -66,29 +88,54 @@ erased-body f (unknown n) = refl
 abbrev erasedOne : Result Directive → Result Directive
 erasedOne = mapped erasedFault erased
 
+all-erased : (d d′ l : ℕ) (xs : List Directive) → map erased (map (raisedDirective d l) xs) ≡ map erased (map (raisedDirective d′ l) xs)
+all-erased d d′ l [] = refl
+all-erased d d′ l (x ∷ xs) =
+    ap₂ (λ (b : Body) (ys : List Directive). record { line = l + x .line; first = 0; past = 0; body = b } ∷ ys)
+    (erased-body (raisedPart d) (x .body) ∙ sym (erased-body (raisedPart d′) (x .body))) (all-erased d d′ l xs)
+
 raised-erased : (d d′ l : ℕ) (o : Result (List Directive)) → erasedAll (raisedAll d l o) ≡ erasedAll (raisedAll d′ l o)
 raised-erased d d′ l (bad (wrongCount n)) = refl
 raised-erased d d′ l (bad (untaken n)) = refl
 raised-erased d d′ l (bad (stopped n)) = refl
+raised-erased d d′ l (bad (idMissing n)) = refl
 raised-erased d d′ l (bad (within n f)) = ap (λ (r : Refusal). bad (within (l + n) r)) (erased-refusal (raisedPart d) f ∙ sym (erased-refusal (raisedPart d′) f))
-raised-erased d d′ l (good xs) = ap (λ (ys : List Directive). good ys) (go xs)
-  where
-    go : (xs : List Directive) → map erased (map (raisedDirective d l) xs) ≡ map erased (map (raisedDirective d′ l) xs)
-    go [] = refl
-    go (x ∷ xs) =
-        ap₂ (λ (b : Body) (ys : List Directive). record { line = l + x .line; first = 0; past = 0; body = b } ∷ ys)
-        (erased-body (raisedPart d) (x .body) ∙ sym (erased-body (raisedPart d′) (x .body))) (go xs)
+raised-erased d d′ l (good xs) = ap (λ (ys : List Directive). good ys) (all-erased d d′ l xs)
 
 before-erased : (x : Result Directive) (o : Result (List Directive)) → erasedAll (before x o) ≡ before (erasedOne x) (erasedAll o)
 before-erased (bad f) o = refl
 before-erased (good x) (bad f) = refl
 before-erased (good x) (good xs) = refl
 
-ending-erased : (s : List ℕ) (o o′ : Result (List Directive)) → erasedAll o ≡ erasedAll o′ → (xs : List Item) → erasedAll (ending s o xs) ≡ erasedAll (ending s o′ xs)
-unfolding ending
-ending-erased s o o′ e [] = e
-ending-erased s o o′ e (x ∷ xs) =
-    before-erased (itemRead s x) (ending s o xs) ∙ ap (before (erasedOne (itemRead s x))) (ending-erased s o o′ e xs) ∙ sym (before-erased (itemRead s x) (ending s o′ xs))
+lead-erased : (x : Result Directive) (ds : List Directive) → map erased (leadBy x ds) ≡ leadBy (erasedOne x) (map erased ds)
+lead-erased (bad f) ds = refl
+lead-erased (good x) ds = refl
+
+-- a step that loses spans as its directives do
+over-erased : {A : Type 0} (step : Result Directive → A → A) (g : A → A) → ((x : Result Directive) (o : A) → g (step x o) ≡ step (erasedOne x) (g o))
+    → (s : List ℕ) (o o′ : A) → g o ≡ g o′ → (xs : List Item) → g (over step s o xs) ≡ g (over step s o′ xs)
+unfolding over
+over-erased step g n s o o′ e [] = e
+over-erased step g n s o o′ e (x ∷ xs) = n (itemRead s x) (over step s o xs) ∙ ap (step (erasedOne (itemRead s x))) (over-erased step g n s o o′ e xs) ∙ sym (n (itemRead s x) (over step s o′ xs))
+
+-- ---- for a version
+
+asked-erased : (chained : Bool) (ds : List Directive) (o : Result (List Directive)) → erasedAll (asked chained ds o) ≡ asked chained (map erased ds) (erasedAll o)
+unfolding asked
+asked-erased chained [] o = refl
+asked-erased chained (d ∷ ds) o = rw (lacks-same chained (resited-same nowhere (d .body)), chained-same chained (resited-same nowhere (d .body))) (go (lacksId chained (d .body)) (asked-erased (chainedOn chained (d .body)) ds o))
+  where
+    go : (t : Bool) → erasedAll (asked (chainedOn chained (d .body)) ds o) ≡ asked (chainedOn chained (d .body)) (map erased ds) (erasedAll o)
+        → erasedAll (pick t (bad (idMissing (d .line))) (asked (chainedOn chained (d .body)) ds o)) ≡ pick t (bad (idMissing (d .line))) (asked (chainedOn chained (d .body)) (map erased ds) (erasedAll o))
+    go true e = refl
+    go false e = e
+
+-- the same of two texts whose directives before the first fault, and whose outcomes, differ in spans only
+same-for : (v : Version) (s s′ : List ℕ) → erasedAll (directives s) ≡ erasedAll (directives s′) → map erased (leading s) ≡ map erased (leading s′)
+    → erasedAll (directivesFor v s) ≡ erasedAll (directivesFor v s′)
+unfolding directivesFor
+same-for TwoSix s s′ d l = d
+same-for TwoSeven s s′ d l = asked-erased false (leading s) (directives s) ∙ ap₂ (asked false) l d ∙ sym (asked-erased false (leading s′) (directives s′))
 
 -- ---- the theorem
 
@@ -100,9 +147,13 @@ module _ (front line line′ rest : List ℕ) (i : Idle line) (i′ : Idle line�
       record {
         old = old;
         new = new;
-        same = ap erasedAll old
-            ∙ ending-erased front (restBehind front line rest) (restBehind front line′ rest) (raised-erased (length front + length line) (length front + length line′) (feeds front + 1) (directives rest)) (items false (reading front .tokens))
-            ∙ sym (ap erasedAll new);
+        same = λ v. same-for v (front ++ line ++ rest) (front ++ line′ ++ rest)
+            (ap erasedAll old
+            ∙ over-erased before erasedAll before-erased front (restBehind front line rest) (restBehind front line′ rest) (raised-erased (length front + length line) (length front + length line′) (feeds front + 1) (directives rest)) (items false (reading front .tokens))
+            ∙ sym (ap erasedAll new))
+            (ap (map erased) (leading-apart front line rest (idle-single line i) e)
+            ∙ over-erased leadBy (map erased) lead-erased front _ _ (all-erased (length front + length line) (length front + length line′) (feeds front + 1) (leading rest)) (items false (reading front .tokens))
+            ∙ sym (ap (map erased) (leading-apart front line′ rest (idle-single line′ i′) e′)));
       }
 
   -- Document 02's theorem, on demand 3 as it stands: the lines are such as it asks for.

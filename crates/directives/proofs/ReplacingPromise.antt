@@ -14,12 +14,13 @@ use Rattle.lent.specs.declared.gating.Gate.{Gate}
 use Rattle.lent.specs.declared.gating.Gate.the-variants.{Open}
 use Rattle.lent.proofs.GateLaws.{row-gate}
 use Rattle.lexer.specs.Parts.{Closed}
-use Rattle.directives.specs.Directives.{Directive, Fault, wrongCount, untaken, stopped, within, Result, bad, good, directives}
+use Rattle.directives.specs.Directives.{Directive, Fault, wrongCount, untaken, stopped, idMissing, within, Result, bad, good}
+use Rattle.directives.specs.Versions.{Version, directivesFor}
 use Rattle.directives.specs.Layout.{listedCounts, actionCounts}
 use Rattle.directives.specs.Table.{Filled, Outcome, shut, faulty, overfull, filled, pastGate, faultGiven, givenBy, textBy, recordsBy, scratchBy}
 use Rattle.directives.specs.Promises.{answerGiven, Rooms, roomsOf, Lent, outcomeOn, directivesOutcome, laidOut, lacks, roomed}
 use Rattle.directives.specs.Parts.{Idle, erasedFault, erasedAll, unspanned, unsourcedVariables, unsourcedActions, unspannedOutcome, unspannedReply, Fits, Called, Alike, SameTold}
-use Rattle.directives.specs.declared.LineFault.the-variants.{WrongCount, Untaken, Stopped}
+use Rattle.directives.specs.declared.LineFault.the-variants.{WrongCount, Untaken, Stopped, IdMissing}
 use Rattle.directives.specs.declared.ArgumentFault.the-variants.{UnknownVariable, UnknownOperator, UnknownAction, BadArgument}
 use Rattle.directives.specs.declared.Fault.{Fault as Told}
 use Rattle.directives.specs.declared.Fault.the-variants as Told
@@ -31,10 +32,10 @@ use Rattle.directives.proofs.Replacing.{replaced-remark}
 
 -- ---- past the gate
 
-open-outcome : (s : List ℕ) (m : Lent) → Fits s m → outcomeOn s m ≡ roomed (roomsOf m) (directives s)
+open-outcome : (v : Version) (s : List ℕ) (m : Lent) → Fits s m → outcomeOn v s m ≡ roomed (roomsOf m) (directivesFor v s)
 unfolding directivesOutcome
-open-outcome s m h =
-    ap (λ (g : Gate). pastGate g (roomed (roomsOf m) (directives s)))
+open-outcome v s m h =
+    ap (λ (g : Gate). pastGate g (roomed (roomsOf m) (directivesFor v s)))
     (row-gate s (min (length (m .text)) (length (m .scratch))) (length s) Open (record { within = h .short; ascii = h .ascii; room = omega (arith, h .texts-fit, h .scratch-fits) }))
 
 -- an outcome past 1 to 3
@@ -89,6 +90,7 @@ told-unspanned : (f : Told) → answerGiven (unspannedReply (Answer.Refused f)) 
 told-unspanned (Told.Line WrongCount line) = refl
 told-unspanned (Told.Line Untaken line) = refl
 told-unspanned (Told.Line Stopped line) = refl
+told-unspanned (Told.Line IdMissing line) = refl
 told-unspanned (Told.Argument UnknownVariable line piece name span) = refl
 told-unspanned (Told.Argument UnknownOperator line place len span) = refl
 told-unspanned (Told.Argument UnknownAction line piece name span) = refl
@@ -109,6 +111,7 @@ unfolding spanWord
 fault-unspanned (wrongCount l) = refl
 fault-unspanned (untaken l) = refl
 fault-unspanned (stopped l) = refl
+fault-unspanned (idMissing l) = refl
 fault-unspanned (within l tooLong) = refl
 fault-unspanned (within l (notAscii p)) = refl
 fault-unspanned (within l shortBuffer) = refl
@@ -129,29 +132,29 @@ given-unspanned (filled x) h = refl
 
 -- ---- two calls
 
-module _ (s s′ : List ℕ) (m n : Lent) (z : Alike m n) (same : erasedAll (directives s) ≡ erasedAll (directives s′)) (k : Called s m) (k′ : Called s′ n) where
+module _ (v : Version) (s s′ : List ℕ) (m n : Lent) (z : Alike m n) (same : erasedAll (directivesFor v s) ≡ erasedAll (directivesFor v s′)) (k : Called v s m) (k′ : Called v s′ n) where
   abbrev one : Outcome
-  one = outcomeOn s m
+  one = outcomeOn v s m
 
   abbrev two : Outcome
-  two = outcomeOn s′ n
+  two = outcomeOn v s′ n
 
   rooms-same : roomsOf m ≡ roomsOf n
   rooms-same = rw (z .directives, z .variables, z .actions)
 
   told-same : unspannedOutcome one ≡ unspannedOutcome two
   told-same =
-      ap unspannedOutcome (open-outcome s m (k .fits))
-      ∙ sym (outcome-erased (roomsOf m) (directives s))
+      ap unspannedOutcome (open-outcome v s m (k .fits))
+      ∙ sym (outcome-erased (roomsOf m) (directivesFor v s))
       ∙ ap₂ (λ (r : Rooms) (o : Result (List Directive)). roomed r o) rooms-same same
-      ∙ outcome-erased (roomsOf n) (directives s′)
-      ∙ sym (ap unspannedOutcome (open-outcome s′ n (k′ .fits)))
+      ∙ outcome-erased (roomsOf n) (directivesFor v s′)
+      ∙ sym (ap unspannedOutcome (open-outcome v s′ n (k′ .fits)))
 
   one-past : Past one
-  one-past = subst Past (sym (open-outcome s m (k .fits))) (roomed-past (roomsOf m) (directives s))
+  one-past = subst Past (sym (open-outcome v s m (k .fits))) (roomed-past (roomsOf m) (directivesFor v s))
 
   two-past : Past two
-  two-past = subst Past (sym (open-outcome s′ n (k′ .fits))) (roomed-past (roomsOf n) (directives s′))
+  two-past = subst Past (sym (open-outcome v s′ n (k′ .fits))) (roomed-past (roomsOf n) (directivesFor v s′))
 
   calls-same : SameTold k k′
   calls-same = record {
@@ -180,7 +183,7 @@ module _ (s s′ : List ℕ) (m n : Lent) (z : Alike m n) (same : erasedAll (dir
 
 -- Another idle line in an idle line's place: two calls give the same number and values, refusals included, and leave the same in all lent
 -- memory, but for spans in the input.
-pub replaced-promise : (front line line′ rest : List ℕ) → Closed front → Idle line → Idle line′ → {m n : Lent} → Alike m n
-    → (k : Called (front ++ line ++ rest) m) (k′ : Called (front ++ line′ ++ rest) n) → SameTold k k′
-replaced-promise front line line′ rest f i i′ {m = m} {n = n} z k k′ =
-    calls-same (front ++ line ++ rest) (front ++ line′ ++ rest) m n z (replaced-remark front line line′ rest i i′ f .same) k k′
+pub replaced-promise : (front line line′ rest : List ℕ) → Closed front → Idle line → Idle line′ → {v : Version} {m n : Lent} → Alike m n
+    → (k : Called v (front ++ line ++ rest) m) (k′ : Called v (front ++ line′ ++ rest) n) → SameTold k k′
+replaced-promise front line line′ rest f i i′ {v = v} {m = m} {n = n} z k k′ =
+    calls-same v (front ++ line ++ rest) (front ++ line′ ++ rest) m n z (replaced-remark front line line′ rest i i′ f .same v) k k′

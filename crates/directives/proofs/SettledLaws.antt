@@ -32,7 +32,8 @@ use Rattle.actions.specs.Normal.{normalised}
 use Rattle.actions.specs.Pieces.{pieces}
 use Rattle.actions.proofs.CountLaws.{Counted, from-counted}
 use Rattle.actions.proofs.SourceLaws.{Inside, EachInside, AllInside, listed-inside}
-use Rattle.directives.specs.Directives.{Listed, Body, rule, act, marker, defaults, unknown, Fault, wrongCount, untaken, stopped, within, Result, bad, good, variablesRead, listedBy, operatorRead, actionsRead, Shape, ofRule, ofAction, ofMarker, ofDefaults, ofOther, ruleBy, actBy, told, bodyBy, argumentSite, listSite, listNumber, sitedBody, refusalSite, sitedFault}
+use Rattle.records.specs.Codes.{idCode, chainCode}
+use Rattle.directives.specs.Directives.{Listed, Body, rule, act, marker, defaults, unknown, Fault, wrongCount, untaken, stopped, idMissing, within, Result, bad, good, variablesRead, listedBy, operatorRead, actionsRead, Shape, ofRule, ofAction, ofMarker, ofDefaults, ofOther, ruleBy, actBy, told, bodyBy, argumentSite, listSite, listNumber, sitedBody, refusalSite, sitedFault}
 use Rattle.directives.specs.Layout.{Reached, nameEnd, argumentEnd}
 use Rattle.directives.specs.Table.{faultGiven}
 use Rattle.directives.specs.Promises.{argumentNumber, faultTold, naming}
@@ -87,6 +88,7 @@ Where k args (good (unknown n)) = Unit {0}
 Where k args (bad (wrongCount n)) = Unit {0}
 Where k args (bad (untaken n)) = Unit {0}
 Where k args (bad (stopped n)) = Unit {0}
+Where k args (bad (idMissing n)) = Unit {0}
 Where k args (bad (within n f)) = RefusedWhere k args f
 
 -- ---- one argument
@@ -241,9 +243,11 @@ module _ (s : List ℕ) (from : Cursor) (arrived : Arrived s from) (short : leng
   given-moved k (wrongCount l) w (Told.Line why line) e = e
   given-moved k (untaken l) w (Told.Line why line) e = e
   given-moved k (stopped l) w (Told.Line why line) e = e
+  given-moved k (idMissing l) w (Told.Line why line) e = e
   given-moved k (wrongCount l) w (Told.Argument why line at len span) e = absurd (let m = argument-low why in omega (arith, m, ap number e))
   given-moved k (untaken l) w (Told.Argument why line at len span) e = absurd (let m = argument-low why in omega (arith, m, ap number e))
   given-moved k (stopped l) w (Told.Argument why line at len span) e = absurd (let m = argument-low why in omega (arith, m, ap number e))
+  given-moved k (idMissing l) w (Told.Argument why line at len span) e = absurd (let m = argument-low why in omega (arith, m, ap number e))
   given-moved k (within l f) w (Told.Line why line) e = absurd (let m = refused-low f in let h = line-high why in omega (arith, m, h, ap number e))
   given-moved k (within l f) w (Told.Argument why line at len span) e =
       told-moved k why line at len span l f w e ∙ ap (λ (n : ℕ). given n (l ∷ refused (resited (refusalSite s k args f) f) .values)) (sym (resited-number (refusalSite s k args f) f))
@@ -273,7 +277,7 @@ no-list-moved s from t shrunk i xs b = outer b (ltb 0 shrunk)
     outer false c = refl
 
 entry-sited : (r : Reached) (n : ℕ) (x y : Body) → SameBody y x → shrunkFor y n ≡ shrunkFor x n → entryOf r n y ≡ entryOf r n x
-entry-sited r n x y m e = rw (m .kind, m .name, m .negated, m .operator, m .argument, m .listed, m .acted, m .text, m .listed-text, e)
+entry-sited r n x y m e = rw (m .kind, m .name, m .negated, m .operator, m .argument, m .listed, m .acted, m .text, m .listed-text, m .has-same idCode, m .has-same chainCode, e)
 
 shrunk-sited : (s : List ℕ) (args : List Token) (x : Body) (n : ℕ) → shrunkFor (sitedBody s args x) n ≡ shrunkFor x n
 shrunk-sited s args (rule vs o xs) n = refl

@@ -1,8 +1,10 @@
 -- What no site changes: a body's counts, texts and own words, and a refusal's number and name.
-use mathlib.Core.Path.{_≡_, refl, ap₂}
+use mathlib.Core.Path.{_≡_, refl, ap, ap₂}
 use Prim.Native.Nat.{ℕ, _+_}
-use mathlib.Core.List.{List, _++_}
+use mathlib.Core.List.{List, [], _∷_, _++_}
 use lib.ListN.{length, length-map}
+use lib.Dec.{eqb}
+use Rattle.ascii.specs.Choice.{or}
 use Rattle.lent.specs.Layout.{textsOf}
 use Rattle.lent.specs.Sources.{Part, Sourced, sitedBy, sitedAll}
 use Rattle.lent.specs.Table.{Refusal, tooLong, notAscii, shortBuffer, noRoom, named, unknownOperator, badCursor, refused, resited}
@@ -12,7 +14,8 @@ use Rattle.variables.specs.Variables.{Variable}
 use Rattle.variables.specs.Layout as Targets
 use Rattle.records.specs.Actions.{Action, actionText}
 use Rattle.records.specs.Layout as Acts
-use Rattle.directives.specs.Directives.{Body, rule, act, marker, defaults, unknown, Fault, wrongCount, untaken, stopped, within, Shape, argumentSite, listSite, sitedBody, refusalSite, sitedFault}
+use Rattle.actions.specs.Having.{has}
+use Rattle.directives.specs.Directives.{Body, rule, act, marker, defaults, unknown, Fault, wrongCount, untaken, stopped, idMissing, within, Shape, argumentSite, listSite, sitedBody, refusalSite, sitedFault}
 use Rattle.directives.specs.Layout.{kindCode, nameSlot, listedIn, negatedWord, operatorWord, argumentSlot, actionsIn, listedText, bodyText, listedCount, actionCount}
 use Rattle.directives.specs.Table.{nameLeft, faultGiven, faultName}
 use Rattle.directives.specs.Parts.{resitedBody}
@@ -28,11 +31,12 @@ pub record SameBody (x y : Body) : Type 0 where
   pub acted : actionCount x ≡ actionCount y
   pub listed-text : listedText x ≡ listedText y
   pub selections : Targets.selectionTexts (listedIn x .variables) ≡ Targets.selectionTexts (listedIn y .variables)
+  pub has-same : (code : ℕ) → has code (actionsIn x) ≡ has code (actionsIn y)
   pub acted-text : Acts.texts (actionsIn x) ≡ Acts.texts (actionsIn y)
   pub text : bodyText x ≡ bodyText y
 
 pub same-body : (x : Body) → SameBody x x
-same-body x = record { kind = refl; name = refl; negated = refl; operator = refl; argument = refl; listed = refl; acted = refl; listed-text = refl; selections = refl; acted-text = refl; text = refl }
+same-body x = record { kind = refl; name = refl; negated = refl; operator = refl; argument = refl; listed = refl; acted = refl; listed-text = refl; selections = refl; has-same = λ code. refl; acted-text = refl; text = refl }
 
 -- ---- lists
 
@@ -50,6 +54,11 @@ listed-same f vs es = ap₂ (λ (a b : List ℕ). a ++ b) (variables-text f vs) 
 
 pub actions-text : (f : Part → Part) (xs : List (Sourced Action)) → Acts.texts (sitedAll f xs) ≡ Acts.texts xs
 actions-text f xs = sited-texts f actionText xs
+
+has-sited : (code : ℕ) (f : Part → Part) (xs : List (Sourced Action)) → has code (sitedAll f xs) ≡ has code xs
+unfolding has
+has-sited code f [] = refl
+has-sited code f (x ∷ xs) = ap (or (eqb (x .thing .code) code)) (has-sited code f xs)
 
 -- ---- bodies
 
@@ -77,6 +86,7 @@ module _ (f g : Part → Part) where
         acted = sited-count g xs;
         listed-text = l;
         selections = variables-text f (vs .variables);
+        has-same = λ code. has-sited code g xs;
         acted-text = a;
         text = ap₂ (λ (i j : List ℕ). i ++ (o .argument ++ j)) l a;
       }
@@ -90,6 +100,7 @@ module _ (f g : Part → Part) where
     acted = sited-count g xs;
     listed-text = refl;
     selections = refl;
+    has-same = λ code. has-sited code g xs;
     acted-text = actions-text g xs;
     text = actions-text g xs;
   }
@@ -104,6 +115,7 @@ module _ (f g : Part → Part) where
     acted = sited-count g xs;
     listed-text = refl;
     selections = refl;
+    has-same = λ code. has-sited code g xs;
     acted-text = actions-text g xs;
     text = actions-text g xs;
   }
@@ -149,10 +161,12 @@ module _ (s : List ℕ) (shape : Shape) (args : List Token) where
   fault-name (wrongCount l) = refl
   fault-name (untaken l) = refl
   fault-name (stopped l) = refl
+  fault-name (idMissing l) = refl
   fault-name (within l f) = resited-name (refusalSite s shape args f) f
 
   pub fault-number : (f : Fault) → faultGiven (sitedFault s shape args f) .number ≡ faultGiven f .number
   fault-number (wrongCount l) = refl
   fault-number (untaken l) = refl
   fault-number (stopped l) = refl
+  fault-number (idMissing l) = refl
   fault-number (within l f) = resited-number (refusalSite s shape args f) f

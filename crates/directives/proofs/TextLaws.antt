@@ -1,13 +1,15 @@
 -- The loop over a whole text: the directives read so far are in the buffers, and what is still to come follows from the cursor.
 use mathlib.Core.Path.{_≡_, refl, sym, ap, ap₂, _∙_, subst}
-use mathlib.Core.Bool.{false}
+use mathlib.Core.Bool.{Bool, true, false}
 use mathlib.Core.List.{List, [], _∷_, _++_, append-assoc, append-nil, map}
 use Prim.Native.Nat.{ℕ, _+_, _*_, _≤_, _<_}
 use native.Mathlib.Omega.{arith}
 use native.Mathlib.Nat.{zero-add}
 use lib.ListN.{length, take, drop, length-append}
 use lib.Seq.{take-all}
-use borrow.Author.Tests.{lt-ltb, le-ltb}
+use lib.Dec.{ltb}
+use borrow.Author.Tests.{lt-ltb, le-ltb, ltb-true, ltb-false}
+use Rattle.ascii.specs.Choice.{pick}
 use Rattle.lent.specs.Sizes.{limit, variableWords, actionWords, directiveWords}
 use Rattle.lent.specs.Buffers.{stored, storedEach, joined as joinedWords}
 use Rattle.lent.specs.Layout.{textsOf}
@@ -22,13 +24,14 @@ use Rattle.lexer.specs.Layout as Lexed
 use Rattle.lexer.specs.Layout.{textOf}
 use Rattle.lexer.specs.Calls.{Reached as Arrived}
 use Rattle.lexer.proofs.ReachLaws.{reached-start}
-use Rattle.directives.specs.Groups.{Item, items}
-use Rattle.directives.specs.Directives.{Body, Directive, untaken, stopped, Result, bad, good, Shape, shapeOf, bodyBy, sited, sitedBody, sitedFault, lastPast, placed as placedAt, directiveOf, itemRead, before, ending, endOf, directives}
+use Rattle.directives.specs.Groups.{Item, joined, stray, items}
+use Rattle.directives.specs.Directives.{Body, Directive, Fault, untaken, stopped, idMissing, Result, bad, good, Shape, shapeOf, bodyBy, sited, sitedBody, sitedFault, lastPast, placed as placedAt, directiveOf, itemRead, before, over, ending, endOf, directives}
+use Rattle.directives.specs.Versions.{Version, chainedOn, askedFor, leadBy, leading, directivesFor}
 use Rattle.directives.specs.Layout.{Reached, reached, bodyText, directiveRecord, texts, listedCount, actionCount, listedCounts, actionCounts}
-use Rattle.directives.specs.Steps.{Laid, roleOf, onward, Token-is, None-is, argumentsAs, endsAt, takenFrom, Took, reachedBy, entryOf, listedEach, actedEach, Faulted, Wrote, Bodied, heldArguments, heldList, shrunkBy, Ready, entryRecord, tallyOf, countedOn, directiveEach, eachFrom, Written, AllRead, FirstFault}
+use Rattle.directives.specs.Steps.{Laid, roleOf, onward, Token-is, None-is, argumentsAs, endsAt, takenFrom, Took, reachedBy, entryOf, listedEach, actedEach, Faulted, Wrote, Bodied, heldArguments, heldList, shrunkBy, Ready, entryRecord, chainBehind, lacksBy, chainedBy, tallyOf, countedOn, directiveEach, eachFrom, Written, AllRead, FirstFault, Ends, endedAt, endedIn}
 use Rattle.directives.specs.Settling.{listText, Heard, Stand, Settled, faultMoved}
 use Rattle.directives.specs.declared.Fault.{Fault as Told}
-use Rattle.directives.specs.declared.LineFault.the-variants.{Stopped, Untaken}
+use Rattle.directives.specs.declared.LineFault.the-variants.{Stopped, Untaken, IdMissing}
 use Rattle.directives.specs.declared.Fault.the-variants as Told
 use Rattle.directives.specs.declared.tokens.Role.the-variants.{Opens, Argues, Closes}
 use Rattle.directives.specs.declared.arguments.Arguments.{Arguments}
@@ -37,7 +40,9 @@ use Rattle.directives.specs.declared.parts.Tally.{Tally}
 use Rattle.directives.specs.declared.parts.Entry.{Entry}
 use Rattle.directives.specs.declared.parts.Judged.{Judged}
 use Rattle.directives.specs.declared.parts.Judged.the-variants as Judged
+use Rattle.directives.specs.declared.reading.Ended.the-variants as Ended
 use Rattle.directives.proofs.LaidLaws.{laid-none, laid-placed, laid-more, laid-first, front-of}
+use Rattle.directives.proofs.VersionLaws.{lacksIdFor, asked-none, asked-passed, asked-lacks, lacks-entry, chain-entry, chained-more}
 use Rattle.directives.proofs.LayoutLaws.{pastAll, texts-more, listed-more, acted-more, past-is}
 use Rattle.directives.proofs.EachLaws.{same-record, same-tally, same-stored, same-each, directive-each-more, each-from-more, directive-each-long, listed-each-long, acted-each-long}
 use Rattle.directives.proofs.FitLaws.{BodyFits, body-fits, all, texts-long}
@@ -63,11 +68,17 @@ onto-good : (ds : List Directive) (d : Directive) (o : Result (List Directive)) 
 onto-good ds d (bad f) = refl
 onto-good ds d (good es) = ap (λ (l : List Directive). good l) (sym (append-assoc ds (d ∷ []) es))
 
+-- the directives before the first fault, from a cursor on
+abbrev leadingFrom : List ℕ → Cursor → List Directive
+leadingFrom s here = over leadBy s [] (items false (onward s here .tokens))
+
 -- ---- what the loop keeps
 
-pub record Sofar (s text₀ records₀ variables₀ actions₀ text records variables actions : List ℕ) (here : Cursor) (t : Tally) : Type 0 where
+pub record Sofar (version : Version) (s text₀ records₀ variables₀ actions₀ text records variables actions : List ℕ) (here : Cursor) (t : Tally) : Type 0 where
   pub ds : List Directive
   pub whole : directives s ≡ onto ds (ending s (endOf (length s) (onward s here .stop)) (items false (onward s here .tokens)))
+  -- those before it that are asked have their ids
+  pub asked-on : directivesFor version s ≡ askedFor version (t .chained) (leadingFrom s here) (directives s)
   pub tally-is : t ≡ tallyOf ds
   pub written : Written ds text₀ text records₀ records variables₀ variables actions₀ actions
   pub arrived : Arrived s here
@@ -76,15 +87,16 @@ pub record Sofar (s text₀ records₀ variables₀ actions₀ text records vari
   pub variables-low : t .variables ≤ here .place
   pub actions-low : t .actions ≤ here .place
 
-module _ (s text₀ records₀ variables₀ actions₀ : List ℕ) (within : length s ≤ limit) (text-room : length s ≤ length text₀) where
+module _ (version : Version) (s text₀ records₀ variables₀ actions₀ : List ℕ) (within : length s ≤ limit) (text-room : length s ≤ length text₀) where
   abbrev Now : List ℕ → List ℕ → List ℕ → List ℕ → Cursor → Tally → Type 0
-  Now = Sofar s text₀ records₀ variables₀ actions₀
+  Now = Sofar version s text₀ records₀ variables₀ actions₀
 
-  pub begun : (here : Cursor) → here ≡ fresh → Now text₀ records₀ variables₀ actions₀ here (record { directives = 0; text = 0; variables = 0; actions = 0 })
-  unfolding directives reading fresh textsOf listedCounts actionCounts directiveEach eachFrom storedEach
+  pub begun : (here : Cursor) → here ≡ fresh → Now text₀ records₀ variables₀ actions₀ here (record { directives = 0; text = 0; variables = 0; actions = 0; chained = false })
+  unfolding directivesFor leading chainedBy directives reading fresh textsOf listedCounts actionCounts directiveEach eachFrom storedEach
   begun here e = rw e (record {
     ds = [];
     whole = sym (onto-none _);
+    asked-on = refl;
     tally-is = refl;
     written = record { laid = laid-none text₀ 0 (omega arith); recorded = refl; listed = refl; acted = refl };
     arrived = reached-start s;
@@ -114,11 +126,15 @@ module _ (s text₀ records₀ variables₀ actions₀ : List ℕ) (within : len
     -- ---- the end of the text
 
     module _ {scratch scratch′ : List ℕ} {stop : Cursor} (x : None-is s here scratch scratch′ stop) where
-      ends-in : directives s ≡ onto (g .ds) (endOf (length s) stop)
-      unfolding ending items
-      ends-in = g .whole ∙ ap (λ (r : Reading). onto (g .ds) (ending s (endOf (length s) (r .stop)) (items false (r .tokens)))) (x .none)
+      ends-in : directivesFor version s ≡ onto (g .ds) (endOf (length s) stop)
+      unfolding over items
+      ends-in =
+          g .asked-on
+          ∙ ap (λ (r : Reading). askedFor version (t .chained) (over leadBy s [] (items false (r .tokens))) (directives s)) (x .none)
+          ∙ asked-none version (t .chained) (directives s)
+          ∙ g .whole ∙ ap (λ (r : Reading). onto (g .ds) (ending s (endOf (length s) (r .stop)) (items false (r .tokens)))) (x .none)
 
-      pub stopped-early : stop .place < length s → FirstFault s text₀ text (Told.Line Stopped (stop .line .0))
+      stopped-early : stop .place < length s → FirstFault version s text₀ text (Told.Line Stopped (stop .line .0))
       unfolding endOf
       stopped-early h = record {
         fault = stopped (stop .line .0);
@@ -126,7 +142,7 @@ module _ (s text₀ records₀ variables₀ actions₀ : List ℕ) (within : len
         faulted = record { given = refl; left = sym (padded-none (length text₀)) };
       }
 
-      pub all-read : length s ≤ stop .place → AllRead s text₀ text records₀ records variables₀ variables actions₀ actions t
+      all-read : length s ≤ stop .place → AllRead version s text₀ text records₀ records variables₀ variables actions₀ actions t
       unfolding endOf
       all-read h = record {
         ds = g .ds;
@@ -134,6 +150,13 @@ module _ (s text₀ records₀ variables₀ actions₀ : List ℕ) (within : len
         tally-is = g .tally-is;
         written = g .written;
       }
+
+      pub ended : Ends version s text₀ text records₀ records variables₀ variables actions₀ actions (endedIn stop (length s) t)
+      ended = go (ltb (stop .place) (length s)) refl
+        where
+          go : (b : Bool) → ltb (stop .place) (length s) ≡ b → Ends version s text₀ text records₀ records variables₀ variables actions₀ actions (pick b (endedAt Stopped (stop .line .0)) (Ended.All t))
+          go true e = stopped-early (ltb-true (stop .place) (length s) e)
+          go false e = all-read (ltb-false (stop .place) (length s) e)
 
     -- ---- a token
 
@@ -153,6 +176,21 @@ module _ (s text₀ records₀ variables₀ actions₀ : List ℕ) (within : len
       goes-on : directives s ≡ onto (g .ds) (ending s (endOf (length s) (onward s (l .next) .stop)) (items false (u ∷ ts)))
       goes-on = g .whole ∙ ap (λ (r : Reading). onto (g .ds) (ending s (endOf (length s) (r .stop)) (items false (r .tokens)))) (x .more)
 
+      asks-on : directivesFor version s ≡ askedFor version (t .chained) (over leadBy s [] (items false (u ∷ ts))) (directives s)
+      asks-on = g .asked-on ∙ ap (λ (r : Reading). askedFor version (t .chained) (over leadBy s [] (items false (r .tokens))) (directives s)) (x .more)
+
+      -- a fault of the next item is the answer
+      falls : (i : Item) (is : List Item) (f : Fault) → items false (u ∷ ts) ≡ i ∷ is → itemRead s i ≡ bad f → directivesFor version s ≡ bad f
+      unfolding over
+      falls i is f e q =
+          asks-on
+          ∙ ap (λ (j : List Item). askedFor version (t .chained) (over leadBy s [] j) (directives s)) e
+          ∙ ap (λ (r : Result Directive). askedFor version (t .chained) (leadBy r (over leadBy s [] is)) (directives s)) q
+          ∙ asked-none version (t .chained) (directives s)
+          ∙ goes-on
+          ∙ ap (λ (j : List Item). onto (g .ds) (ending s (endOf (length s) (onward s (l .next) .stop)) j)) e
+          ∙ ap (λ (r : Result Directive). onto (g .ds) (before r (ending s (endOf (length s) (onward s (l .next) .stop)) is))) q
+
       -- a Newline or a Comment is passed
       pub passed : roleOf (l .kind) ≡ Closes → Now text records variables actions (l .next) t
       passed e =
@@ -160,6 +198,7 @@ module _ (s text₀ records₀ variables₀ actions₀ : List ℕ) (within : len
           record {
             ds = g .ds;
             whole = goes-on ∙ ap (λ (i : List Item). onto (g .ds) (ending s (endOf (length s) (onward s (l .next) .stop)) i)) (c .1 false);
+            asked-on = asks-on ∙ ap (λ (i : List Item). askedFor version (t .chained) (over leadBy s [] i) (directives s)) (c .1 false);
             tally-is = g .tally-is;
             written = g .written;
             arrived = x .arrived;
@@ -170,13 +209,13 @@ module _ (s text₀ records₀ variables₀ actions₀ : List ℕ) (within : len
           }
 
       -- no directive takes it
-      pub not-taken : roleOf (l .kind) ≡ Argues → FirstFault s text₀ text (Told.Line Untaken (l .line .0))
-      unfolding ending itemRead
+      pub not-taken : roleOf (l .kind) ≡ Argues → FirstFault version s text₀ text (Told.Line Untaken (l .line .0))
+      unfolding over itemRead
       not-taken e =
           let c = argues u ts (ap roleOf (sym kind-is) ∙ e) in
           record {
             fault = untaken (u .line .0);
-            read = goes-on ∙ ap (λ (i : List Item). onto (g .ds) (ending s (endOf (length s) (onward s (l .next) .stop)) i)) (c .2);
+            read = falls (stray u) _ (untaken (u .line .0)) (c .2) refl;
             faulted = record { given = ap (λ (n : ℕ). given 14 (n ∷ [])) line-is; left = sym (padded-none (length text₀)) };
           }
 
@@ -263,13 +302,25 @@ module _ (s text₀ records₀ variables₀ actions₀ : List ℕ) (within : len
         abbrev read : Result Body
         read = bodyBy (shapeOf name) (u .line .0) name (map textOf args)
 
+        opened : items false (u ∷ ts) ≡ joined u args ∷ items true ts
+        opened = opens u ts (ap roleOf (sym kind-is) ∙ o) .1 false
+
         comes-to : (b : Result Body) → sited s (shapeOf name) args read ≡ b → directives s ≡ onto (g .ds) (before (made b) behind)
-        unfolding ending itemRead directiveOf
+        unfolding over itemRead directiveOf
         comes-to b e =
             goes-on
-            ∙ ap (λ (i : List Item). onto (g .ds) (ending s (endOf (length s) (onward s (l .next) .stop)) i)) (opens u ts (ap roleOf (sym kind-is) ∙ o) .1 false)
+            ∙ ap (λ (i : List Item). onto (g .ds) (ending s (endOf (length s) (onward s (l .next) .stop)) i)) opened
             ∙ ap₂ (λ (c : Cursor) (i : List Item). onto (g .ds) (before (directiveOf s u args) (ending s (endOf (length s) c) i))) (y .stop) (y .rest)
             ∙ ap (λ (c : Result Body). onto (g .ds) (before (made c) behind)) e
+
+        -- it is asked for its id before those behind it
+        asks-this : (b : Result Body) → sited s (shapeOf name) args read ≡ b → directivesFor version s ≡ askedFor version (t .chained) (leadBy (made b) (leadingFrom s (r .next))) (directives s)
+        unfolding over itemRead directiveOf
+        asks-this b e =
+            asks-on
+            ∙ ap (λ (i : List Item). askedFor version (t .chained) (over leadBy s [] i) (directives s)) opened
+            ∙ ap (λ (i : List Item). askedFor version (t .chained) (leadBy (directiveOf s u args) (over leadBy s [] i)) (directives s)) (y .rest)
+            ∙ ap (λ (c : Result Body). askedFor version (t .chained) (leadBy (made c) (leadingFrom s (r .next))) (directives s)) e
 
         -- what was taken is where the definition has it
         taken-is : a ≡ argumentsAs (l .len) (l .next .place) args
@@ -300,14 +351,15 @@ module _ (s text₀ records₀ variables₀ actions₀ : List ℕ) (within : len
           read-to : (j : Judged) → Told-of j → Read-to read j
           read-to j z = subst (λ (b : Result Body). Read-to b j) (body-is shape shape-is) (rw list-is at z)
 
-          pub faulty : (f : Told) → Told-of (Judged.Bad f) → FirstFault s text₀ text′ (faultMoved s (l .next) a (l .len) f)
+          pub faulty : (f : Told) → Told-of (Judged.Bad f) → FirstFault version s text₀ text′ (faultMoved s (l .next) a (l .len) f)
           faulty f z = go read refl (read-to (Judged.Bad f) z) standing-there
             where
-              go : (b : Result Body) → read ≡ b → Read-to b (Judged.Bad f) → Where (shapeOf name) args b → FirstFault s text₀ text′ (faultMoved s (l .next) a (l .len) f)
+              go : (b : Result Body) → read ≡ b → Read-to b (Judged.Bad f) → Where (shapeOf name) args b → FirstFault version s text₀ text′ (faultMoved s (l .next) a (l .len) f)
               go (good b) e w h = absurd (never (sym (w .is)))
               go (bad q) e w h = record {
                 fault = sitedFault s (shapeOf name) args q;
-                read = comes-to (bad (sitedFault s (shapeOf name) args q)) (ap (sited s (shapeOf name) args) e);
+                read = asks-this (bad (sitedFault s (shapeOf name) args q)) (ap (sited s (shapeOf name) args) e) ∙ asked-none version (t .chained) (directives s)
+                    ∙ comes-to (bad (sitedFault s (shapeOf name) args q)) (ap (sited s (shapeOf name) args) e);
                 faulted = same-fault long (fault-settled s (l .next) (x .arrived) within (l .len) a taken-is (shapeOf name) q h (subst (Faulted q text text′) (same-told (sym (w .is))) (w .faulted)));
               }
 
@@ -360,6 +412,20 @@ module _ (s text₀ records₀ variables₀ actions₀ : List ℕ) (within : len
             entry-actions : e .actions ≡ actionCount (read-is .whole)
             entry-actions = ap (λ (i : Entry). i .actions) (read-is .entry)
 
+            -- whether it lacks its id, and whether the next rule continues one
+            lacks-is : lacksBy version t e ≡ lacksIdFor version (t .chained) (read-is .whole)
+            lacks-is = ap (lacksBy version t) (read-is .entry) ∙ lacks-entry t (shrunkBy (listText s (l .next))) (read-is .whole) version
+
+            chain-is : chainBehind t e ≡ chainedOn (t .chained) (read-is .whole)
+            chain-is = ap (chainBehind t) (read-is .entry) ∙ chain-entry t (shrunkBy (listText s (l .next))) (read-is .whole)
+
+            pub lacking : lacksBy version t e ≡ true → FirstFault version s text₀ text′ (Told.Line IdMissing (l .line .0))
+            lacking h = record {
+              fault = idMissing (u .line .0);
+              read = asks-this (good (read-is .whole)) (read-is .is) ∙ asked-lacks version (t .chained) d (leadingFrom s (r .next)) (directives s) (sym lacks-is ∙ h);
+              faulted = record { given = ap (λ (n : ℕ). given 18 (n ∷ [])) line-is; left = sym (padded-none (length text₀)) };
+            }
+
             -- what the record and the count ask
             pub put-fits : (l .first ≤ a .past) × ((a .past ≤ limit) × (t .directives ≤ limit))
             put-fits = (omega (arith, first-is, x .ordered, x .ends, y .past-low), (omega (arith, y .past-high, y .arrived .inside), omega (arith, g .directives-low, g .arrived .inside)))
@@ -381,9 +447,9 @@ module _ (s text₀ records₀ variables₀ actions₀ : List ℕ) (within : len
             text-front = text-is ∙ sym (zero-add (length (texts (g .ds))))
 
             -- one directive more
-            pub turned : (records′ : List ℕ) → records′ ≡ stored records (t .directives * directiveWords) (entryRecord (l .line .0) (l .first) (a .past) t e) → (v : Tally) → v ≡ countedOn t e
+            pub turned : lacksBy version t e ≡ false → (records′ : List ℕ) → records′ ≡ stored records (t .directives * directiveWords) (entryRecord (l .line .0) (l .first) (a .past) t e) → (v : Tally) → v ≡ countedOn t e
                 → Now text′ records′ variables″ actions″ (r .next) v
-            turned records′ p v q =
+            turned had records′ p v q =
                 let w = read-is .wrote in
                 let more = g .ds ++ d ∷ [] in
                 let n-text : length (texts more) ≡ length (texts (g .ds)) + length (bodyText (read-is .whole)) = ap length (texts-more (g .ds) d) ∙ length-append (texts (g .ds)) (bodyText (read-is .whole)) in
@@ -396,11 +462,14 @@ module _ (s text₀ records₀ variables₀ actions₀ : List ℕ) (within : len
                 record {
                   ds = more;
                   whole = comes-to (good (read-is .whole)) (read-is .is) ∙ onto-good (g .ds) d behind;
+                  asked-on = asks-this (good (read-is .whole)) (read-is .is) ∙ asked-passed version (t .chained) d (leadingFrom s (r .next)) (directives s) (sym lacks-is ∙ had)
+                      ∙ ap (λ (c : Bool). askedFor version c (leadingFrom s (r .next)) (directives s)) (sym (ap (λ (i : Tally). i .chained) q ∙ chain-is));
                   tally-is = q ∙ same-tally
                       (omega (arith, c-directives, count-more (g .ds) d))
                       (omega (arith, entry-text, text-is, n-text))
                       (omega (arith, entry-variables, c-variables, listed-more (g .ds) d))
-                      (omega (arith, entry-actions, c-actions, acted-more (g .ds) d));
+                      (omega (arith, entry-actions, c-actions, acted-more (g .ds) d))
+                      (chain-is ∙ ap (λ (i : Tally). chainedOn (i .chained) (read-is .whole)) (g .tally-is) ∙ sym (chained-more false (g .ds) d));
                   written = record {
                     laid = subst (Laid text₀ text′ 0) (sym (texts-more (g .ds) d)) (laid-more (g .written .laid) (subst (λ (i : ℕ). Laid text text′ i (bodyText (read-is .whole))) text-front (w .laid)));
                     recorded = p ∙ same-stored (g .written .recorded) at-record record-is ∙ sym (each-more records₀ 0 (directiveEach (reached 0 0 0) (g .ds)) (directiveRecord (pastAll (reached 0 0 0) (g .ds)) d))

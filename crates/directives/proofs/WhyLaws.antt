@@ -9,7 +9,7 @@ use Rattle.directives.specs.Promises.{lineNumber, argumentNumber}
 use Rattle.directives.specs.declared.ArgumentFault.{ArgumentFault}
 use Rattle.directives.specs.declared.ArgumentFault.the-variants.{UnknownVariable, UnknownOperator, UnknownAction, BadArgument}
 use Rattle.directives.specs.declared.LineFault.{LineFault}
-use Rattle.directives.specs.declared.LineFault.the-variants.{WrongCount, Untaken, Stopped}
+use Rattle.directives.specs.declared.LineFault.the-variants.{WrongCount, Untaken, Stopped, IdMissing}
 
 pub flaw-high : (flaw : Flaw) → 10 ≤ flawNumber flaw
 flaw-high Flaw.Absent = omega arith
@@ -31,6 +31,7 @@ pub line-high : (why : LineFault) → 13 ≤ lineNumber why
 line-high WrongCount = omega arith
 line-high Untaken = omega arith
 line-high Stopped = omega arith
+line-high IdMissing = omega arith
 
 pub refused-low : (f : Refusal) → refused f .number ≤ 12
 refused-low tooLong = omega arith

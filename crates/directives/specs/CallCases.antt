@@ -1,4 +1,4 @@
--- Worked calls of M-100 on memory that is not zero: 3 before any fault, 4 after all, and what is left.
+-- Worked calls of M-100, for 2.6, on memory that is not zero: 3 before any fault, 4 after all, and what is left.
 use mathlib.Core.Path.{_≡_, refl}
 use Prim.Native.Nat.{ℕ}
 use Prim.Native.String.{String}
@@ -9,19 +9,20 @@ use Rattle.lent.specs.Sizes.{roomFor, spanWord}
 use Rattle.lent.specs.Gates.{firstHigh, gateOf}
 use Rattle.lent.specs.Table.{Given, given}
 use Rattle.lent.specs.Buffers.{zeros, padded}
+use Rattle.directives.specs.Versions.{TwoSix, directivesFor}
 use Rattle.directives.specs.Table.{givenBy}
 use Rattle.directives.specs.Promises.{directivesOutcome, Lent, lentOf, outcomeOn, leftBy}
 use Rattle.directives.specs.Cases.{Seen, Comes}
 
 abbrev called : List ℕ → Lent → Seen
-called s m = record { answer = givenBy (outcomeOn s m); left = leftBy (outcomeOn s m) m }
+called s m = record { answer = givenBy (outcomeOn TwoSix s m); left = leftBy (outcomeOn TwoSix s m) m }
 
 -- A call on buffers of sevens, of these lengths.
 abbrev sevens : ℕ → ℕ → ℕ → ℕ → ℕ → Lent
 sevens t k d v a = lentOf (replicate t 7) (replicate k 7) (replicate d 7) (replicate v 7) (replicate a 7)
 
 unfoldable pub Calls : String → Lent → Given → Lent → Type 0
-unfolding Comes roomFor firstHigh gateOf directivesOutcome
+unfolding Comes roomFor firstHigh gateOf directivesFor directivesOutcome
 Calls s m g left = called (bytes s) m ≡ record { answer = g; left = left }
 
 -- 11 bytes of text, or of scratch, for 12: nothing is touched

@@ -19,7 +19,7 @@ use Rattle.records.specs.Layout.{actionRecord}
 use Rattle.actions.specs.Cases as Actions
 use Rattle.places.specs.Tables.{wording, stays, staysNext, quotingBy}
 use Rattle.directives.specs.Groups.{argumentsOf, items}
-use Rattle.directives.specs.Directives.{Directive, Result, bad, good, shapeOf, lastPast, siteAt, argumentSite, listSite, directiveOf, itemRead, ending, endOf, directives}
+use Rattle.directives.specs.Directives.{over, Directive, Result, bad, good, shapeOf, lastPast, siteAt, argumentSite, listSite, directiveOf, itemRead, endOf, directives}
 use Rattle.directives.specs.Layout.{bodyText, listedCounts, actionCounts, directivesFrom}
 use Rattle.directives.specs.Table.{Outcome, faulty, filled, givenBy}
 use Rattle.directives.specs.Promises.{laidOut, Lent, lentOf, leftBy}
@@ -42,7 +42,7 @@ seen o = record { answer = givenBy (roomy o); left = leftBy (roomy o) (lent [] [
 
 -- To unfold it is to unfold every definition that a text is read by.
 unfoldable pub Comes : String → Seen → Type 0
-unfolding Lexer.Reads Variables.Reads targetsOf Operators.Reads Operators.NamePlace Actions.Comes wording stays staysNext quotingBy textsOf wordsOf spanWord actionText actionRecord argumentsOf items shapeOf lastPast siteAt argumentSite listSite directiveOf itemRead ending endOf directives bodyText listedCounts actionCounts directivesFrom
+unfolding Lexer.Reads Variables.Reads targetsOf Operators.Reads Operators.NamePlace Actions.Comes wording stays staysNext quotingBy textsOf wordsOf spanWord actionText actionRecord argumentsOf items shapeOf lastPast siteAt argumentSite listSite directiveOf itemRead over endOf directives bodyText listedCounts actionCounts directivesFrom
 Comes s x = seen (directives (bytes s)) ≡ x
 
 -- A text that is read: values, texts, directive, variable and action words.

@@ -60,6 +60,8 @@ pub data Fault : Type 0 where
   untaken : ℕ → Fault
   -- 15: the stop's line
   stopped : ℕ → Fault
+  -- 18: the directive's line
+  idMissing : ℕ → Fault
   -- 5, 7, 8 and 10 to 12: the directive's line, and what its argument is refused for
   within : ℕ → Refusal → Fault
 
@@ -197,6 +199,7 @@ abbrev pub sitedFault : List ℕ → Shape → List Token → Fault → Fault
 sitedFault s shape args (wrongCount l) = wrongCount l
 sitedFault s shape args (untaken l) = untaken l
 sitedFault s shape args (stopped l) = stopped l
+sitedFault s shape args (idMissing l) = idMissing l
 sitedFault s shape args (within l f) = within l (resited (refusalSite s shape args f) f)
 
 abbrev pub sited : List ℕ → Shape → List Token → Result Body → Result Body
@@ -229,15 +232,19 @@ before (bad f) o = bad f
 before (good d) (bad f) = bad f
 before (good d) (good ds) = good (d ∷ ds)
 
--- Items in text order, and behind them what the text ends in.
-unfoldable pub ending : List ℕ → Result (List Directive) → List Item → Result (List Directive)
-ending s o [] = o
-ending s o (x ∷ xs) = before (itemRead s x) (ending s o xs)
+-- Items in text order, each by what it is read to, before what follows it; behind the last stands o.
+unfoldable pub over : {A : Type 0} → (Result Directive → A → A) → List ℕ → A → List Item → A
+over step s o [] = o
+over step s o (x ∷ xs) = step (itemRead s x) (over step s o xs)
+
+-- Items, and behind them what the text ends in.
+abbrev pub ending : List ℕ → Result (List Directive) → List Item → Result (List Directive)
+ending = over before
 
 -- The end of a text of n bytes: nothing follows, or 15 where the lexer stopped early. It stands behind all items, so it is judged last.
 unfoldable pub endOf : ℕ → Cursor → Result (List Directive)
 endOf n c = pick (ltb (c .place) n) (bad (stopped (c .line .0))) (good [])
 
--- The directives of a text, or its first fault.
+-- The directives of a text, or its first fault; whether a rule has an id is asked in Versions.
 unfoldable pub directives : List ℕ → Result (List Directive)
 directives s = ending s (endOf (length s) (reading s .stop)) (items false (reading s .tokens))

@@ -13,7 +13,8 @@ use Rattle.lexer.specs.Places.{feeds}
 use Rattle.lexer.specs.Parts.{raised, among, Closed}
 use Rattle.lexer.specs.Calls.{Ascii}
 use Rattle.directives.specs.Groups.{Item, joined, stray, items}
-use Rattle.directives.specs.Directives.{listed, Body, rule, act, marker, defaults, unknown, Directive, Fault, wrongCount, untaken, stopped, within, Result, bad, good, ending, directives}
+use Rattle.directives.specs.Directives.{listed, Body, rule, act, marker, defaults, unknown, Directive, Fault, wrongCount, untaken, stopped, idMissing, within, Result, bad, good, ending, directives}
+use Rattle.directives.specs.Versions.{Version, directivesFor}
 use Rattle.directives.specs.Table.{Filled, Outcome, shut, faulty, overfull, filled}
 use Rattle.directives.specs.Promises.{Lent, Directives}
 use Rattle.directives.specs.declared.Answer.{Answer}
@@ -54,6 +55,7 @@ abbrev pub raisedFault : ℕ → ℕ → Fault → Fault
 raisedFault d l (wrongCount n) = wrongCount (l + n)
 raisedFault d l (untaken n) = untaken (l + n)
 raisedFault d l (stopped n) = stopped (l + n)
+raisedFault d l (idMissing n) = idMissing (l + n)
 raisedFault d l (within n f) = within (l + n) (resited (raisedPart d) f)
 
 abbrev pub raisedDirective : ℕ → ℕ → Directive → Directive
@@ -87,6 +89,7 @@ abbrev pub erasedFault : Fault → Fault
 erasedFault (wrongCount n) = wrongCount n
 erasedFault (untaken n) = untaken n
 erasedFault (stopped n) = stopped n
+erasedFault (idMissing n) = idMissing n
 erasedFault (within n f) = within n (resited nowhere f)
 
 abbrev pub erasedAll : Result (List Directive) → Result (List Directive)
@@ -127,11 +130,12 @@ unspannedOutcome (filled x) = filled (unspannedFilled x)
 -- ---- the theorem
 
 -- Another idle line in an idle line's place: each text's directives are the front's, and behind them the rest's further on, so that
--- those before the line are the same and those behind it differ in their spans only, by the difference in length; so do faults.
+-- those before the line are the same and those behind it differ in their spans only, by the difference in length; so do faults. For
+-- either version nothing but spans differs.
 pub record Unmoved (front line line′ rest : List ℕ) : Type 0 where
   pub old : directives (front ++ line ++ rest) ≡ behind front (restBehind front line rest)
   pub new : directives (front ++ line′ ++ rest) ≡ behind front (restBehind front line′ rest)
-  pub same : erasedAll (directives (front ++ line ++ rest)) ≡ erasedAll (directives (front ++ line′ ++ rest))
+  pub same : (v : Version) → erasedAll (directivesFor v (front ++ line ++ rest)) ≡ erasedAll (directivesFor v (front ++ line′ ++ rest))
 
 -- A text that passes 1 to 3 on what is lent.
 pub record Fits (s : List ℕ) (m : Lent) : Type 0 where
@@ -140,12 +144,12 @@ pub record Fits (s : List ℕ) (m : Lent) : Type 0 where
   pub texts-fit : length s ≤ length (m .text)
   pub scratch-fits : length s ≤ length (m .scratch)
 
--- A call on lent memory, of which only the promise is known.
-pub record Called (s : List ℕ) (m : Lent) : Type 0 where
+-- A call for a version on lent memory, of which only the promise is known.
+pub record Called (v : Version) (s : List ℕ) (m : Lent) : Type 0 where
   pub after : Lent
   pub reply : Answer
   pub fits : Fits s m
-  pub promise : Directives s m after reply
+  pub promise : Directives v s m after reply
 
 -- Lent memory of the same lengths.
 pub record Alike (m n : Lent) : Type 0 where
@@ -166,7 +170,7 @@ unspannedReply (Answer.Refused (Told.Argument why line at len span)) = Answer.Re
 unspannedReply (Answer.NoRoom directives variables actions) = Answer.NoRoom directives variables actions
 
 -- Two calls that tell the same: number and values, and all lent memory, but for spans in the input.
-pub record SameTold {s s′ : List ℕ} {m n : Lent} (k : Called s m) (k′ : Called s′ n) : Type 0 where
+pub record SameTold {v : Version} {s s′ : List ℕ} {m n : Lent} (k : Called v s m) (k′ : Called v s′ n) : Type 0 where
   pub answer : unspannedReply (k .reply) ≡ unspannedReply (k′ .reply)
   pub text : k .after .text ≡ k′ .after .text
   pub scratch : k .after .scratch ≡ k′ .after .scratch
@@ -177,5 +181,5 @@ pub record SameTold {s s′ : List ℕ} {m n : Lent} (k : Called s m) (k′ : Ca
 -- M-100's theorem in one place: over the definitions, and over the promise of the public call.
 pub record WholeDirectives : Type 0 where
   pub replaced : (front line line′ rest : List ℕ) → Closed front → Idle line → Idle line′ → Unmoved front line line′ rest
-  pub two-calls : (front line line′ rest : List ℕ) → Closed front → Idle line → Idle line′ → {m n : Lent} → Alike m n
-      → (k : Called (front ++ line ++ rest) m) (k′ : Called (front ++ line′ ++ rest) n) → SameTold k k′
+  pub two-calls : (front line line′ rest : List ℕ) → Closed front → Idle line → Idle line′ → {v : Version} {m n : Lent} → Alike m n
+      → (k : Called v (front ++ line ++ rest) m) (k′ : Called v (front ++ line′ ++ rest) n) → SameTold k k′

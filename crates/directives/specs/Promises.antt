@@ -9,11 +9,12 @@ use Rattle.ascii.specs.Choice.{pick, or}
 use Rattle.lent.specs.Sizes.{variableWords, actionWords, directiveWords, roomFor}
 use Rattle.lent.specs.Gates.{gateOf}
 use Rattle.lent.specs.Table.{Given, given, flawNumber, tooLong, notAscii, shortBuffer, refused}
-use Rattle.directives.specs.Directives.{Directive, Result, bad, good, directives}
+use Rattle.directives.specs.Directives.{Directive, Result, bad, good}
 use Rattle.directives.specs.Layout.{reached, texts, listedCounts, actionCounts, directivesFrom, variablesFrom, actionsFrom}
+use Rattle.directives.specs.Versions.{Version, directivesFor}
 use Rattle.directives.specs.Table.{Filled, Outcome, faulty, overfull, filled, pastGate, givenBy, textBy, recordsBy, scratchBy}
 use Rattle.directives.specs.declared.LineFault.{LineFault}
-use Rattle.directives.specs.declared.LineFault.the-variants.{WrongCount, Untaken, Stopped}
+use Rattle.directives.specs.declared.LineFault.the-variants.{WrongCount, Untaken, Stopped, IdMissing}
 use Rattle.directives.specs.declared.ArgumentFault.{ArgumentFault}
 use Rattle.directives.specs.declared.ArgumentFault.the-variants.{UnknownVariable, UnknownOperator, UnknownAction, BadArgument}
 use Rattle.directives.specs.declared.Fault.{Fault}
@@ -26,6 +27,7 @@ abbrev pub lineNumber : LineFault → ℕ
 lineNumber WrongCount = 13
 lineNumber Untaken = 14
 lineNumber Stopped = 15
+lineNumber IdMissing = 18
 
 abbrev pub argumentNumber : ArgumentFault → ℕ
 argumentNumber UnknownVariable = 7
@@ -89,9 +91,9 @@ abbrev pub roomed : Rooms → Result (List Directive) → Outcome
 roomed m (bad f) = faulty f
 roomed m (good ds) = pick (lacks m ds) (overfull (length ds) (listedCounts ds) (actionCounts ds)) (filled (laidOut ds))
 
--- What a call comes to, with n bytes of text and k of scratch lent: 1 to 3, the first fault in text order, then 4.
-unfoldable pub directivesOutcome : List ℕ → ℕ → ℕ → Rooms → Outcome
-directivesOutcome s n k m = pastGate (gateOf s (min n k) (length s)) (roomed m (directives s))
+-- What a call comes to for a version, with n bytes of text and k of scratch lent: 1 to 3, the first fault in text order, then 4.
+unfoldable pub directivesOutcome : Version → List ℕ → ℕ → ℕ → Rooms → Outcome
+directivesOutcome v s n k m = pastGate (gateOf s (min n k) (length s)) (roomed m (directivesFor v s))
 
 -- What is lent: two byte buffers and three record buffers.
 pub record Lent : Type 0 where
@@ -107,8 +109,8 @@ lentOf t k d v a = record { text = t; scratch = k; directives = d; variables = v
 abbrev pub roomsOf : Lent → Rooms
 roomsOf m = rooms (length (m .directives)) (length (m .variables)) (length (m .actions))
 
-abbrev pub outcomeOn : List ℕ → Lent → Outcome
-outcomeOn s m = directivesOutcome s (length (m .text)) (length (m .scratch)) (roomsOf m)
+abbrev pub outcomeOn : Version → List ℕ → Lent → Outcome
+outcomeOn v s m = directivesOutcome v s (length (m .text)) (length (m .scratch)) (roomsOf m)
 
 -- All of it afterwards.
 abbrev pub leftBy : Outcome → Lent → Lent
@@ -120,10 +122,10 @@ leftBy o m = record {
   actions = recordsBy (λ x. x .actions) o (m .actions);
 }
 
-pub record Directives (s : List ℕ) (m m′ : Lent) (r : Answer) : Type 0 where
-  pub answer : answerGiven r ≡ givenBy (outcomeOn s m)
-  pub text : m′ .text ≡ textBy (outcomeOn s m) (m .text)
-  pub scratch : m′ .scratch ≡ scratchBy (outcomeOn s m) (m .scratch)
-  pub directives : m′ .directives ≡ recordsBy (λ x. x .directives) (outcomeOn s m) (m .directives)
-  pub variables : m′ .variables ≡ recordsBy (λ x. x .variables) (outcomeOn s m) (m .variables)
-  pub actions : m′ .actions ≡ recordsBy (λ x. x .actions) (outcomeOn s m) (m .actions)
+pub record Directives (v : Version) (s : List ℕ) (m m′ : Lent) (r : Answer) : Type 0 where
+  pub answer : answerGiven r ≡ givenBy (outcomeOn v s m)
+  pub text : m′ .text ≡ textBy (outcomeOn v s m) (m .text)
+  pub scratch : m′ .scratch ≡ scratchBy (outcomeOn v s m) (m .scratch)
+  pub directives : m′ .directives ≡ recordsBy (λ x. x .directives) (outcomeOn v s m) (m .directives)
+  pub variables : m′ .variables ≡ recordsBy (λ x. x .variables) (outcomeOn v s m) (m .variables)
+  pub actions : m′ .actions ≡ recordsBy (λ x. x .actions) (outcomeOn v s m) (m .actions)

@@ -1,7 +1,7 @@
 -- What the private functions promise, from a token to the whole text.
 use mathlib.Core.Path.{_≡_}
 use Prim.Native.Nat.{ℕ, zero, suc, _+_, _-_, _*_, _≤_, _<_}
-use mathlib.Core.Bool.{Bool, true, false}
+use mathlib.Core.Bool.{Bool, true, false, not}
 use mathlib.Core.List.{List, [], _∷_, _++_}
 use lib.ListN.{length, take, drop}
 use lib.Dec.{ltb, leb, eqb}
@@ -25,13 +25,17 @@ use Rattle.variables.specs.Cores as Cores
 use Rattle.operators.specs.Operators.{Spec}
 use Rattle.records.specs.Actions.{Action}
 use Rattle.records.specs.Layout as Acts
-use Rattle.actions.specs.Cores.{reachedFrom, coreGiven, coreRecords}
+use Rattle.records.specs.Codes.{idCode, chainCode}
+use Rattle.actions.specs.Having.{has}
+use Rattle.actions.specs.Cores.{coreReached, coreRecords}
 use Rattle.directives.specs.Groups.{argumentsOf, items}
-use Rattle.directives.specs.Directives.{Listed, Body, rule, act, marker, defaults, unknown, Directive, Fault, within, Result, bad, good, actionsRead, Shape, ofRule, ofAction, ofMarker, ofDefaults, ofOther, lastPast, standing, directives}
+use Rattle.directives.specs.Directives.{Listed, Body, rule, act, marker, defaults, unknown, Directive, Fault, within, Result, bad, good, actionsRead, Shape, ofRule, ofAction, ofMarker, ofDefaults, ofOther, lastPast, standing}
 use Rattle.directives.specs.Layout.{Reached, reached, pastBody, kindCode, nameSlot, listedIn, actionsIn, negatedWord, operatorWord, argumentSlot, nameEnd, listedEnd, argumentEnd, bodyText, directiveText, directiveRecord, listedCount, actionCount, texts, listedCounts, actionCounts}
+use Rattle.directives.specs.Versions.{Version, TwoSix, TwoSeven, chainedOn, directivesFor}
 use Rattle.directives.specs.Table.{nameLeft, faultGiven, faultName}
 use Rattle.directives.specs.Promises.{faultTold, naming}
 use Rattle.directives.specs.declared.LineFault.{LineFault}
+use Rattle.directives.specs.declared.LineFault.the-variants.{Stopped}
 use Rattle.directives.specs.declared.ArgumentFault.{ArgumentFault}
 use Rattle.directives.specs.declared.Fault.{Fault as Told}
 use Rattle.directives.specs.declared.Fault.the-variants as Told
@@ -176,6 +180,8 @@ entryOf r shrunk x = record {
   actions = actionCount x;
   text = r .text + length (bodyText x);
   shrunk = shrunkFor x shrunk;
+  id = has idCode (actionsIn x);
+  chain = has chainCode (actionsIn x);
 }
 
 -- The records of its variables and exclusions, and of its actions, one by one, its texts starting at o.
@@ -195,20 +201,21 @@ inArgument why line at len span = Told.Argument why line at len span
 
 -- An entry of that kind with nothing read yet; and one that is given more: a name, variables, an operator, actions.
 abbrev pub emptyEntry : ℕ → ℕ → Entry
-emptyEntry kind text = record { kind = kind; name = 0; negated = 0; operator = 0; argument = 0; variables = 0; actions = 0; text = text; shrunk = 0 }
+emptyEntry kind text = record { kind = kind; name = 0; negated = 0; operator = 0; argument = 0; variables = 0; actions = 0; text = text; shrunk = 0; id = false; chain = false }
 
 abbrev pub withName : Entry → ℕ → ℕ → Entry
-withName e name text = record { kind = e .kind; name = name; negated = e .negated; operator = e .operator; argument = e .argument; variables = e .variables; actions = e .actions; text = text; shrunk = e .shrunk }
+withName e name text = record { kind = e .kind; name = name; negated = e .negated; operator = e .operator; argument = e .argument; variables = e .variables; actions = e .actions; text = text; shrunk = e .shrunk; id = e .id; chain = e .chain }
 
 abbrev pub withVariables : Entry → ℕ → ℕ → Entry
-withVariables e n text = record { kind = e .kind; name = e .name; negated = e .negated; operator = e .operator; argument = e .argument; variables = n; actions = e .actions; text = text; shrunk = e .shrunk }
+withVariables e n text = record { kind = e .kind; name = e .name; negated = e .negated; operator = e .operator; argument = e .argument; variables = n; actions = e .actions; text = text; shrunk = e .shrunk; id = e .id; chain = e .chain }
 
 abbrev pub withOperator : Entry → ℕ → ℕ → ℕ → ℕ → Entry
 withOperator e negated operator argument text =
-    record { kind = e .kind; name = e .name; negated = negated; operator = operator; argument = argument; variables = e .variables; actions = e .actions; text = text; shrunk = e .shrunk }
+    record { kind = e .kind; name = e .name; negated = negated; operator = operator; argument = argument; variables = e .variables; actions = e .actions; text = text; shrunk = e .shrunk; id = e .id; chain = e .chain }
 
-abbrev pub withActions : Entry → ℕ → ℕ → ℕ → Entry
-withActions e n text shrunk = record { kind = e .kind; name = e .name; negated = e .negated; operator = e .operator; argument = e .argument; variables = e .variables; actions = n; text = text; shrunk = shrunk }
+abbrev pub withActions : Entry → ℕ → ℕ → ℕ → Bool → Bool → Entry
+withActions e n text shrunk id chain =
+    record { kind = e .kind; name = e .name; negated = e .negated; operator = e .operator; argument = e .argument; variables = e .variables; actions = n; text = text; shrunk = shrunk; id = id; chain = chain }
 
 -- One part read into an entry: what it grew to, its text laid, and the records that are left.
 pub record Grew (e : Entry) (at : ℕ) (xs text text′ words records′ : List ℕ) (r : Judged) : Type 0 where
@@ -237,7 +244,7 @@ AddsOperator e line text text′ (refuses f) = Fell (within line f) text text′
 
 abbrev pub AddsActions : Entry → ℕ → ℕ → List ℕ → List ℕ → List ℕ → List ℕ → Outcome (List (Sourced Action)) → ℕ → Judged → Type 0
 AddsActions e line place text text′ records records′ (reads xs) shrunk =
-    Grew (withActions e (length xs) (e .text + length (Acts.texts xs)) shrunk) (e .text) (Acts.texts xs) text text′
+    Grew (withActions e (length xs) (e .text + length (Acts.texts xs)) shrunk (has idCode xs) (has chainCode xs)) (e .text) (Acts.texts xs) text text′
     (storedEach records (place * actionWords) (Acts.recordsFrom (e .text) xs)) records′
 AddsActions e line place text text′ records records′ (refuses f) shrunk = Fell (within line f) text text′
 
@@ -248,7 +255,7 @@ ListLeft (refuses f) used text text′ = text′ ≡ padded (length text) (nameL
 
 pub record ListRead (s : List ℕ) (used place : ℕ) (text text′ records records′ : List ℕ) (r : ListAnswer) : Type 0 where
   pub shrunk : r .shrunk ≡ shrunkBy s
-  pub answer : r .reached ≡ reachedFrom (coreGiven used (actionsRead s))
+  pub answer : r .reached ≡ coreReached used (actionsRead s)
   pub left : ListLeft (actionsRead s) used text text′
   pub words : records′ ≡ coreRecords used place records (actionsRead s)
 
@@ -305,19 +312,39 @@ abbrev pub entryRecord : ℕ → ℕ → ℕ → Tally → Entry → List ℕ
 entryRecord line first past t e =
     e .kind ∷ line ∷ spanWord first (past - first) ∷ e .name ∷ e .negated ∷ e .operator ∷ e .argument ∷ t .variables ∷ e .variables ∷ t .actions ∷ e .actions ∷ []
 
+-- A rule, by the kind of its record.
+abbrev pub ruleKind : ℕ → Bool
+ruleKind k = or (eqb k 1) (eqb k 2)
+
+-- Whether the next rule continues one, and whether this one lacks an id, by entries.
+abbrev pub chainBehind : Tally → Entry → Bool
+chainBehind t e = pick (ruleKind (e .kind)) (e .chain) (t .chained)
+
+abbrev pub lacksBy : Version → Tally → Entry → Bool
+lacksBy TwoSix t e = false
+lacksBy TwoSeven t e = and (ruleKind (e .kind)) (and (not (t .chained)) (not (e .id)))
+
+-- And behind directives.
+unfoldable pub chainedBy : Bool → List Directive → Bool
+chainedBy chained [] = chained
+chainedBy chained (d ∷ ds) = chainedBy (chainedOn chained (d .body)) ds
+
 -- What is reached behind directives.
 abbrev pub tallyOf : List Directive → Tally
-tallyOf ds = record { directives = length ds; text = length (texts ds); variables = listedCounts ds; actions = actionCounts ds }
+tallyOf ds = record { directives = length ds; text = length (texts ds); variables = listedCounts ds; actions = actionCounts ds; chained = chainedBy false ds }
 
 abbrev pub endedAt : LineFault → ℕ → Ended
 endedAt why line = Ended.First (Told.Line why line)
 
+abbrev pub endedIn : Cursor → ℕ → Tally → Ended
+endedIn stop n t = pick (ltb (stop .place) n) (endedAt Stopped (stop .line .0)) (Ended.All t)
+
 -- Behind none, and behind one more.
 abbrev pub emptyTally : Tally
-emptyTally = record { directives = 0; text = 0; variables = 0; actions = 0 }
+emptyTally = record { directives = 0; text = 0; variables = 0; actions = 0; chained = false }
 
 abbrev pub countedOn : Tally → Entry → Tally
-countedOn t e = record { directives = t .directives + 1; text = e .text; variables = t .variables + e .variables; actions = t .actions + e .actions }
+countedOn t e = record { directives = t .directives + 1; text = e .text; variables = t .variables + e .variables; actions = t .actions + e .actions; chained = chainBehind t e }
 
 -- Their records one by one.
 unfoldable pub directiveEach : Reached → List Directive → List (List ℕ)
@@ -336,20 +363,20 @@ pub record Written (ds : List Directive) (text text′ records records′ variab
   pub listed : variables′ ≡ storedEach variables 0 (eachFrom listedEach 0 ds)
   pub acted : actions′ ≡ storedEach actions 0 (eachFrom actedEach 0 ds)
 
-pub record AllRead (s text text′ records records′ variables variables′ actions actions′ : List ℕ) (t : Tally) : Type 0 where
+pub record AllRead (v : Version) (s text text′ records records′ variables variables′ actions actions′ : List ℕ) (t : Tally) : Type 0 where
   pub ds : List Directive
-  pub read : directives s ≡ good ds
+  pub read : directivesFor v s ≡ good ds
   pub tally-is : t ≡ tallyOf ds
   pub written : Written ds text text′ records records′ variables variables′ actions actions′
 
-pub record FirstFault (s text text′ : List ℕ) (r : Told) : Type 0 where
+pub record FirstFault (v : Version) (s text text′ : List ℕ) (r : Told) : Type 0 where
   pub fault : Fault
-  pub read : directives s ≡ bad fault
+  pub read : directivesFor v s ≡ bad fault
   pub faulted : Faulted fault text text′ r
 
-abbrev pub Ends : List ℕ → List ℕ → List ℕ → List ℕ → List ℕ → List ℕ → List ℕ → List ℕ → List ℕ → Ended → Type 0
-Ends s text text′ records records′ variables variables′ actions actions′ (Ended.All t) = AllRead s text text′ records records′ variables variables′ actions actions′ t
-Ends s text text′ records records′ variables variables′ actions actions′ (Ended.First f) = FirstFault s text text′ f
+abbrev pub Ends : Version → List ℕ → List ℕ → List ℕ → List ℕ → List ℕ → List ℕ → List ℕ → List ℕ → List ℕ → Ended → Type 0
+Ends v s text text′ records records′ variables variables′ actions actions′ (Ended.All t) = AllRead v s text text′ records records′ variables variables′ actions actions′ t
+Ends v s text text′ records records′ variables variables′ actions actions′ (Ended.First f) = FirstFault v s text text′ f
 
 -- ---- the endings
 

@@ -6,7 +6,7 @@ use Rattle.lent.specs.Buffers.{zeros, padded}
 use Rattle.lent.specs.Table.{Given, given, Refusal, tooLong, notAscii, shortBuffer, noRoom, named, unknownOperator, badCursor, refused}
 use Rattle.lent.specs.declared.gating.Gate.{Gate}
 use Rattle.lent.specs.declared.gating.Gate.the-variants.{Open, TooLong, NotAscii, Short}
-use Rattle.directives.specs.Directives.{Fault, wrongCount, untaken, stopped, within}
+use Rattle.directives.specs.Directives.{Fault, wrongCount, untaken, stopped, idMissing, within}
 
 -- Row 0: values, texts, and the words of the three record buffers.
 pub record Filled : Type 0 where
@@ -19,7 +19,7 @@ pub record Filled : Type 0 where
 pub data Outcome : Type 0 where
   -- 1 to 3
   shut : Refusal → Outcome
-  -- 5, 7, 8 and 10 to 15
+  -- 5, 7, 8, 10 to 15 and 18
   faulty : Fault → Outcome
   -- 4: directive, variable and action records needed
   overfull : ℕ → ℕ → ℕ → Outcome
@@ -37,6 +37,7 @@ abbrev pub faultGiven : Fault → Given
 faultGiven (wrongCount l) = given 13 (l ∷ [])
 faultGiven (untaken l) = given 14 (l ∷ [])
 faultGiven (stopped l) = given 15 (l ∷ [])
+faultGiven (idMissing l) = given 18 (l ∷ [])
 faultGiven (within l f) = given (refused f .number) (l ∷ refused f .values)
 
 abbrev pub givenBy : Outcome → Given
@@ -59,6 +60,7 @@ abbrev pub faultName : Fault → List ℕ
 faultName (wrongCount l) = []
 faultName (untaken l) = []
 faultName (stopped l) = []
+faultName (idMissing l) = []
 faultName (within l f) = nameLeft f
 
 -- The text buffer.

@@ -1,6 +1,8 @@
-// Whole directives (document 02, M-100): the tokens of a text joined, their arguments read by the parsers, and all of it laid out in lent memory.
+// Whole directives (document 02, M-100 and M-108): the tokens of a text joined, their arguments read by the parsers, and all of it laid out
+// in lent memory.
 mod arguments;
 mod bodies;
+mod chains;
 mod parts;
 mod reading;
 mod settling;
@@ -12,12 +14,19 @@ mod writing;
 use lent::Flaw;
 pub use reading::directives;
 
+// The version of ModSecurity that a package is written for: from 2.7 a rule that continues none must have an id.
+pub enum Version {
+    TwoSix,
+    TwoSeven,
+}
+
 // Why a line is refused.
 pub enum LineFault {
-    // 13, 14 and 15
+    // 13, 14, 15 and 18
     WrongCount,
     Untaken,
     Stopped,
+    IdMissing,
 }
 
 // Why an argument of a directive is refused.
@@ -62,7 +71,7 @@ pub enum Answer {
     NotAscii(usize),
     // 3
     Short,
-    // 5, 7, 8 and 10 to 15
+    // 5, 7, 8, 10 to 15 and 18
     Refused(Fault),
     // 4: the records needed of each kind
     NoRoom {

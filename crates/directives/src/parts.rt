@@ -18,16 +18,18 @@ use operators::Answer as Operator;
 use variables::Exclusions;
 use variables::Reached as Targets;
 
-// How many directives, bytes of text and records of the other two kinds are reached in lent memory.
+// How many directives, bytes of text and records of the other two kinds are reached in lent memory, and whether the next rule continues
+// one.
 pub struct Tally {
     pub directives: usize,
     pub text: usize,
     pub variables: usize,
     pub actions: usize,
+    pub chained: bool,
 }
 
-// What a directive's record has of its own, the offset past its texts, and by how much its list of actions was shorter when it was
-// normalised.
+// What a directive's record has of its own, the offset past its texts, by how much its list of actions was shorter when it was
+// normalised, and whether an id and `chain` are in that list.
 pub struct Entry {
     pub kind: u64,
     pub name: u64,
@@ -38,6 +40,8 @@ pub struct Entry {
     pub actions: usize,
     pub text: usize,
     pub shrunk: usize,
+    pub id: bool,
+    pub chain: bool,
 }
 
 pub enum Judged {
@@ -77,6 +81,8 @@ pub fn empty_entry(kind: u64, text: usize) -> Entry
         actions: 0,
         text,
         shrunk: 0,
+        id: false,
+        chain: false,
     }
 }
 
@@ -98,6 +104,8 @@ pub fn add_name(e: Entry, name: &[u8], text: &mut [u8]) -> Entry
         actions: e.actions,
         text: at + len,
         shrunk: e.shrunk,
+        id: e.id,
+        chain: e.chain,
     }
 }
 
@@ -136,6 +144,8 @@ pub fn add_variables(
             actions: e.actions,
             text: offset,
             shrunk: e.shrunk,
+            id: e.id,
+            chain: e.chain,
         }),
     }
 }
@@ -165,6 +175,8 @@ pub fn add_operator(e: Entry, line: usize, s: &[u8], text: &mut [u8]) -> Judged
                 actions: e.actions,
                 text: at + len,
                 shrunk: e.shrunk,
+                id: e.id,
+                chain: e.chain,
             })
         }
         Operator::Unknown { place, len } => {
@@ -231,7 +243,12 @@ pub fn add_actions(
     let list = read_list(scratch, first, past, text, used, records, place);
     let reached = list.reached;
     match reached {
-        Reached::Read { count, offset } => Judged::Good(Entry {
+        Reached::Read {
+            count,
+            offset,
+            id,
+            chain,
+        } => Judged::Good(Entry {
             kind: e.kind,
             name: e.name,
             negated: e.negated,
@@ -241,6 +258,8 @@ pub fn add_actions(
             actions: count,
             text: offset,
             shrunk: list.shrunk,
+            id,
+            chain,
         }),
         Reached::Unknown { piece, name, span } => {
             Judged::Bad(in_argument(ArgumentFault::UnknownAction, line, piece, name, span))
