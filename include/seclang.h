@@ -9,20 +9,24 @@
  * null. A bool is 0 or 1. Lengths of records and values are in words, not bytes. The library's number is the header's:
  * seclang_version() == SECLANG_VERSION.
  *
- * WHAT IS NEW IN VERSION 4. An input may have 1048576 bytes for 16384, and a cursor's line and column may be 1048577
- * for 16385. A span word is offset * 4294967296 + length; it was offset * 65536 + length. A host that was compiled for
- * version 3 takes spans apart wrongly and must be compiled again; one that uses SECLANG_SPAN_OFFSET and
- * SECLANG_SPAN_LENGTH need not change its source. Span words that a host has stored become those of this version by
- * seclang_span_from_old, and seclang_span_to_old leads back. What is sized by SECLANG_LIMIT is now 64 times as large:
- * see how much to lend. In version 3 action and variable records got one more word and 5, 7, 8 and 10 to 12 one more
- * value, the last: the span of what was read or refused. In version 2, 10 to 12 took the place of 6.
+ * WHAT IS NEW IN VERSION 5. seclang_directives has one more parameter, `from_2_7` right behind `input_len`: with true
+ * every rule that does not continue a chain must have an id, as ModSecurity asks for from 2.7 on, and 18 says which has
+ * none; with false it does what it did in version 4. A host that calls it must choose for each package and be compiled
+ * again; nothing else has changed. In version 4 the limit became 1048576 bytes for 16384, a cursor's line and column
+ * 1048577 for 16385, and a span word offset * 4294967296 + length for offset * 65536 + length. A host that was compiled
+ * for version 3 takes spans apart wrongly; where it uses SECLANG_SPAN_OFFSET and SECLANG_SPAN_LENGTH its source need
+ * not change for that. Span words that a host has stored become those of this version by seclang_span_from_old, and
+ * seclang_span_to_old leads back. What is sized by SECLANG_LIMIT became 64 times as large: see how much to lend. In
+ * version 3 action and variable records got one more word and 5, 7, 8 and 10 to 12 one more value, the last: the span
+ * of what was read or refused. In version 2, 10 to 12 took the place of 6.
  *
  * NUMBERS AND VALUES. A reader returns a number and stores its values at the front of `values` where they fit whole;
  * no other word of `values` is touched, and none at all where they do not fit. SECLANG_VALUES_MOST words are enough
  * for every reader. The numbers are tried in the order 1, 2, 3, 9, then 5, 7, 8 and 10 to 12 at the first bad piece,
- * then 19, then 4. In a package 5, 7, 8 and 10 to 15 come in the order of the text; of one directive 13 first, then its
- * variables, its operator and its actions. 16, 17 and 20 are for the two that keep an index of ids, tried in the order
- * 20, 16, 17, and 21 is for the two that convert span words; these four give no other but 0. No call gives 6.
+ * then 19, then 4. In a package 5, 7, 8, 10 to 15 and 18 come in the order of the text; of one directive 13 first, then
+ * its variables, its operator and its actions, and 18 last. 16, 17 and 20 are for the two that keep an index of ids,
+ * tried in the order 20, 16, 17, and 21 is for the two that convert span words; these four give no other but 0. No call
+ * gives 6.
  *
  *   number  given exactly when                                values          text and records afterwards
  *   0       none below                                        by reader       what was read, and zeros beyond
@@ -46,6 +50,8 @@
  *   16      the rule's id stands already (indexes)            its line there  the index is as it was
  *   17      the rule's id is new, and there is no place       the places      the index is as it was
  *           for it (indexes)
+ *   18      a rule that must have an id and has none          line            all zero
+ *           (packages from 2.7 on)
  *   19      a record that no reader makes (listings)          its number      all zero
  *   20      no index: no words at all, a count above the      0               the words are as they were
  *           places, ids that do not ascend strictly, or a
@@ -126,7 +132,7 @@ extern "C" {
  * base of a span, its base before version 4 and the largest offset and length that are converted, and how many words a
  * record has. */
 /* made: sizes */
-#define SECLANG_VERSION 4
+#define SECLANG_VERSION 5
 #define SECLANG_LIMIT 1048576
 #define SECLANG_CURSOR_MOST 1048577
 #define SECLANG_UNKNOWN UINT64_MAX
@@ -181,6 +187,7 @@ enum seclang_number {
     SECLANG_STOPPED = 15,
     SECLANG_ID_TAKEN = 16,
     SECLANG_INDEX_FULL = 17,
+    SECLANG_ID_MISSING = 18,
     SECLANG_NO_TOKEN = 19,
     SECLANG_NO_INDEX = 20,
     SECLANG_TOO_FAR = 21
@@ -498,17 +505,22 @@ uint64_t seclang_tokens(const uint8_t *input, size_t input_len, uint8_t *text, s
 uint64_t seclang_plain_tokens(const uint8_t *input, size_t input_len, uint8_t *text, size_t text_len, uint64_t *records,
                               size_t records_len, uint64_t *values, size_t values_len);
 
-/* The directives of a package, with their arguments read. Numbers 0 to 5, 7, 8 and 10 to 15. A directive takes the
+/* The directives of a package, with their arguments read. Numbers 0 to 5, 7, 8, 10 to 15 and 18. A directive takes the
  * words and strings up to the next newline, comment or directive, or the end, which a stop is too: SecRule two or
  * three, a list of variables, an operator and an action list, the last of which may be left out; SecAction and
  * SecDefaultAction an action list; SecMarker a name; any other as many as there are. `scratch` too is asked to be as
  * long as the input; past the numbers 1 to 3 it is all zero. Texts stand directive by directive: the name, its
  * variables and exclusions, the operator's argument, its actions. Sources, and the spans of what is refused, are in the
- * package. Values with 0: directive, variable and action records, bytes of text. */
-uint64_t seclang_directives(const uint8_t *input, size_t input_len, uint8_t *text, size_t text_len, uint8_t *scratch,
-                            size_t scratch_len, uint64_t *directives, size_t directives_len, uint64_t *variables,
-                            size_t variables_len, uint64_t *actions, size_t actions_len, uint64_t *values,
-                            size_t values_len);
+ * package. Values with 0: directive, variable and action records, bytes of text.
+ * `from_2_7` says which ModSecurity the package is for: false is 2.6 and before, where a rule may do without an id, and
+ * true is 2.7 and later, where 18 with its line refuses one that does. A rule is a SecRule or a SecAction, and 0 is an
+ * id. The next rule behind one with `chain` continues it and needs no id, whatever other directives stand between the
+ * two; it is continued in turn only where it has a `chain` itself. Nothing need stand behind a `chain`. Unless it is
+ * 18, number, values and all that is lent are the same for both. */
+uint64_t seclang_directives(const uint8_t *input, size_t input_len, bool from_2_7, uint8_t *text, size_t text_len,
+                            uint8_t *scratch, size_t scratch_len, uint64_t *directives, size_t directives_len,
+                            uint64_t *variables, size_t variables_len, uint64_t *actions, size_t actions_len,
+                            uint64_t *values, size_t values_len);
 
 /* An action list, as the text of its string token has it. Numbers 0 to 5 and 10 to 12. `scratch` too is asked to be
  * as long as the input; past the numbers 1 to 3 it holds the list without its line continuations and then zeros,

@@ -13,6 +13,8 @@ use Rattle.xml.specs.declared.XmlTarget.{XmlTarget}
 use Rattle.xml.specs.declared.XmlTarget.the-variants.{Elements, Attributes, All, Neither}
 use Rattle.rules.specs.declared.selecting.RuleIdSelector.{RuleIdSelector}
 use Rattle.rules.specs.declared.selecting.RuleIdSelector.the-variants.{Single, Range}
+use Rattle.directives.specs.declared.Version.{Version}
+use Rattle.directives.specs.declared.Version.the-variants.{TwoSix, TwoSeven}
 
 -- what no name has for a code
 abbrev pub noCode : ℕ
@@ -49,6 +51,10 @@ targetOf Neither = 3
 abbrev pub selectorOf : Bool → ℕ → ℕ → RuleIdSelector
 selectorOf ranged start end = pick ranged (Range start end) (Single start)
 
+-- the version that a package is written for: 2.7 or 2.6
+abbrev pub versionOf : Bool → Version
+versionOf from27 = pick from27 TwoSeven TwoSix
+
 -- SECLANG_VERSION of the header that says what this library does
 abbrev pub version : ℕ
-version = 4
+version = 5

@@ -10,6 +10,7 @@ use Rattle.lexer.specs.declared.Cursor.{Cursor}
 use Rattle.lexer.specs.Cursors.{line, column}
 use Rattle.lexer.specs.Promises.{nextOutcome, nextGivenBy, nextTextBy, tokensOutcome}
 use Rattle.actions.specs.Promises.{actionsGate, actionsOutcome, scratchBy}
+use Rattle.directives.specs.declared.Version.{Version}
 use Rattle.directives.specs.Table as Directing
 use Rattle.directives.specs.Promises as Whole
 use Rattle.listing.specs.declared.Stop.{Stop}
@@ -35,13 +36,13 @@ pub record FillsActions (s text text′ work work′ records records′ old new 
   pub scratch : work′ ≡ scratchBy (actionsGate s (length text) (length work)) s work
 
 -- whole directives: two byte buffers and three record buffers
-pub record FillsDirectives (s : List ℕ) (m m′ : Whole.Lent) (old new : List ℕ) (r : ℕ) : Type 0 where
-  pub told : Told (Directing.givenBy (Whole.outcomeOn s m)) old new r
-  pub text : m′ .text ≡ Directing.textBy (Whole.outcomeOn s m) (m .text)
-  pub scratch : m′ .scratch ≡ Directing.scratchBy (Whole.outcomeOn s m) (m .scratch)
-  pub directives : m′ .directives ≡ Directing.recordsBy (λ x. x .directives) (Whole.outcomeOn s m) (m .directives)
-  pub variables : m′ .variables ≡ Directing.recordsBy (λ x. x .variables) (Whole.outcomeOn s m) (m .variables)
-  pub actions : m′ .actions ≡ Directing.recordsBy (λ x. x .actions) (Whole.outcomeOn s m) (m .actions)
+pub record FillsDirectives (v : Version) (s : List ℕ) (m m′ : Whole.Lent) (old new : List ℕ) (r : ℕ) : Type 0 where
+  pub told : Told (Directing.givenBy (Whole.outcomeOn v s m)) old new r
+  pub text : m′ .text ≡ Directing.textBy (Whole.outcomeOn v s m) (m .text)
+  pub scratch : m′ .scratch ≡ Directing.scratchBy (Whole.outcomeOn v s m) (m .scratch)
+  pub directives : m′ .directives ≡ Directing.recordsBy (λ x. x .directives) (Whole.outcomeOn v s m) (m .directives)
+  pub variables : m′ .variables ≡ Directing.recordsBy (λ x. x .variables) (Whole.outcomeOn v s m) (m .variables)
+  pub actions : m′ .actions ≡ Directing.recordsBy (λ x. x .actions) (Whole.outcomeOn v s m) (m .actions)
 
 -- ---- one token
 

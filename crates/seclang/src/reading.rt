@@ -6,6 +6,7 @@ ghost use Rattle.actions.specs.Promises.{setvarOutcome};
 ghost use Rattle.variables.specs.Promises.{variablesOutcome, updateOutcome};
 ghost use Rattle.operators.specs.Promises as Operating;
 ghost use Rattle.directives.specs.Promises.{lentOf};
+ghost use Rattle.seclang.specs.Codes.{versionOf};
 ghost use Rattle.seclang.specs.Told.{Told};
 ghost use Rattle.seclang.specs.Readers.{Steps, Fills, Lexes, FillsActions, FillsDirectives};
 use crate::telling::tell_acted;
@@ -14,6 +15,7 @@ use crate::telling::tell_operated;
 use crate::telling::tell_reading;
 use crate::telling::tell_step;
 use crate::telling::tell_targeted;
+use directives::Version;
 use lexer::Column;
 use lexer::Cursor;
 use lexer::Line;
@@ -125,9 +127,19 @@ pub extern "C" fn seclang_parse_operator(input: &[u8], values: &mut [u64]) -> u6
     tell_operated(operators::parse_operator(input), values)
 }
 
+fn version_of(from_2_7: bool) -> Version
+    ensures { λ r. ⌜ r ≡ versionOf from_2_7 ⌝ }
+{
+    if from_2_7 {
+        return Version::TwoSeven;
+    }
+    Version::TwoSix
+}
+
 #[no_mangle]
 pub extern "C" fn seclang_directives(
     input: &[u8],
+    from_2_7: bool,
     text: &mut [u8],
     scratch: &mut [u8],
     directives: &mut [u64],
@@ -135,10 +147,19 @@ pub extern "C" fn seclang_directives(
     actions: &mut [u64],
     values: &mut [u64],
 ) -> u64
-    ensures { λ r. ⌜ FillsDirectives (now (input .entry)) (lentOf (now (text .entry)) (now (scratch .entry)) (now (directives .entry)) (now (variables .entry)) (now (actions .entry))) (lentOf (now (text .exit)) (now (scratch .exit)) (now (directives .exit)) (now (variables .exit)) (now (actions .exit))) (now (values .entry)) (now (values .exit)) r ⌝ }
+    ensures { λ r. ⌜ FillsDirectives (versionOf from_2_7) (now (input .entry)) (lentOf (now (text .entry)) (now (scratch .entry)) (now (directives .entry)) (now (variables .entry)) (now (actions .entry))) (lentOf (now (text .exit)) (now (scratch .exit)) (now (directives .exit)) (now (variables .exit)) (now (actions .exit))) (now (values .entry)) (now (values .exit)) r ⌝ }
 {
+    let version = version_of(from_2_7);
     tell_directed(
-        directives::directives(input, text, scratch, directives, variables, actions),
+        directives::directives(
+            input,
+            version,
+            text,
+            scratch,
+            directives,
+            variables,
+            actions,
+        ),
         values,
     )
 }

@@ -274,6 +274,7 @@ fn line_number(why: LineFault) -> u64
         LineFault::WrongCount => 13,
         LineFault::Untaken => 14,
         LineFault::Stopped => 15,
+        LineFault::IdMissing => 18,
     }
 }
 

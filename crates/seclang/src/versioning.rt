@@ -6,5 +6,5 @@ ghost use Rattle.seclang.specs.Codes.{version};
 pub extern "C" fn seclang_version() -> u64
     ensures { λ r. ⌜ r ≡ version ⌝ }
 {
-    4
+    5
 }

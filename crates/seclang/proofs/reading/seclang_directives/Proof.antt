@@ -6,7 +6,7 @@ use Rattle.seclang.proofs.reading.seclang_directives.Tie as tie
 
 returns : tie.Need-returns
 returns c =
-    let x = c .before .before .before .before .before .before .before .before .before .before .before .before .before .before .directives .ensures in
+    let x = rw (c .before .before .before .before .before .before .before .before .before .before .before .before .before .before .before .before .before .before .before .before .version-of .ensures) at (c .before .before .before .before .before .before .before .before .before .before .before .before .before .before .directives .ensures) in
     record {
       told = told-as (x .answer) (c .before .before .tell-directed .ensures);
       text = x .text;
@@ -20,6 +20,7 @@ pub seclang-directives-spec : {M : Type 1} → statement M
 seclang-directives-spec =
     tie.close
     (tie.spec
+    (λ c κs. search needs)
     (λ c κs. search needs)
     (λ c κs. search needs)
     (λ c. search needs)
