@@ -16,6 +16,7 @@ pub mod Plain
 pub mod SourcelessLaws
 pub mod Demand2
 pub mod WholeDirectives
+pub mod Versions
 pub mod TokenTexts
 pub mod UnderlineLaws
 pub mod UnderlineCalls

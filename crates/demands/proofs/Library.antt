@@ -43,7 +43,7 @@ use Rattle.seclang.proofs.seclang_span_to_old as SeclangSpanToOld
 use Rattle.seclang.proofs.seclang_tokens as SeclangTokens
 use Rattle.seclang.proofs.seclang_version as SeclangVersion
 use Rattle.demands.specs.Fixed.{Fixed}
-use Rattle.demands.specs.Calls.{Lent, Left, left, Wrote, wrote, Place, Adding, Removing}
+use Rattle.demands.specs.Calls.{Lent, Left, left, Wrote, wrote, Place, Adding, Removing, Package}
 use Rattle.demands.specs.Library.{With, fills-promise, fills-actions-promise, fills-directives-promise, steps-promise, operator-promise, converts-promise, adds-promise, removes-promise, lists-promise, recordsOutcome, refusalOutcome, lists-text-promise, OfLibrary}
 use Rattle.demands.proofs.FixedLaws.{gives, left-same, wrote-same}
 use Rattle.demands.proofs.DirectiveCalls.{all-left}
@@ -90,16 +90,16 @@ fills-actions-fixed = record {
   once = λ i o p a b. let e = fills-same (a .fills) (b .fills) in pair (pair (e .0) (one-answer (a .scratch) (b .scratch))) (e .1);
 }
 
-fills-directives-left : (i : With (List ℕ × Whole.Lent)) (o : With (ℕ × Whole.Lent)) → fills-directives-promise i o
-    → o .0 .1 ≡ Whole.leftBy (Whole.outcomeOn (i .0 .0) (i .0 .1)) (i .0 .1)
-fills-directives-left i o x = all-left (Whole.outcomeOn (i .0 .0) (i .0 .1)) (i .0 .1) (o .0 .1) (x .text) (x .scratch) (x .directives) (x .variables) (x .actions)
+pub fills-directives-left : (i : With Package) (o : With (ℕ × Whole.Lent)) → fills-directives-promise i o
+    → o .0 .1 ≡ Whole.leftBy (Whole.outcomeOn (i .0 .version) (i .0 .input) (i .0 .lent)) (i .0 .lent)
+fills-directives-left i o x = all-left (Whole.outcomeOn (i .0 .version) (i .0 .input) (i .0 .lent)) (i .0 .lent) (o .0 .1) (x .text) (x .scratch) (x .directives) (x .variables) (x .actions)
 
-fills-directives-fixed : Fixed (With (List ℕ × Whole.Lent)) (With (ℕ × Whole.Lent)) fills-directives-promise
+pub fills-directives-fixed : Fixed (With Package) (With (ℕ × Whole.Lent)) fills-directives-promise
 fills-directives-fixed = record {
   total = λ i.
-      let x = Whole.outcomeOn (i .0 .0) (i .0 .1) in
+      let x = Whole.outcomeOn (i .0 .version) (i .0 .input) (i .0 .lent) in
       let g = Directing.givenBy x in (
-        ((g .number, Whole.leftBy x (i .0 .1)), told g (i .1)),
+        ((g .number, Whole.leftBy x (i .0 .lent)), told g (i .1)),
         record { told = record { number = refl; values = refl }; text = refl; scratch = refl; directives = refl; variables = refl; actions = refl },
       );
   once = λ i o p a b.

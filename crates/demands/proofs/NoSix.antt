@@ -14,7 +14,7 @@ use Rattle.actions.specs.Promises as Actions
 use Rattle.variables.specs.Promises as Variables
 use Rattle.operators.specs.Operators.{Spec, operator}
 use Rattle.operators.specs.Promises as Operators
-use Rattle.directives.specs.Directives.{wrongCount, untaken, stopped, within}
+use Rattle.directives.specs.Directives.{wrongCount, untaken, stopped, idMissing, within}
 use Rattle.directives.specs.Table as Directing
 use Rattle.directives.specs.Promises as Whole
 use Rattle.listing.specs.Listings.{refusal, lineOf}
@@ -53,6 +53,7 @@ directives-not (Directing.shut f) e = not-six f e
 directives-not (Directing.faulty (wrongCount l)) e = omega arith
 directives-not (Directing.faulty (untaken l)) e = omega arith
 directives-not (Directing.faulty (stopped l)) e = omega arith
+directives-not (Directing.faulty (idMissing l)) e = omega arith
 directives-not (Directing.faulty (within l f)) e = not-six f e
 directives-not (Directing.overfull d v a) e = omega arith
 directives-not (Directing.filled x) e = omega arith
@@ -98,7 +99,7 @@ of-readers = record {
   parse-update-targets = λ i o x. given-not (x .answer) (filled-not (Variables.updateOutcome (i .input) (length (i .text)) (length (i .records))));
   operator-in = λ s r x. given-not (x .answer) (operator-not s (Operators.outcomeOf s (operator s)));
   parse-operator = λ s r x. given-not (x .answer) (operator-not s (Operators.operatorOutcome s));
-  directives = λ i o x. given-not (x .answer) (directives-not (Whole.outcomeOn (i .0) (i .1)));
+  directives = λ i o x. given-not (x .answer) (directives-not (Whole.outcomeOn (i .version) (i .input) (i .lent)));
   write-listing = λ i o x. given-not (x .answer) (listing-not (recordsOutcome i));
   write-refusal = λ i o x. given-not (x .answer) (listing-not (refusalOutcome i));
   write-refusal-line = λ i o x. given-not (x .answer) (listing-not (Listing.fitted (length (i .buffer)) (refusal (i .number) (i .place) ++ (10 ∷ []))));
@@ -118,7 +119,7 @@ of-library = record {
   parse-variables = λ i o x e. filled-not (Variables.variablesOutcome (i .0 .input) (length (i .0 .text)) (length (i .0 .records))) (sym (x .told .number) ∙ e);
   parse-update-targets = λ i o x e. filled-not (Variables.updateOutcome (i .0 .input) (length (i .0 .text)) (length (i .0 .records))) (sym (x .told .number) ∙ e);
   parse-operator = λ i o x e. operator-not (i .0) (Operators.operatorOutcome (i .0)) (sym (x .number) ∙ e);
-  directives = λ i o x e. directives-not (Whole.outcomeOn (i .0 .0) (i .0 .1)) (sym (x .told .number) ∙ e);
+  directives = λ i o x e. directives-not (Whole.outcomeOn (i .0 .version) (i .0 .input) (i .0 .lent)) (sym (x .told .number) ∙ e);
   span-from-old = λ i o x e. span-not (fromOld (i .0)) (sym (x .number) ∙ e);
   span-to-old = λ i o x e. span-not (toOld (i .0)) (sym (x .number) ∙ e);
   index-add = λ i o x e. added-not (Indexing.addAnswer (i .0 .index) (i .0 .actions) (i .0 .line)) (sym (x .told .number) ∙ e);

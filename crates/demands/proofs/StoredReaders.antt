@@ -47,6 +47,9 @@ use Rattle.operators.specs.Places.{namePlace}
 use Rattle.operators.specs.Promises.{outcomeOf, operatorOutcome}
 use Rattle.operators.proofs.PromiseLaws.{refused-inside}
 use Rattle.directives.specs.Directives as Whole
+use Rattle.directives.specs.declared.Version.{Version}
+use Rattle.directives.specs.Versions.{directivesFor}
+use Rattle.directives.proofs.VersionLaws.{for-holds}
 use Rattle.directives.specs.Layout as Laid
 use Rattle.directives.specs.Table as Directing
 use Rattle.directives.specs.Promises as Package
@@ -201,6 +204,7 @@ module _ (s : List ℕ) (short : length s ≤ oldLimit) where
   fault-near (Whole.wrongCount l) w = tt
   fault-near (Whole.untaken l) w = tt
   fault-near (Whole.stopped l) w = tt
+  fault-near (Whole.idMissing l) w = tt
   fault-near (Whole.within l f) w = refusal-near f w
 
   -- what a body's records were read from
@@ -291,12 +295,12 @@ module _ (s : List ℕ) (short : length s ≤ oldLimit) where
         actions = acted-near 0 ds (omega (arith, h .0)) w;
       }
 
-  directives-kept : (m : Package.Lent) → DirectivesKept (Package.outcomeOn s m)
+  directives-kept : (v : Version) (m : Package.Lent) → DirectivesKept (Package.outcomeOn v s m)
   unfolding Package.directivesOutcome
-  directives-kept m = past (gateOf s (min (length (m .text)) (length (m .scratch))) (length s))
+  directives-kept v m = past (gateOf s (min (length (m .text)) (length (m .scratch))) (length s))
     where
-      past : (g : Gate) → DirectivesKept (Directing.pastGate g (Package.roomed (Package.roomsOf m) (Whole.directives s)))
-      past Open = package-near (Package.roomsOf m) (Whole.directives s) (underline .directives s) (directives-fit s)
+      past : (g : Gate) → DirectivesKept (Directing.pastGate g (Package.roomed (Package.roomsOf m) (directivesFor v s)))
+      past Open = package-near (Package.roomsOf m) (directivesFor v s) (underline .directives v s) (for-holds (ResultFits (length s)) (λ l. omega arith) v s (directives-fit s))
       past TooLong = tt
       past (NotAscii p) = tt
       past Short = tt
@@ -313,5 +317,5 @@ stored-spans = record {
   parse-variables = λ s n m h. parse-variables-kept s h n m;
   parse-update-targets = λ s n m h. parse-update-targets-kept s h n m;
   parse-operator = λ s h. parse-operator-kept s h;
-  directives = λ s m h. directives-kept s h m;
+  directives = λ v s m h. directives-kept s h v m;
 }

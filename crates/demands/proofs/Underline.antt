@@ -39,9 +39,10 @@ use Rattle.operators.specs.Promises.{outcomeOf}
 use Rattle.operators.proofs.PromiseLaws.{refused-inside, refused-stands}
 use Rattle.directives.specs.Groups.{Item, joined, stray, argumentBy, argumentsOf, itemBy, items}
 use Rattle.directives.specs.Directives as Whole
+use Rattle.directives.proofs.VersionLaws.{for-holds}
 use Rattle.directives.specs.declared.shapes.Shape.{Shape}
 use Rattle.directives.specs.declared.shapes.Shape.the-variants.{Rule as ofRule, Action as ofAction, Marker as ofMarker, Defaults as ofDefaults, Other as ofOther}
-use Rattle.directives.specs.Directives.{shapeOf, listedBy, ruleBy, actBy, told, bodyBy, isMark, between, siteAt, standing, argumentSite, listSite, listNumber, refusalSite, sited, lastPast, placed, directiveOf, itemRead, before, ending, endOf}
+use Rattle.directives.specs.Directives.{shapeOf, listedBy, ruleBy, actBy, told, bodyBy, isMark, between, siteAt, standing, argumentSite, listSite, listNumber, refusalSite, sited, lastPast, placed, directiveOf, itemRead, before, over, ending, endOf}
 use Rattle.demands.specs.Underline.{bytesIn, whole, asTheyAre, Each, ActionThere, ActionsThere, TargetsThere, Among, here, there, IsArgument, lexed, listed, Argument, ActionIn, BodyIn, EndsIn, DirectiveIn, RefusalIn, FaultIn, PackageIn, Underline}
 use Rattle.demands.proofs.TokenTexts.{Stands, tokens-stand}
 use Rattle.demands.proofs.UnderlineLaws.{Carries, plain-carries, normal-carries, site-carries, both-carries, list-there, sitedTargets, targets-there, hanging-there, targets-still}
@@ -254,7 +255,7 @@ module _ (s : List ℕ) where
   before-there (Whole.good d) (Whole.good ds) h w = (h, w)
 
   ending-there : (o : Whole.Result (List Whole.Directive)) → PackageIn s o → (xs : List Item) → Taken xs → PackageIn s (ending s o xs)
-  unfolding ending itemRead directiveOf
+  unfolding over itemRead directiveOf
   ending-there o w [] h = w
   ending-there o w (joined t args ∷ xs) h =
       before-there (itemRead s (joined t args)) (ending s o xs)
@@ -306,9 +307,9 @@ underline = record {
   operator = operator-there;
   argument-part = λ s t a. carries s t a .carry;
   list-part = λ s t a. list-carries s t a .carry;
-  directives = directives-there;
+  directives = λ v s. for-holds (PackageIn s) (λ l. tt) v s (directives-there s);
   actions-called = λ i o p. actions-told i o p (actions-there (i .0 .input));
   variables-called = λ i o p. variables-told i o p (targets-found AsWritten (i .input));
   update-targets-called = λ i o p. update-targets-told i o p (targets-found LookedUp (i .input));
-  directives-called = λ i o p. directives-told i o p (directives-there (i .0));
+  directives-called = λ i o p. directives-told i o p (for-holds (PackageIn (i .input)) (λ l. tt) (i .version) (i .input) (directives-there (i .input)));
 }

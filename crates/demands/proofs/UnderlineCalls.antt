@@ -26,9 +26,11 @@ use Rattle.variables.specs.declared.Answer as Read
 use Rattle.variables.specs.declared.singles.Exclusions.{Exclusions}
 use Rattle.variables.specs.declared.singles.Exclusions.the-variants.{AsWritten, LookedUp}
 use Rattle.directives.specs.Directives as Whole
+use Rattle.directives.specs.Versions.{directivesFor}
 use Rattle.directives.specs.Table as Rows
 use Rattle.directives.specs.Promises as Package
 use Rattle.directives.specs.declared.Answer as Reply
+use Rattle.demands.specs.Calls as Called
 use Rattle.demands.specs.Calls.{Lent, Left, parse-actions-promise, parse-variables-promise, parse-update-targets-promise, directives-promise}
 use Rattle.demands.specs.Underline.{whole, asTheyAre, ActionsThere, TargetsThere, PackageIn, Tells, gated, crowded, refused-there, read-there, ActionsTold, TargetsTold, PackageTold}
 
@@ -98,25 +100,25 @@ update-targets-told i o p h = past (i .records) (o .records) (gateOf (i .input) 
 
 -- ---- a package
 
-module _ (i : List ℕ × Package.Lent) (o : Reply.Answer × Package.Lent) where
+module _ (i : Called.Package) (o : Reply.Answer × Package.Lent) where
   abbrev Told : Rows.Outcome → Type 0
   Told x =
-      Package.answerGiven (o .0) ≡ Rows.givenBy x → o .1 .variables ≡ Rows.recordsBy (λ (f : Rows.Filled). f .variables) x (i .1 .variables)
-      → o .1 .actions ≡ Rows.recordsBy (λ (f : Rows.Filled). f .actions) x (i .1 .actions) → PackageTold i o
+      Package.answerGiven (o .0) ≡ Rows.givenBy x → o .1 .variables ≡ Rows.recordsBy (λ (f : Rows.Filled). f .variables) x (i .lent .variables)
+      → o .1 .actions ≡ Rows.recordsBy (λ (f : Rows.Filled). f .actions) x (i .lent .actions) → PackageTold i o
 
-  full : (t : Bool) (ds : List Whole.Directive) → PackageIn (i .0) (Whole.good ds) → (d v a : ℕ)
+  full : (t : Bool) (ds : List Whole.Directive) → PackageIn (i .input) (Whole.good ds) → (d v a : ℕ)
       → Told (pick t (Rows.overfull d v a) (Rows.filled (Package.laidOut ds)))
   full true ds h d v a e l k = crowded (numbered 4 _ e)
   full false ds h d v a e l k = read-there ds h (numbered 0 _ e) (l, k)
 
-  packed : (gate : Gate) (x : Whole.Result (List Whole.Directive)) → PackageIn (i .0) x → Told (Rows.pastGate gate (Package.roomed (Package.roomsOf (i .1)) x))
+  packed : (gate : Gate) (x : Whole.Result (List Whole.Directive)) → PackageIn (i .input) x → Told (Rows.pastGate gate (Package.roomed (Package.roomsOf (i .lent)) x))
   packed Open (Whole.bad f) h e l k = refused-there f h e
-  packed Open (Whole.good ds) h e l k = full (Package.lacks (Package.roomsOf (i .1)) ds) ds h _ _ _ e l k
+  packed Open (Whole.good ds) h e l k = full (Package.lacks (Package.roomsOf (i .lent)) ds) ds h _ _ _ e l k
   packed TooLong x h e l k = low 1 _ e (omega arith) (omega arith)
   packed (NotAscii place) x h e l k = low 2 _ e (omega arith) (omega arith)
   packed Short x h e l k = low 3 _ e (omega arith) (omega arith)
 
-  pub directives-told : directives-promise i o → PackageIn (i .0) (Whole.directives (i .0)) → PackageTold i o
+  pub directives-told : directives-promise i o → PackageIn (i .input) (directivesFor (i .version) (i .input)) → PackageTold i o
   unfolding Package.directivesOutcome
   directives-told p h =
-      packed (gateOf (i .0) (min (length (i .1 .text)) (length (i .1 .scratch))) (length (i .0))) (Whole.directives (i .0)) h (p .answer) (p .variables) (p .actions)
+      packed (gateOf (i .input) (min (length (i .lent .text)) (length (i .lent .scratch))) (length (i .input))) (directivesFor (i .version) (i .input)) h (p .answer) (p .variables) (p .actions)

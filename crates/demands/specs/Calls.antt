@@ -23,6 +23,7 @@ use Rattle.places.specs.declared.Rule.{Rule}
 use Rattle.places.specs.Moves.{SiteWord, Resite}
 use Rattle.operators.specs.Promises.{OperatorIn, ParseOperator, OperatorArgument}
 use Rattle.operators.specs.declared.Answer as Operators
+use Rattle.directives.specs.declared.Version.{Version}
 use Rattle.directives.specs.Promises as Whole
 use Rattle.directives.specs.declared.Answer as Directives
 use Rattle.rules.specs.declared.selecting.RuleIdSelector.{RuleIdSelector}
@@ -173,9 +174,17 @@ parse-operator-promise = ParseOperator
 abbrev pub operator-argument-promise : Standing → Standing → Type 0
 operator-argument-promise = OperatorArgument
 
--- A package, and lent to its reader two byte buffers and three record buffers.
-abbrev pub directives-promise : List ℕ × Whole.Lent → Directives.Answer × Whole.Lent → Type 0
-directives-promise i o = Whole.Directives (i .0) (i .1) (o .1) (o .0)
+-- A package, the version that it is written for, and lent to its reader two byte buffers and three record buffers.
+pub record Package : Type 0 where
+  pub input : List ℕ
+  pub version : Version
+  pub lent : Whole.Lent
+
+abbrev pub packageOf : List ℕ → Version → Whole.Lent → Package
+packageOf s v m = record { input = s; version = v; lent = m }
+
+abbrev pub directives-promise : Package → Directives.Answer × Whole.Lent → Type 0
+directives-promise i o = Whole.Directives (i .version) (i .input) (i .lent) (o .1) (o .0)
 
 -- ---- the index
 

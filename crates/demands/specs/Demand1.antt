@@ -140,7 +140,7 @@ use Rattle.listing.proofs.write_listing as WriteListing
 use Rattle.listing.proofs.write_refusal as WriteRefusal
 use Rattle.listing.proofs.write_refusal_line as WriteRefusalLine
 use Rattle.demands.specs.Contracts.{Promises, Decides, Answers, Keeps}
-use Rattle.demands.specs.Calls.{Lent, lent, Left, left, Wrote, wrote, Filling, finish-promise, Placing, site-word-promise, Replacing, resite-promise, Place, place, Records, Refusal, step-in-promise, next-token-promise, tokens-promise, Ending, end-reading-promise, parse-actions-promise, normalise-promise, read-actions-promise, parse-setvar-promise, parse-variables-promise, parse-update-targets-promise, From, read-targets-promise, operator-in-promise, parse-operator-promise, operator-argument-promise, directives-promise, Adding, add-promise, Removing, remove-promise, write-listing-promise, write-refusal-promise, write-refusal-line-promise, list-text-promise}
+use Rattle.demands.specs.Calls.{Lent, lent, Left, left, Wrote, wrote, Filling, finish-promise, Placing, site-word-promise, Replacing, resite-promise, Place, place, Records, Refusal, step-in-promise, next-token-promise, tokens-promise, Ending, end-reading-promise, parse-actions-promise, normalise-promise, read-actions-promise, parse-setvar-promise, parse-variables-promise, parse-update-targets-promise, From, read-targets-promise, operator-in-promise, parse-operator-promise, operator-argument-promise, Package, packageOf, directives-promise, Adding, add-promise, Removing, remove-promise, write-listing-promise, write-refusal-promise, write-refusal-line-promise, list-text-promise}
 use Rattle.demands.specs.Rows.{Row}
 use Rattle.demands.specs.DirectiveRows as Directive
 use Rattle.demands.specs.Library.{OfLibrary}
@@ -306,9 +306,9 @@ pub record OfParsers : Type 3 where
 
 -- Whole directives.
 pub record OfDirectives : Type 3 where
-  pub directives : Keeps DirectivesOf.ended (λ M 𝓤. DirectivesOf.spec 𝓤) DirectivesOf.Symbol.routine (List ℕ × Whole.Lent) (Directives.Answer × Whole.Lent) directives-promise
-      (λ _ a. (now (a .0), Whole.lentOf (now (a .1 .0)) (now (a .1 .1 .0)) (now (a .1 .1 .1 .0)) (now (a .1 .1 .1 .1 .0)) (now (a .1 .1 .1 .1 .1 .0))))
-      (λ _ r e. (r, Whole.lentOf (now (e .1 .0)) (now (e .1 .1 .0)) (now (e .1 .1 .1 .0)) (now (e .1 .1 .1 .1 .0)) (now (e .1 .1 .1 .1 .1 .0))))
+  pub directives : Keeps DirectivesOf.ended (λ M 𝓤. DirectivesOf.spec 𝓤) DirectivesOf.Symbol.routine Package (Directives.Answer × Whole.Lent) directives-promise
+      (λ _ a. packageOf (now (a .0)) (a .1 .0) (Whole.lentOf (now (a .1 .1 .0)) (now (a .1 .1 .1 .0)) (now (a .1 .1 .1 .1 .0)) (now (a .1 .1 .1 .1 .1 .0)) (now (a .1 .1 .1 .1 .1 .1 .0))))
+      (λ _ r e. (r, Whole.lentOf (now (e .1 .1 .0)) (now (e .1 .1 .1 .0)) (now (e .1 .1 .1 .1 .0)) (now (e .1 .1 .1 .1 .1 .0)) (now (e .1 .1 .1 .1 .1 .1 .0))))
 
 -- The index of ids.
 pub record OfIndex : Type 3 where
@@ -342,8 +342,8 @@ pub record ByTable : Type 0 where
       → Row variableWords (Variables.answerGiven (o .answer)) (i .text) (o .text) (i .records) (o .records)
   pub parse-update-targets : (i : Lent) (o : Left Targets.Answer) → parse-update-targets-promise i o
       → Row variableWords (Variables.answerGiven (o .answer)) (i .text) (o .text) (i .records) (o .records)
-  pub directives : (i : List ℕ × Whole.Lent) (o : Directives.Answer × Whole.Lent) → directives-promise i o
-      → Directive.Row (Whole.answerGiven (o .0)) (i .1) (o .1)
+  pub directives : (i : Package) (o : Directives.Answer × Whole.Lent) → directives-promise i o
+      → Directive.Row (Whole.answerGiven (o .0)) (i .lent) (o .1)
 
 pub record Demand1 : Type 3 where
   pub of-bytes : OfBytes

@@ -41,7 +41,8 @@ module _ (g : Given) (m m′ : Lent) where
         → m′ ≡ zeroBut name m → Row
     -- 8: the line, the name's place in the argument, its length and its span in the package; all zero
     no-operator : (line place len : ℕ) (source : Part) → g ≡ given 8 (line ∷ place ∷ len ∷ partWord source ∷ []) → m′ ≡ allZero m → Row
-    -- 13, 14 and 15: the line; all zero
+    -- 13, 14, 15 and 18: the line; all zero
     wrong-count : (line : ℕ) → g ≡ given 13 (line ∷ []) → m′ ≡ allZero m → Row
     untaken : (line : ℕ) → g ≡ given 14 (line ∷ []) → m′ ≡ allZero m → Row
     stopped : (line : ℕ) → g ≡ given 15 (line ∷ []) → m′ ≡ allZero m → Row
+    id-missing : (line : ℕ) → g ≡ given 18 (line ∷ []) → m′ ≡ allZero m → Row

@@ -11,6 +11,7 @@ pub mod Plain
 pub mod Sourceless
 pub mod Demand2
 pub mod WholeDirectives
+pub mod Versions
 pub mod Underline
 pub mod StoredSpans
 pub mod StandingRules

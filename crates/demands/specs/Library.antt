@@ -23,7 +23,7 @@ use Rattle.listing.specs.Promises as Listing
 use Rattle.seclang.specs.Told.{Told}
 use Rattle.seclang.specs.Readers.{Fills, FillsActions, FillsDirectives, Steps, Lists, ListsText, stopOf}
 use Rattle.seclang.specs.Indexing.{AddsTold, RemovesTold}
-use Rattle.seclang.specs.Codes.{codeOf, lookupIn, testOf, targetOf, selectorOf, version}
+use Rattle.seclang.specs.Codes.{codeOf, lookupIn, testOf, targetOf, selectorOf, version, versionOf}
 use Rattle.seclang.proofs.seclang_grade as SeclangGrade
 use Rattle.seclang.proofs.seclang_index_add as SeclangIndexAdd
 use Rattle.seclang.proofs.seclang_index_remove as SeclangIndexRemove
@@ -48,7 +48,7 @@ use Rattle.seclang.proofs.seclang_span_to_old as SeclangSpanToOld
 use Rattle.seclang.proofs.seclang_tokens as SeclangTokens
 use Rattle.seclang.proofs.seclang_version as SeclangVersion
 use Rattle.demands.specs.Contracts.{Answers, Keeps}
-use Rattle.demands.specs.Calls.{Lent, lent, Left, left, Wrote, wrote, Place, place, Adding, Removing, Records, Refusal}
+use Rattle.demands.specs.Calls.{Lent, lent, Left, left, Wrote, wrote, Place, place, Adding, Removing, Records, Refusal, Package, packageOf}
 
 -- What is lent besides: the words for values. They come second, in and out.
 abbrev pub With : Type 0 → Type 0
@@ -63,8 +63,8 @@ fills-actions-promise i o =
     FillsActions (i .0 .0 .input) (i .0 .0 .text) (o .0 .0 .text) (i .0 .1) (o .0 .1) (i .0 .0 .records) (o .0 .0 .records) (i .1) (o .1) (o .0 .0 .answer)
 
 -- whole directives, with all that is lent for them
-abbrev pub fills-directives-promise : With (List ℕ × Whole.Lent) → With (ℕ × Whole.Lent) → Type 0
-fills-directives-promise i o = FillsDirectives (i .0 .0) (i .0 .1) (o .0 .1) (i .1) (o .1) (o .0 .0)
+abbrev pub fills-directives-promise : With Package → With (ℕ × Whole.Lent) → Type 0
+fills-directives-promise i o = FillsDirectives (i .0 .version) (i .0 .input) (i .0 .lent) (o .0 .1) (i .1) (o .1) (o .0 .0)
 
 abbrev pub steps-promise : With Place → With (Wrote ℕ) → Type 0
 steps-promise i o = Steps (i .0 .input) (i .0 .from) (i .0 .buffer) (o .0 .buffer) (i .1) (o .1) (o .0 .answer)
@@ -121,9 +121,9 @@ pub record OfLibrary : Type 3 where
       (λ _ a. (lent (now (a .0)) (now (a .1 .0)) (now (a .1 .1 .0)), now (a .1 .1 .1 .0)))
       (λ _ r e. (left r (now (e .1 .0)) (now (e .1 .1 .0)), now (e .1 .1 .1 .0)))
   pub parse-operator : Keeps SeclangParseOperator.ended (λ M 𝓤. SeclangParseOperator.spec 𝓤) SeclangParseOperator.Symbol.routine (With (List ℕ)) (With ℕ) operator-promise (λ _ a. (now (a .0), now (a .1 .0))) (λ _ r e. (r, now (e .1 .0)))
-  pub directives : Keeps SeclangDirectives.ended (λ M 𝓤. SeclangDirectives.spec 𝓤) SeclangDirectives.Symbol.routine (With (List ℕ × Whole.Lent)) (With (ℕ × Whole.Lent)) fills-directives-promise
-      (λ _ a. ((now (a .0), Whole.lentOf (now (a .1 .0)) (now (a .1 .1 .0)) (now (a .1 .1 .1 .0)) (now (a .1 .1 .1 .1 .0)) (now (a .1 .1 .1 .1 .1 .0))), now (a .1 .1 .1 .1 .1 .1 .0)))
-      (λ _ r e. ((r, Whole.lentOf (now (e .1 .0)) (now (e .1 .1 .0)) (now (e .1 .1 .1 .0)) (now (e .1 .1 .1 .1 .0)) (now (e .1 .1 .1 .1 .1 .0))), now (e .1 .1 .1 .1 .1 .1 .0)))
+  pub directives : Keeps SeclangDirectives.ended (λ M 𝓤. SeclangDirectives.spec 𝓤) SeclangDirectives.Symbol.routine (With Package) (With (ℕ × Whole.Lent)) fills-directives-promise
+      (λ _ a. (packageOf (now (a .0)) (versionOf (a .1 .0)) (Whole.lentOf (now (a .1 .1 .0)) (now (a .1 .1 .1 .0)) (now (a .1 .1 .1 .1 .0)) (now (a .1 .1 .1 .1 .1 .0)) (now (a .1 .1 .1 .1 .1 .1 .0))), now (a .1 .1 .1 .1 .1 .1 .1 .0)))
+      (λ _ r e. ((r, Whole.lentOf (now (e .1 .1 .0)) (now (e .1 .1 .1 .0)) (now (e .1 .1 .1 .1 .0)) (now (e .1 .1 .1 .1 .1 .0)) (now (e .1 .1 .1 .1 .1 .1 .0))), now (e .1 .1 .1 .1 .1 .1 .1 .0)))
   pub lookup : Answers SeclangLookup.ended (λ M 𝓤. SeclangLookup.spec 𝓤) SeclangLookup.Symbol.routine (λ _ a. codeOf (lookupIn (a .0) (now (a .1 .0))))
   pub test : Answers SeclangTest.ended (λ M 𝓤. SeclangTest.spec 𝓤) SeclangTest.Symbol.routine (λ _ a. testOf (a .0) (a .1 .0))
   pub xml-target : Answers SeclangXmlTarget.ended (λ M 𝓤. SeclangXmlTarget.spec 𝓤) SeclangXmlTarget.Symbol.routine (λ _ a. targetOf (xmlTarget (a .0) (now (a .1 .0))))

@@ -15,6 +15,7 @@ use Rattle.variables.specs.Promises.{variablesOutcome, updateOutcome}
 use Rattle.operators.specs.Operators.{Spec}
 use Rattle.operators.specs.Promises.{operatorOutcome}
 use Rattle.directives.specs.Directives as Whole
+use Rattle.directives.specs.declared.Version.{Version}
 use Rattle.directives.specs.Table as Directing
 use Rattle.directives.specs.Promises.{Lent, outcomeOn}
 use Rattle.spans.specs.Conversion.{oldBase, oldWord, fromOld, toOld, Far}
@@ -82,6 +83,7 @@ abbrev pub FaultKept : Whole.Fault → Type 0
 FaultKept (Whole.wrongCount l) = Unit {0}
 FaultKept (Whole.untaken l) = Unit {0}
 FaultKept (Whole.stopped l) = Unit {0}
+FaultKept (Whole.idMissing l) = Unit {0}
 FaultKept (Whole.within l f) = RefusalKept f
 
 -- Of a package: three lists of records, whose counts are the first three values.
@@ -110,4 +112,4 @@ pub record StoredSpans : Type 0 where
   pub parse-variables : (s : List ℕ) (n m : ℕ) → length s ≤ oldLimit → FilledKept variableSpans (variablesOutcome s n m)
   pub parse-update-targets : (s : List ℕ) (n m : ℕ) → length s ≤ oldLimit → FilledKept variableSpans (updateOutcome s n m)
   pub parse-operator : (s : List ℕ) → length s ≤ oldLimit → OperatorKept (operatorOutcome s)
-  pub directives : (s : List ℕ) (m : Lent) → length s ≤ oldLimit → DirectivesKept (outcomeOn s m)
+  pub directives : (v : Version) (s : List ℕ) (m : Lent) → length s ≤ oldLimit → DirectivesKept (outcomeOn v s m)

@@ -31,11 +31,14 @@ use Rattle.variables.specs.declared.Answer as Read
 use Rattle.operators.specs.Operators as Operator
 use Rattle.operators.specs.Places.{namePlace}
 use Rattle.directives.specs.Directives as Whole
+use Rattle.directives.specs.declared.Version.{Version}
+use Rattle.directives.specs.Versions.{directivesFor}
 use Rattle.directives.specs.Directives.{siteAt, standing}
 use Rattle.directives.specs.Layout as Laid
 use Rattle.directives.specs.Table.{faultGiven}
 use Rattle.directives.specs.Promises as Package
 use Rattle.directives.specs.declared.Answer as Reply
+use Rattle.demands.specs.Calls as Called
 use Rattle.demands.specs.Calls.{Lent, Left, parse-actions-promise, parse-variables-promise, parse-update-targets-promise, directives-promise}
 
 -- ---- underlined bytes
@@ -196,6 +199,7 @@ module _ (s : List ℕ) where
   FaultIn (Whole.wrongCount l) = Unit {0}
   FaultIn (Whole.untaken l) = Unit {0}
   FaultIn (Whole.stopped l) = Unit {0}
+  FaultIn (Whole.idMissing l) = Unit {0}
   FaultIn (Whole.within l f) = RefusalIn f
 
   abbrev pub PackageIn : Whole.Result (List Whole.Directive) → Type 0
@@ -228,11 +232,11 @@ TargetsTold n i o =
     (λ (x : List (Sourced Of.Variable) × List (Sourced (List ℕ))). o .records ≡ padded (length (i .records)) (Spread.wordsFrom 0 (x .0) (x .1))) (Targets.answerGiven (o .answer))
 
 -- directives: both buffers with spans.
-abbrev pub PackageTold : List ℕ × Package.Lent → Reply.Answer × Package.Lent → Type 0
+abbrev pub PackageTold : Called.Package → Reply.Answer × Package.Lent → Type 0
 PackageTold i o =
-    Tells (FaultIn (i .0)) faultGiven (Each (DirectiveIn (i .0)))
+    Tells (FaultIn (i .input)) faultGiven (Each (DirectiveIn (i .input)))
     (λ (ds : List Whole.Directive).
-    (o .1 .variables ≡ padded (length (i .1 .variables)) (Laid.variablesFrom 0 ds)) × (o .1 .actions ≡ padded (length (i .1 .actions)) (Laid.actionsFrom 0 ds)))
+    (o .1 .variables ≡ padded (length (i .lent .variables)) (Laid.variablesFrom 0 ds)) × (o .1 .actions ≡ padded (length (i .lent .actions)) (Laid.actionsFrom 0 ds)))
     (Package.answerGiven (o .0))
 
 -- ---- the theorem
@@ -251,9 +255,9 @@ pub record Underline : Type 0 where
   pub list-part : (s : List ℕ) (t : Token) → Argument s t → (x : Part) → x .first < x .past → x .past ≤ length (normalised (t .text))
       → Underlined (listed (t .kind)) s (standing t) (siteAt s (standing t) (normalSite (t .text) x)) (bytesIn (normalised (t .text)) x)
   -- so every record of its directives, or the piece that it is refused for
-  pub directives : (s : List ℕ) → PackageIn s (Whole.directives s)
+  pub directives : (v : Version) (s : List ℕ) → PackageIn s (directivesFor v s)
   -- and over promises: what every call tells
   pub actions-called : (i : Lent × List ℕ) (o : Left Listed.Answer × List ℕ) → parse-actions-promise i o → ActionsTold i o
   pub variables-called : (i : Lent) (o : Left Read.Answer) → parse-variables-promise i o → TargetsTold AsWritten i o
   pub update-targets-called : (i : Lent) (o : Left Read.Answer) → parse-update-targets-promise i o → TargetsTold LookedUp i o
-  pub directives-called : (i : List ℕ × Package.Lent) (o : Reply.Answer × Package.Lent) → directives-promise i o → PackageTold i o
+  pub directives-called : (i : Called.Package) (o : Reply.Answer × Package.Lent) → directives-promise i o → PackageTold i o
