@@ -1,13 +1,14 @@
 //! Speeds on the same inputs in one process: bytes a second, ours and the original's.
 
 use crate::cases::{RULES, SHORT};
+use crate::directives::{self, Version};
 use crate::original::{self, copies, COPIES};
 use crate::parser::action::parse_actions;
 use crate::parser::lexer::{Lexer, TokenKind};
 use crate::parser::operator::parse_operator;
 use crate::parser::variable::{parse_update_targets, parse_variables};
 use crate::readers::Reader;
-use crate::{directives, ours, real, sizes, underlined};
+use crate::{ours, real, sizes, underlined};
 use lookups::{lookups, Lookup};
 use std::hint::black_box;
 use std::path::PathBuf;
@@ -23,6 +24,8 @@ mod timing;
 pub struct Inputs {
     pub texts: Vec<String>,
     pub packages: Vec<String>,
+    /// Those of the packages that 2.7 reads too.
+    pub with_ids: Vec<String>,
     pub actions: Vec<String>,
     pub plain: Vec<String>,
     pub excluding: Vec<String>,
@@ -58,15 +61,19 @@ impl Inputs {
         }
     }
 
+    /// Packages for both versions: a package that is refused ends both sides' work at its fault, so that only those that are read are
+    /// timed.
+    pub fn read(self, packages: Vec<String>) -> Self {
+        let good = |version| packages.iter().filter(move |text| directives::read(text, version).number == 0).cloned().collect();
+        Inputs { with_ids: good(Version::V2_7), packages: good(Version::V2_6), ..self }
+    }
+
     /// A few rules, where no folder is named.
     fn small() -> Self {
         let mut inputs = Inputs::default();
         for (reader, rule) in RULES {
             match reader {
-                Reader::Tokens => {
-                    inputs.texts.push(rule.repeat(80));
-                    inputs.packages.push(rule.repeat(80));
-                }
+                Reader::Tokens => inputs.texts.push(rule.repeat(80)),
                 Reader::Actions => inputs.actions.push(rule.to_string()),
                 Reader::Variables | Reader::Updates => inputs.variables(rule.to_string()),
                 Reader::Operator => inputs.operators.push(rule.to_string()),
@@ -74,7 +81,8 @@ impl Inputs {
             }
         }
         inputs.plain.push("REQUEST_COOKIES|REQUEST_COOKIES_NAMES|ARGS_NAMES|ARGS|XML:/*".to_string());
-        inputs
+        let packages = inputs.texts.clone();
+        inputs.read(packages)
     }
 
     pub fn of(folders: &[PathBuf]) -> Self {
@@ -87,10 +95,7 @@ impl Inputs {
             inputs.rules(&text);
             inputs.texts.push(text);
         }
-        // a package that is refused ends both sides' work at its fault: only those that are read are timed
-        let packages = real.short_packages().into_iter();
-        inputs.packages.extend(packages.filter(|text| text.len() <= SHORT && directives::read(text).number == 0));
-        inputs
+        inputs.read(real.short_packages().into_iter().filter(|text| text.len() <= SHORT).collect())
     }
 }
 
@@ -102,10 +107,10 @@ fn listed(input: &[u8], [words, ..]: Needs, room: &mut Room) -> u64 {
     ours::parse_actions(input, text, scratch, &mut room.records[..words], &mut room.values)
 }
 
-fn whole(input: &[u8], [d, v, a, _]: Needs, room: &mut Room) -> u64 {
+fn whole(input: &[u8], from_2_7: bool, [d, v, a, _]: Needs, room: &mut Room) -> u64 {
     let (text, scratch) = (&mut room.text[..input.len()], &mut room.scratch[..input.len()]);
     let (variables, actions) = (&mut room.variables[..v], &mut room.actions[..a]);
-    ours::directives(input, text, scratch, &mut room.records[..d], variables, actions, &mut room.values)
+    ours::directives(input, from_2_7, text, scratch, &mut room.records[..d], variables, actions, &mut room.values)
 }
 
 fn all_tokens(text: &str) {
@@ -122,7 +127,7 @@ fn text_rows(inputs: &Inputs) -> Vec<Row<'_>> {
     let fits: fn(&str) -> Needs = |text| exact(original::tokens(text));
     let tokens: Ours = |input, needs, room| fills(ours::tokens, input, needs, room);
     let plain_tokens: Ours = |input, needs, room| fills(ours::plain_tokens, input, needs, room);
-    let (inputs, packages) = (&inputs.texts[..], &inputs.packages[..]);
+    let (inputs, packages, with_ids) = (&inputs.texts[..], &inputs.packages[..], &inputs.with_ids[..]);
     vec![
         Row { name: "tokens", inputs, needs: fits, ours: tokens, original: Some(all_tokens) },
         Row { name: "tokens-roomy", inputs, needs: |_| [20_480, 0, 0, 0], ours: tokens, original: Some(all_tokens) },
@@ -131,8 +136,15 @@ fn text_rows(inputs: &Inputs) -> Vec<Row<'_>> {
             name: "directives",
             inputs: packages,
             needs: exact_package,
-            ours: whole,
+            ours: |input, needs, room| whole(input, false, needs, room),
             original: Some(|text| drop(black_box(directives::owned(text)))),
+        },
+        Row {
+            name: "directives-2.7",
+            inputs: with_ids,
+            needs: exact_package,
+            ours: |input, needs, room| whole(input, true, needs, room),
+            original: Some(|text| drop(black_box(directives::owned_with_ids(text)))),
         },
     ]
 }

@@ -1,6 +1,6 @@
 //! The inputs: every text over an alphabet of awkward pieces, random texts around each boundary, damaged and real rules.
 
-use crate::packages::{ARGUMENTS, JOINTS, LINES};
+use crate::packages::{ARGUMENTS, CHAINED, JOINTS, LINES};
 use crate::readers::Reader;
 
 /// The longest of the short texts, of which there are millions: `long` has the others.
@@ -120,6 +120,7 @@ pub const SETS: &[Set] = &[
     Set { readers: &[Reader::Directives], alphabet: JOINTS, quick: 3, full: 4 },
     Set { readers: &[Reader::Directives], alphabet: LINES, quick: 3, full: 5 },
     Set { readers: &[Reader::Directives], alphabet: ARGUMENTS, quick: 4, full: 5 },
+    Set { readers: &[Reader::Directives], alphabet: CHAINED, quick: 4, full: 5 },
 ];
 
 /// Readers that take a text.

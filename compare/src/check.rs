@@ -33,6 +33,9 @@ pub struct Checker {
     /// Span words of our records that have an old word, and that have none.
     pub held: u64,
     pub far: u64,
+    /// Packages in which 2.7 misses an id, and those that it reads though a rule has none, by a chain.
+    pub missed: u64,
+    pub continued: u64,
     pub counts: [u64; READERS.len()],
 }
 
@@ -90,6 +93,8 @@ impl Checker {
             converted: false,
             held: 0,
             far: 0,
+            missed: 0,
+            continued: 0,
             counts: [0; READERS.len()],
         }
     }
@@ -304,7 +309,7 @@ impl Checker {
             Reader::Directives => self.packages(input),
             Reader::Test | Reader::Matches | Reader::WriteRefusal => unreachable!("these take no text"),
             Reader::SpanFromOld | Reader::SpanToOld | Reader::IndexAdd | Reader::IndexRemove => unreachable!("these take no text"),
-            Reader::Underlined => unreachable!("this is no reader"),
+            Reader::Directives27 | Reader::Underlined => unreachable!("these are no readers"),
         }
     }
 

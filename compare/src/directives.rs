@@ -1,8 +1,9 @@
-//! Whole directives by document 02 (M-100), a second model: the original's tokens joined here, and its parsers on the arguments.
+//! Whole directives by document 02 (M-100, M-108), a second model: the original's tokens joined here, its parsers on the arguments, and
+//! its own word on which rules have an id and a chain.
 
 use crate::error::{Error, SourceLocation};
 use crate::original::{self, Outcome};
-use crate::parser::action::parse_actions;
+use crate::parser::action::{parse_actions, Action, FlowAction, MetadataAction};
 use crate::parser::directive::{Directive, SecAction, SecMarker, SecRule};
 use crate::parser::lexer::{Lexer, Token, TokenKind};
 use crate::parser::operator::parse_operator;
@@ -11,6 +12,10 @@ use crate::readers::{ACTION_WORDS, DIRECTIVE_WORDS, TOKEN_WORDS, VARIABLE_WORDS}
 use crate::sources::{self, Came};
 use crate::spans::{between, halves};
 use crate::underlined;
+pub use seclang::Version;
+
+/// Both of those that a package may be for.
+pub const VERSIONS: [Version; 2] = [Version::V2_6, Version::V2_7];
 
 /// Words of a directive, a variable and an action record.
 pub const WIDTHS: [usize; 3] = [DIRECTIVE_WORDS, VARIABLE_WORDS, ACTION_WORDS];
@@ -27,7 +32,7 @@ pub struct Package {
 }
 
 impl Package {
-    /// 13 to 15, which have the line alone.
+    /// 13 to 15 and 18, which have the line alone.
     fn refused(number: u64, line: u64) -> Self {
         Package { number, values: vec![line], ..Package::default() }
     }
@@ -41,6 +46,14 @@ impl Package {
     pub fn counts(&self) -> [u64; 3] {
         let [d, v, a] = WIDTHS;
         [self.directives.len() / d, self.variables.len() / v, self.actions.len() / a].map(|n| n as u64)
+    }
+
+    /// Whether it is read though a rule has no id.
+    pub fn rests_on_chain(&self) -> bool {
+        let [d, _, a] = WIDTHS;
+        let has_id =
+            |first: u64, count: u64| self.actions.chunks_exact(a).skip(first as usize).take(count as usize).any(|act| act[0] == 11);
+        self.directives.chunks_exact(d).any(|directive| directive[0] <= 2 && !has_id(directive[9], directive[10]))
     }
 
     /// 4, where it is read and so many words of records do not take it all.
@@ -88,6 +101,8 @@ impl<'a> Piece<'a> {
 struct Joined {
     out: Outcome,
     package: Package,
+    /// Whether the last rule has a chain.
+    chained: bool,
 }
 
 impl Joined {
@@ -146,6 +161,22 @@ impl Joined {
         Ok(())
     }
 
+    /// A directive that is good by itself, by its name and arguments: the next rule behind one with `chain` continues it, and from 2.7 on
+    /// any other must have an id. What is no rule changes nothing.
+    fn judge_id(&mut self, token: &Piece, arguments: &[Piece]) -> Result<(), Package> {
+        let list = match (token.text.to_ascii_lowercase().as_str(), arguments) {
+            ("secrule", [_, _]) => "",
+            ("secrule", [_, _, acts]) | ("secaction", [acts]) => acts.text,
+            _ => return Ok(()),
+        };
+        let rule = original::rule(list).expect("a list that is read");
+        let continues = std::mem::replace(&mut self.chained, rule.is_chained());
+        if rule.id().is_none() && !continues {
+            return Err(Package::refused(18, token.line));
+        }
+        Ok(())
+    }
+
     fn read(self) -> Package {
         let [directives, variables, actions] = self.package.counts();
         let values = vec![directives, variables, actions, self.out.texts.len() as u64];
@@ -153,8 +184,8 @@ impl Joined {
     }
 }
 
-/// The directives of a package within the limit and in ASCII.
-pub fn read(text: &str) -> Package {
+/// The directives of a package within the limit and in ASCII. Faults come in the order of the text, so that the first ends it.
+pub fn read(text: &str, version: Version) -> Package {
     let lexed = original::tokens(text);
     let texts = std::str::from_utf8(&lexed.texts).expect("ASCII");
     let pieces: Vec<Piece> = lexed.words.chunks_exact(TOKEN_WORDS).map(|record| Piece::of(record, texts, text.as_bytes())).collect();
@@ -167,7 +198,9 @@ pub fn read(text: &str) -> Package {
         if piece.is_directive() {
             let (arguments, left) = behind.split_at(behind.iter().take_while(|p| p.is_argument()).count());
             rest = left;
-            if let Err(refused) = joined.take(piece, arguments) {
+            let taken = joined.take(piece, arguments);
+            let judged = taken.and_then(|()| if version == Version::V2_7 { joined.judge_id(piece, arguments) } else { Ok(()) });
+            if let Err(refused) = judged {
                 return refused;
             }
         }
@@ -218,4 +251,23 @@ pub fn owned(text: &str) -> Result<Vec<Directive>, Option<Error>> {
         list.push(directive(&token, name, &arguments)?);
     }
     Ok(list)
+}
+
+/// Whether a rule has no id and continues none.
+fn misses_id(list: &[Directive]) -> bool {
+    let rules = list.iter().filter_map(|directive| match directive {
+        Directive::SecRule(rule) => Some(&rule.actions),
+        Directive::SecAction(rule) => Some(&rule.actions),
+        _ => None,
+    });
+    let mut chained = false;
+    rules.into_iter().any(|actions| {
+        let continues = std::mem::replace(&mut chained, actions.iter().any(|action| matches!(action, Action::Flow(FlowAction::Chain))));
+        !continues && !actions.iter().any(|action| matches!(action, Action::Metadata(MetadataAction::Id(_))))
+    })
+}
+
+/// The same for a package from 2.7 on: an error too where a rule misses its id.
+pub fn owned_with_ids(text: &str) -> Result<Vec<Directive>, Option<Error>> {
+    owned(text).and_then(|list| if misses_id(&list) { Err(None) } else { Ok(list) })
 }

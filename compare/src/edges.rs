@@ -149,21 +149,125 @@ pub const UNDERLINED: &[Underlined] = &[
     ("SecAction \" \\t,\\\n \"", &[], &[]),
 ];
 
+/// A package, its number and values for 2.6, and the line of the rule that misses its id in it for 2.7: nothing where both are the same.
+pub type Versioned = (&'static str, u64, &'static [u64], Option<u64>);
+
+/// Where 2.7 and 2.6 part: document 02's own lines first.
+pub const VERSIONED: &[Versioned] = &[
+    ("SecAction deny", 0, &[1, 0, 1, 0], Some(1)),
+    ("SecAction deny\nx", 14, &[2], Some(1)),
+    ("SecAction id:0", 0, &[1, 0, 1, 0], None),
+    ("SecAction chain,id:1\nSecMarker a\nSecAction deny", 0, &[3, 0, 3, 1], None),
+    ("SecAction chain,id:1\nSecAction chain\nSecAction deny", 0, &[3, 0, 4, 0], None),
+    ("SecDefaultAction chain\nSecAction deny", 0, &[2, 0, 2, 0], Some(2)),
+    ("SecAction id:1,chain", 0, &[1, 0, 2, 0], None),
+    // what a rule is: in any letter case, and nothing else
+    ("", 0, &[0, 0, 0, 0], None),
+    ("SecMarker a\nSecDefaultAction log\nSecRuleEngine On\n# x", 0, &[3, 0, 1, 14], None),
+    ("SecRule ARGS a", 0, &[1, 1, 0, 1], Some(1)),
+    ("SecRule ARGS a ''", 0, &[1, 1, 0, 1], Some(1)),
+    ("SecRule ARGS a id:7", 0, &[1, 1, 1, 1], None),
+    ("sEcRuLe args 1 LOG,ID:7", 0, &[1, 1, 2, 1], None),
+    ("SECACTION ''", 0, &[1, 0, 0, 0], Some(1)),
+    ("SecActions deny\nSecRul x\nsec", 0, &[3, 0, 0, 19], None),
+    ("SecMarker id:1\nSecAction deny", 0, &[2, 0, 1, 4], Some(2)),
+    ("SecDefaultAction id:1\nSecAction deny", 0, &[2, 0, 2, 0], Some(2)),
+    ("Sec\\\nRule ARGS a", 0, &[1, 1, 0, 1], Some(1)),
+    ("\n\n  SecAction \\\n \"deny,\\\n log\"", 0, &[1, 0, 2, 0], Some(3)),
+    ("SecMarker \"a\nSecAction deny\"", 0, &[1, 0, 0, 16], None),
+    ("# SecAction deny", 0, &[0, 0, 0, 0], None),
+    // what an id is: any number, any place in the list, and nothing that looks like one
+    ("secaction id:18446744073709551615", 0, &[1, 0, 1, 0], None),
+    ("SecAction \"log,\\\n  i\\\nd:7\"", 0, &[1, 0, 2, 0], None),
+    ("SecAction id:1,id:2", 0, &[1, 0, 2, 0], None),
+    ("SecAction \"msg:'id:1',logdata:id:2\"", 0, &[1, 0, 2, 8], Some(1)),
+    ("SecAction ctl:ruleRemoveById=1,setvar:id=1,t:id", 0, &[1, 0, 3, 21], Some(1)),
+    ("SecRule ARGS id:1", 0, &[1, 1, 0, 4], Some(1)),
+    ("SecRule ARGS:id a tag:id", 0, &[1, 1, 1, 5], Some(1)),
+    // a chain: over whatever is no rule, and to the next rule alone
+    ("SecRule ARGS a 'id:1,chain'\n\n# chain\n \nSecRule ARGS b", 0, &[2, 2, 2, 2], None),
+    ("SecAction CHAIN,id:1\nSecDefaultAction log\nSecRule ARGS a", 0, &[3, 1, 3, 1], None),
+    ("SecAction id:1,chain\nInclude x\nsec # c\nSecAction deny", 0, &[4, 0, 3, 10], None),
+    ("SecAction id:1,chain\nSecAction log\nSecAction deny", 0, &[3, 0, 4, 0], Some(3)),
+    ("SecAction id:1,chain\nSecAction id:2\nSecAction deny", 0, &[3, 0, 4, 0], Some(3)),
+    ("SecAction id:1,chain\nSecRule ARGS a\nSecRule ARGS b", 0, &[3, 2, 2, 2], Some(3)),
+    ("SecAction id:1,chain\nSecRule ARGS a chain\nSecRule ARGS b chain", 0, &[3, 2, 4, 2], None),
+    ("SecAction id:1,chain\nSecAction id:2,chain\nSecAction deny", 0, &[3, 0, 5, 0], None),
+    ("SecAction id:1,chain,chain\nSecAction log\nSecAction deny", 0, &[3, 0, 5, 0], Some(3)),
+    ("SecAction id:1,chain:x\nSecAction deny", 0, &[2, 0, 3, 0], None),
+    ("SecAction \"id:1,ch\\\n  ain\"\nSecAction deny", 0, &[2, 0, 3, 0], None),
+    ("SecAction chain", 0, &[1, 0, 1, 0], Some(1)),
+    ("SecAction chain\nSecAction id:1", 0, &[2, 0, 2, 0], Some(1)),
+    ("SecRule ARGS chain\nSecAction id:1", 0, &[2, 1, 1, 5], Some(1)),
+    ("SecAction id:1\nSecRule ARGS a chain\nSecAction deny", 0, &[3, 1, 3, 1], Some(2)),
+    ("SecAction id:1,t:chain,msg:chain\nSecAction deny", 0, &[2, 0, 4, 10], Some(2)),
+    ("SecAction id:1,skipAfter:chain\nSecAction deny", 0, &[2, 0, 3, 5], Some(2)),
+    ("SecMarker chain\nSecAction deny", 0, &[2, 0, 1, 5], Some(2)),
+    ("Include chain\nSecAction deny", 0, &[2, 0, 1, 7], Some(2)),
+    ("SecAction id:1,chain\nSecDefaultAction id:2\nSecAction log\nSecAction deny", 0, &[4, 0, 5, 0], Some(4)),
+    ("SecAction id:1,chain\nSecDefaultAction chain\nSecAction log\nSecAction deny", 0, &[4, 0, 5, 0], Some(4)),
+    // of one directive the id is judged last
+    ("SecAction", 13, &[1], None),
+    ("SecAction deny log", 13, &[1], None),
+    ("SecAction deny SecAction id:1", 13, &[1], None),
+    ("SecRule nope a", 7, &[1, 0, 4, span(8, 4)], None),
+    ("SecRule ARGS @x", 8, &[1, 1, 1, span(14, 1)], None),
+    ("SecRule ARGS a log,bogus", 5, &[1, 1, 5, span(19, 5)], None),
+    ("SecAction id", 10, &[1, 0, 2, span(10, 2)], None),
+    ("SecAction id:x", 11, &[1, 0, 2, span(10, 4)], None),
+    ("SecAction phase:256", 12, &[1, 0, 5, span(10, 9)], None),
+    ("SecAction id:1,chain\nSecAction bogus", 5, &[2, 0, 5, span(31, 5)], None),
+    // what stands before comes before
+    ("SecAction bogus\nSecAction deny", 5, &[1, 0, 5, span(10, 5)], None),
+    ("SecRule x\nSecAction deny", 13, &[1], None),
+    ("x\nSecAction deny", 14, &[1], None),
+    ("\x0cSecAction deny", 15, &[1], None),
+    ("SecAction id:1\nSecRule\nSecAction deny", 13, &[2], None),
+    ("SecAction id:1,chain\n\x0cSecAction deny", 15, &[2], None),
+    ("SecAction id:1\x0c", 15, &[1], None),
+    // and what stands behind, behind
+    ("SecAction deny\nSecAction bogus", 5, &[2, 0, 5, span(25, 5)], Some(1)),
+    ("SecAction deny\nSecRule nope a", 7, &[2, 0, 4, span(23, 4)], Some(1)),
+    ("SecAction deny\nSecRule TX @x", 8, &[2, 1, 1, span(27, 1)], Some(1)),
+    ("SecAction deny\nSecAction id", 10, &[2, 0, 2, span(25, 2)], Some(1)),
+    ("SecAction deny\nSecAction id:", 11, &[2, 0, 2, span(25, 3)], Some(1)),
+    ("SecAction deny\nSecAction status:65536", 12, &[2, 0, 6, span(25, 12)], Some(1)),
+    ("SecAction deny\nSecRule x", 13, &[2], Some(1)),
+    ("SecAction deny\n\\SecMarker x", 14, &[2], Some(1)),
+    ("SecAction deny\x0c", 15, &[1], Some(1)),
+    ("SecAction deny\n\n\x0c", 15, &[3], Some(1)),
+    ("SecAction deny\nSecAction log", 0, &[2, 0, 2, 0], Some(1)),
+    ("SecAction id:1\nSecAction log\nSecAction deny", 0, &[3, 0, 3, 0], Some(2)),
+];
+
 pub fn all() -> impl Iterator<Item = &'static Edge> {
     EDGES.iter().chain(FLAWED).chain(REFUSED)
 }
 
-/// Every package here.
+/// Every package here, those in which the versions part last.
 pub fn packages() -> impl Iterator<Item = &'static str> {
+    of_both().chain(VERSIONED.iter().map(|edge| edge.0))
+}
+
+/// Those that are about something else.
+pub fn of_both() -> impl Iterator<Item = &'static str> {
     all().map(|edge| edge.0).chain(UNDERLINED.iter().map(|edge| edge.0))
 }
 
 #[cfg(test)]
 mod tests {
-    use super::{all, UNDERLINED};
-    use crate::directives::{self, Package};
+    use super::{all, packages, UNDERLINED, VERSIONED};
+    use crate::directives::{self, Package, Version};
     use crate::readers::{ACTION_WORDS, VARIABLE_WORDS};
     use crate::spans::span;
+
+    fn for_2_6(package: &str) -> Package {
+        directives::read(package, Version::V2_6)
+    }
+
+    fn for_2_7(package: &str) -> Package {
+        directives::read(package, Version::V2_7)
+    }
 
     fn words(list: &[u64], record: usize, width: usize) -> &[u64] {
         &list[record * width..(record + 1) * width]
@@ -172,7 +276,7 @@ mod tests {
     #[test]
     fn each_edge_comes_out() {
         for (input, number, values, text) in all() {
-            let read = directives::read(input);
+            let read = for_2_6(input);
             assert_eq!((read.number, &read.values[..]), (*number, *values), "{input:?}");
             assert_eq!(read.texts, text.as_bytes(), "{input:?}");
             let empty = read.directives.is_empty() && read.variables.is_empty() && read.actions.is_empty();
@@ -181,9 +285,27 @@ mod tests {
     }
 
     #[test]
+    fn each_edge_of_versions_comes_out() {
+        for (input, number, values, missed) in VERSIONED {
+            let (older, newer) = (for_2_6(input), for_2_7(input));
+            assert_eq!((older.number, &older.values[..]), (*number, *values), "{input:?}");
+            let expected = missed.map_or(older, |line| Package { number: 18, values: vec![line], ..Package::default() });
+            assert_eq!(newer, expected, "{input:?}");
+        }
+    }
+
+    /// All else that 2.7 gives is what 2.6 gives.
+    #[test]
+    fn versions_differ_in_18_alone() {
+        let differ = packages().filter(|package| for_2_7(package) != for_2_6(package)).collect::<Vec<_>>();
+        assert!(differ.iter().all(|package| for_2_7(package).number == 18), "{differ:?}");
+        assert!(70 < differ.len(), "{}", differ.len());
+    }
+
+    #[test]
     fn each_piece_is_underlined() {
         for (input, variables, actions) in UNDERLINED {
-            let read = directives::read(input);
+            let read = for_2_6(input);
             assert_eq!(read.number, 0, "{input:?}");
             let sources = |words: &[u64], width: usize| words.chunks_exact(width).map(|record| record[width - 1]).collect::<Vec<_>>();
             let by_hand = |list: &[(u64, u64)]| list.iter().map(|(offset, len)| span(*offset, *len)).collect::<Vec<_>>();
@@ -194,14 +316,14 @@ mod tests {
 
     #[test]
     fn an_unknown_ends_with_its_token() {
-        assert_eq!(directives::read("sec").directives, [5, 1, span(0, 3), span(0, 3), 0, 0, 0, 0, 0, 0, 0]);
-        let read = directives::read("#\n Include \"a\" b # c");
+        assert_eq!(for_2_6("sec").directives, [5, 1, span(0, 3), span(0, 3), 0, 0, 0, 0, 0, 0, 0]);
+        let read = for_2_6("#\n Include \"a\" b # c");
         assert_eq!(read.directives, [5, 2, span(3, 13), span(0, 7), 0, 0, 0, 0, 0, 0, 0]);
     }
 
     #[test]
     fn every_kind_has_the_numbers_reached() {
-        let read = directives::read("SecRule ARGS a\nSecMarker m\nSecAction deny");
+        let read = for_2_6("SecRule ARGS a\nSecMarker m\nSecAction deny");
         assert_eq!(words(&read.directives, 0, 11), [1, 1, span(0, 14), 0, 0, 0, span(0, 1), 0, 1, 0, 0]);
         assert_eq!(words(&read.directives, 1, 11), [3, 2, span(15, 11), span(1, 1), 0, 0, 0, 1, 0, 0, 0]);
         assert_eq!(words(&read.directives, 2, 11), [2, 3, span(27, 14), 0, 0, 0, 0, 1, 0, 0, 1]);
@@ -209,28 +331,29 @@ mod tests {
 
     #[test]
     fn texts_stand_in_order() {
-        let read = directives::read("SecRule !a|TX:k|ARGS \"!@pm x \" setvar:y");
+        let read = for_2_6("SecRule !a|TX:k|ARGS \"!@pm x \" setvar:y");
         assert_eq!(read.directives, [1, 1, span(0, 39), 0, 1, 1, span(2, 1), 0, 3, 0, 1]);
         assert_eq!(words(&read.variables, 0, VARIABLE_WORDS)[4..], [span(0, 1), span(11, 4)]);
         assert_eq!(words(&read.variables, 2, VARIABLE_WORDS), [2, 0, 0, 0, span(1, 1), span(8, 2)]);
         assert_eq!(read.actions, [22, 0, span(3, 2), span(5, 1), 1, span(6, 1), span(31, 8)]);
-        let empty = directives::read("SecRule \"\" \"\"");
+        let empty = for_2_6("SecRule \"\" \"\"");
         assert_eq!(empty.directives, [1, 1, span(0, 13), 0, 0, 0, 0, 0, 0, 0, 0]);
         // an empty text that is there has the offset reached, one that is not is 0
-        let behind = directives::read("SecMarker ab\nSecAction msg,deny\nSecMarker ''");
+        let behind = for_2_6("SecMarker ab\nSecAction msg,deny\nSecMarker ''");
         assert_eq!((behind.actions[2], behind.actions[9], behind.directives[25]), (span(2, 0), 0, span(2, 0)));
     }
 
     #[test]
     fn room_is_judged_last_with_all_counts() {
-        let read = || directives::read("SecRule ARGS a deny");
+        let read = || for_2_6("SecRule ARGS a deny");
         let none = Package { number: 4, values: vec![1, 1, 1], ..Package::default() };
         for words in [[11, 5, 7], [10, 6, 7], [11, 6, 6], [0, 0, 0]] {
             assert_eq!(read().without_room(words).as_ref(), Some(&none), "{words:?}");
         }
         assert_eq!(read().without_room([11, 6, 7]), None);
-        assert_eq!(directives::read("SecRule x").without_room([0, 0, 0]), None);
-        assert_eq!(directives::read("").without_room([0, 0, 0]), None);
+        assert_eq!(for_2_6("SecRule x").without_room([0, 0, 0]), None);
+        assert_eq!(for_2_6("").without_room([0, 0, 0]), None);
+        assert_eq!(for_2_7("SecAction deny").without_room([0, 0, 0]), None);
     }
 
     /// The join in the original's own types agrees on which packages are read, and on how many directives they have.
@@ -238,6 +361,9 @@ mod tests {
     fn both_joins_agree() {
         for (input, number, values, _) in all().filter(|edge| edge.1 != 15) {
             assert_eq!(directives::owned(input).map(|list| list.len() as u64).ok(), (*number == 0).then(|| values[0]), "{input:?}");
+        }
+        for input in packages().filter(|package| for_2_7(package).number != 15) {
+            assert_eq!(directives::owned_with_ids(input).is_ok(), for_2_7(input).number == 0, "{input:?}");
         }
     }
 }

@@ -1,11 +1,12 @@
 //! Long texts for every reader: frames that fill a length, good pieces joined to it, and these with a fault where no old span reached.
 
 use crate::cases::{pieces_of, Random};
+use crate::directives::{self, Version};
 use crate::original;
 use crate::packages::Pools;
 use crate::readers::Reader;
 use crate::real::closed;
-use crate::{directives, underlined};
+use crate::underlined;
 
 /// At and beside the limit of once, the largest halves of an old span, powers of two, and the limit.
 pub const LENGTHS: [usize; 21] = [
@@ -76,6 +77,14 @@ const PACKAGED: &[Frame] = &[
     ("", "#\n", "SecRule"),
     ("SecMarker a", "\n", "x"),
     ("", " \n", "\x0c"),
+    // from 2.7 on: an id and a chain far from where they are looked for, and none where one is
+    ("SecAction id:1,chain\n", "#\n", "SecRule TX a"),
+    ("SecAction id:1,chain\n", "SecMarker m\n", "SecAction log\nSecAction deny"),
+    ("", "SecAction id:1,chain\n", "SecRule TX a\nSecRule TX b"),
+    ("SecAction id:1\n", "#\n", "SecAction deny"),
+    ("SecAction id:1,", "t:,", "chain\nSecAction deny"),
+    ("SecAction ", "t:,", "id:1\nSecAction deny"),
+    ("SecAction \"id:1,msg:'", "x, ", "'\"\nSecRule TX a"),
 ];
 
 const ACTED: &[Frame] = &[
@@ -177,9 +186,13 @@ const BAD_DIRECTIVES: &[&str] = &[
     "\n\x0c",
 ];
 
-/// Good pieces for each reader, which stay good behind one another: lists without their joint, and whole directives.
+/// A rule for 2.7 to end with, which no chain before it leads to.
+const WITHOUT_ID: &str = "\nSecAction id:1\nSecRule TX a";
+
+/// Good pieces for each reader, which stay good behind one another: lists without their joint, and whole directives, also for 2.7.
 pub struct Good {
     packages: Vec<String>,
+    with_ids: Vec<String>,
     actions: Vec<String>,
     variables: Vec<String>,
     updates: Vec<String>,
@@ -200,9 +213,11 @@ impl Good {
         // what ends open would take the next piece with it: one more record must come behind
         let acts = |text: &str| text.len() < 400 && underlined::actions(text).number == 0;
         let one_more = |text: &str| underlined::actions(&format!("{text},deny")).words.len() == underlined::actions(text).words.len() + 7;
-        let package = |text: &str| closed(text).last() == Some(&"") && directives::read(text).number == 0;
+        let ascii = |package| String::from_utf8(package).expect("ASCII");
+        let good = |text: &str, version| closed(text).last() == Some(&"") && directives::read(text, version).number == 0;
         Good {
-            packages: some(|| String::from_utf8(pools.package(random, 2000)).expect("ASCII"), |text| !text.is_empty() && package(text)),
+            packages: some(|| ascii(pools.package(random, 2000)), |text| !text.is_empty() && good(text, Version::V2_6)),
+            with_ids: some(|| ascii(pools.chained(random, 2000)), |text| !text.is_empty() && good(text, Version::V2_7)),
             actions: some(|| pools.actions(random), |text| acts(text) && one_more(text)),
             variables: some(|| pools.list(random), |text| underlined::variables(text).number == 0),
             updates: some(|| pools.list(random), |text| underlined::updates(text).number == 0),
@@ -223,24 +238,23 @@ impl Good {
         }
     }
 
-    fn piece(&self, random: &mut Random, reader: Reader) -> &str {
-        let list: &[String] = match reader {
+    fn pieces(&self, reader: Reader) -> &[String] {
+        match reader {
             Reader::Actions => &self.actions,
             Reader::Setvar => &self.settings,
             Reader::Variables => &self.variables,
             Reader::Updates => &self.updates,
             Reader::Operator => &self.said,
             _ => &self.packages,
-        };
-        random.one(list).as_str()
+        }
     }
 
     /// Good pieces joined, and one that fills the rest: exactly so many bytes, with `last` at the end.
-    fn ended(&self, random: &mut Random, reader: Reader, len: usize, last: &str) -> Vec<u8> {
+    fn ended(random: &mut Random, reader: Reader, pieces: &[String], len: usize, last: &str) -> Vec<u8> {
         let (first, joint, rest, _) = Good::parts(reader);
         let (mut text, room) = (first.to_string(), len - rest.len() - last.len() - 1);
         loop {
-            let piece = self.piece(random, reader);
+            let piece = random.one(pieces);
             if room < text.len() + joint.len() + piece.len() {
                 break;
             }
@@ -253,14 +267,24 @@ impl Good {
     }
 
     pub fn joined(&self, random: &mut Random, reader: Reader, len: usize) -> Vec<u8> {
-        self.ended(random, reader, len, "")
+        Good::ended(random, reader, self.pieces(reader), len, "")
+    }
+
+    /// The same of packages for 2.7.
+    pub fn joined_with_ids(&self, random: &mut Random, reader: Reader, len: usize) -> Vec<u8> {
+        Good::ended(random, reader, &self.with_ids, len, "")
+    }
+
+    /// These with a rule at the end that misses its id.
+    pub fn missed(&self, random: &mut Random, reader: Reader, len: usize) -> Vec<u8> {
+        Good::ended(random, reader, &self.with_ids, len, WITHOUT_ID)
     }
 
     /// The same with a fault at the end, where a reader refuses anything.
     pub fn refused(&self, random: &mut Random, reader: Reader, len: usize) -> Vec<u8> {
         let (.., faults) = Good::parts(reader);
         let last = if faults.is_empty() { "" } else { *random.one(faults) };
-        self.ended(random, reader, len, last)
+        Good::ended(random, reader, self.pieces(reader), len, last)
     }
 
     /// A joined text with a few bytes damaged in its last quarter.
@@ -285,10 +309,11 @@ pub fn past_ascii(random: &mut Random, mut text: Vec<u8>) -> Vec<u8> {
 mod tests {
     use super::{filled, frames, Good};
     use crate::cases::Random;
+    use crate::directives::{self, Version, VERSIONS};
     use crate::packages::Pools;
     use crate::readers::Reader;
     use crate::spans::{halves, SHARED};
-    use crate::{directives, underlined};
+    use crate::underlined;
 
     /// The number and the values that the model gives.
     fn told(reader: Reader, text: Vec<u8>) -> (u64, Vec<u64>) {
@@ -300,7 +325,7 @@ mod tests {
             Reader::Operator => underlined::operator,
             Reader::Setvar => underlined::setvar,
             _ => {
-                let read = directives::read(&text);
+                let read = directives::read(&text, Version::V2_6);
                 return (read.number, read.values);
             }
         };
@@ -334,6 +359,30 @@ mod tests {
             }
             assert!(numbers.iter().all(|number| found.contains(number)), "{reader:?}: {found:?}");
         }
+    }
+
+    /// The number and the values that the model gives for 2.7.
+    fn told_for_2_7(text: Vec<u8>) -> (u64, Vec<u64>) {
+        let read = directives::read(&String::from_utf8(text).expect("ASCII"), Version::V2_7);
+        (read.number, read.values)
+    }
+
+    /// Packages for 2.7 are read by both, and miss an id at their end alone.
+    #[test]
+    fn joined_packages_have_ids_but_at_their_end() {
+        let mut random = Random(4);
+        let good = Good::new(&mut random, &Pools::new());
+        for _ in 0..20 {
+            let text = good.joined_with_ids(&mut random, Reader::Directives, 70_000);
+            assert_eq!((told(Reader::Directives, text.clone()).0, told_for_2_7(text).0), (0, 0));
+            let text = good.missed(&mut random, Reader::Directives, 70_000);
+            let last = 1 + text.iter().filter(|byte| **byte == b'\n').count() as u64;
+            assert_eq!((told(Reader::Directives, text.clone()).0, told_for_2_7(text)), (0, (18, vec![last])));
+        }
+        let frames = || frames(Reader::Directives).into_iter().map(|frame| filled(frame, 70_000));
+        assert!(4 < frames().filter(|text| told_for_2_7(text.clone()).0 == 18).count());
+        let differ = |text: &Vec<u8>| VERSIONS.map(|version| directives::read(std::str::from_utf8(text).expect("ASCII"), version).number);
+        assert!(frames().any(|text| differ(&text) == [0, 0] && text.starts_with(b"SecAction id:1,chain")));
     }
 
     /// Frames come to each number of their reader, and to names longer than an old span.

@@ -83,6 +83,25 @@ pub const ARGUMENTS: &[&str] = &[
     "Include ",
 ];
 
+/// Whole lines: rules with and without an id and a chain, what may stand between two, and a fault of each kind.
+pub const CHAINED: &[&str] = &[
+    "SecAction id:1\n",
+    "SecAction id:0,chain\n",
+    "SecAction chain\n",
+    "SecAction log\n",
+    "SecRule TX a\n",
+    "secrule TX a 'Chain,ID:2'\n",
+    "SecMarker id:3\n",
+    "SecDefaultAction chain\n",
+    "SecDefaultAction id:4\n",
+    "Include chain\n",
+    "# chain\n",
+    "SecRule x\n",
+    "SecAction id:5,bogus\n",
+    "x\n",
+    "\x0c",
+];
+
 /// What stands around every text of `SPANNED`: an action list in marks and bare, a list of variables, and an operator's name.
 pub const AROUND: [(&str, &str); 4] = [("SecAction \"", ""), ("SecAction ", ""), ("SecRule \"", "\" a"), ("SecRule TX \"@", "\"")];
 
@@ -140,6 +159,46 @@ const FLAWED: &[&str] = &[
     "accuracy:+256",
     "redirect",
     "initcol",
+];
+/// What a rule for 2.7 says: an id, a chain, and neither, though it may look like one.
+const IDS: &[&str] = &["id:7", "id:7", "id:0", "ID:18446744073709551615", "id:+1", "id:8,id:9"];
+const CHAINS: &[&str] = &["chain", "chain", "CHAIN", "Chain", "chain:x", "chain,chain"];
+const NEITHER: &[&str] = &[
+    "log",
+    "t:none",
+    "phase:2",
+    "msg:'id:7, chain'",
+    "t:chain",
+    "tag:id",
+    "setvar:id=1",
+    "ctl:ruleRemoveById=7",
+    "skipAfter:chain",
+    "exec:chain",
+];
+/// What may stand between two rules of a chain.
+const IDLE: &[&str] = &[
+    "SecMarker chain",
+    "SecMarker 'id:7'",
+    "SecDefaultAction \"phase:1,chain\"",
+    "SecDefaultAction id:7",
+    "SecDefaultAction log",
+    "Include chain",
+    "SecRuleEngine On",
+    "sec id:7",
+    "# chain",
+    "",
+];
+/// What ends the reading of a package, each with its own number.
+const FAULTS: &[&str] = &[
+    "stray",
+    "\x0c",
+    "SecRule TX",
+    "SecAction log,bogus",
+    "SecRule nope a",
+    "SecRule TX @bad",
+    "SecAction id",
+    "SecAction id:x",
+    "SecAction id:7,phase:256",
 ];
 const SELECTED: &[&str] = &["", "", "", ":k", ":/^a/", ":", "://", ":a b", ":'x'"];
 const SAID: &[&str] = &["", "a", "(?i)union\\s+select", "a b ", "%{TX.0}", "\"q\"", "it's", "^[^\\\\]$", "1"];
@@ -216,6 +275,31 @@ impl Pools {
         }
     }
 
+    /// A rule for 2.7 with an id in so many cases of eight; in how many the next should have one: few behind a chain, and not all behind
+    /// what a chain led to, so that one that is not handed on is missed.
+    fn rule(&self, random: &mut Random, ids: usize, out: &mut String) -> usize {
+        let (has_id, has_chain) = (random.below(8) < ids, random.below(5) < 2);
+        let mut said: Vec<&str> = (0..random.below(3)).map(|_| *random.one(NEITHER)).collect();
+        for of in [has_id.then_some(IDS), has_chain.then_some(CHAINS)].into_iter().flatten() {
+            let place = random.below(said.len() + 1);
+            said.insert(place, *random.one(of));
+        }
+        let joined = said.join(*random.one(&[",", ",", ", ", ",\\\n  "]));
+        let list = quoted(random, &joined);
+        let name = in_some_case_of(random, &["SecRule", "SecRule", "SecAction"]);
+        let rule = format!("{} {}", random.one(&["TX", "ARGS|!ARGS:a", "\"&ip:chain\""]), random.one(&["a", "\"!@pm b c\"", "id:7"]));
+        out.push_str(&match (name.len(), said.len()) {
+            (7, 0) => format!("{name} {rule}"),
+            (7, _) => format!("{name} {rule} {list}"),
+            _ => format!("{name} {list}"),
+        });
+        match (has_chain, ids) {
+            (true, _) => 2,
+            (false, 2) => 5,
+            _ => 7,
+        }
+    }
+
     fn one_of(&self, random: &mut Random, names: &[&str], out: &mut String) {
         let name = *random.one(names);
         self.directive(random, name, out)
@@ -241,6 +325,26 @@ impl Pools {
         // the longest end where they end: beside their length by one
         let len = if longest == SHORT { SHORT - 1 + random.below(3) } else { out.len() };
         out.truncate(len);
+        out.into_bytes()
+    }
+}
+
+impl Pools {
+    /// Some lines of a package for 2.7: rules with and without ids and chains, others between them, and seldom a fault.
+    pub fn chained(&self, random: &mut Random, longest: usize) -> Vec<u8> {
+        let (mut out, mut ids, lines) = (String::new(), 7, random.below(12));
+        for _ in 0..if longest == SHORT { SHORT } else { lines } {
+            match random.below(60) {
+                0 => out.push_str(*random.one(FAULTS)),
+                1 => self.one_of(random, NAMES, &mut out),
+                2..=19 => out.push_str(*random.one(IDLE)),
+                _ => ids = self.rule(random, ids, &mut out),
+            }
+            out.push_str(if random.below(12) == 0 { *random.one(ENDS) } else { "\n" });
+            if longest <= out.len() {
+                break;
+            }
+        }
         out.into_bytes()
     }
 }
@@ -274,9 +378,10 @@ fn quoted(random: &mut Random, text: &str) -> String {
 
 #[cfg(test)]
 mod tests {
-    use super::{Pools, ARGUMENTS, JOINTS, LINES};
+    use super::{Pools, ARGUMENTS, CHAINED, JOINTS, LINES};
     use crate::cases::{Random, Set};
-    use crate::{directives, real};
+    use crate::directives::{self, Package, Version, VERSIONS, WIDTHS};
+    use crate::real;
 
     /// The most records that so many bytes can need, as include/seclang.h has it.
     fn most(n: usize) -> [u64; 3] {
@@ -288,7 +393,7 @@ mod tests {
         let mut numbers = [0; 16];
         for package in packages {
             let text = String::from_utf8(package).expect("ASCII");
-            let read = directives::read(&text);
+            let read = directives::read(&text, Version::V2_6);
             assert!(read.counts().iter().zip(most(text.len())).all(|(count, most)| *count <= most), "{text:?}");
             assert!(read.number != 0 || read.texts.len() <= text.len(), "{text:?}");
             // the join that is timed knows no early stop
@@ -308,7 +413,7 @@ mod tests {
             texts.push(text.to_vec());
             true
         });
-        let counts = |text: &str| directives::read(text).counts();
+        let counts = |text: &str| directives::read(text, Version::V2_6).counts();
         assert_eq!((counts("sec\nsec")[0], counts("SecRule TX\"")[1], counts("SecRule TX|!\"")[1]), (2, 1, 2));
         assert_eq!((counts("SecAction t:")[2], counts("SecAction t:,t:")[2]), (1, 2));
         told(texts.into_iter());
@@ -356,15 +461,73 @@ mod tests {
         let idle = ["\n", " \t\r\n", "# it's \"x\\\n", "\t#\x0c\n", "  \n", "#\n"];
         let mut tried = 0;
         for _ in 0..20_000 {
-            let [front, rest] = [0; 2].map(|_| String::from_utf8(pools.package(&mut random, 400)).expect("ASCII"));
+            let make = *random.one(&[Pools::package, Pools::chained]);
+            let [front, rest] = [0; 2].map(|_| String::from_utf8(make(&pools, &mut random, 400)).expect("ASCII"));
             if !(front.is_empty() || real::closed(&front).last() == Some(&"")) {
                 continue;
             }
-            let read = |line: &str| unspanned(directives::read(&format!("{front}{line}{rest}")));
             let (one, other) = (*random.one(&idle), *random.one(&idle));
-            assert_eq!(read(one), read(other), "{front:?}, {one:?} or {other:?}, {rest:?}");
+            for version in VERSIONS {
+                let read = |line: &str| unspanned(directives::read(&format!("{front}{line}{rest}"), version));
+                assert_eq!(read(one), read(other), "{version:?}: {front:?}, {one:?} or {other:?}, {rest:?}");
+            }
             tried += 1;
         }
         assert!(5_000 < tried, "{tried}");
+    }
+
+    /// The rules of a package that was read: whether each has an id and a chain, and whether another directive stands right before it.
+    fn rules(read: &Package) -> Vec<(u64, bool, bool, bool)> {
+        let [d, _, a] = WIDTHS;
+        let (mut rules, mut before) = (Vec::new(), 0);
+        for directive in read.directives.chunks_exact(d) {
+            let acts = || read.actions.chunks_exact(a).skip(directive[9] as usize).take(directive[10] as usize);
+            if directive[0] <= 2 {
+                rules.push((directive[1], acts().any(|act| act[0] == 11), acts().any(|act| act[0] == 7), 2 < before));
+            }
+            before = directive[0];
+        }
+        rules
+    }
+
+    /// How often a package for 2.7 is read, misses an id, misses one behind a rule that continued another, is refused otherwise, and is
+    /// read by a chain over another directive. The two versions differ in 18 alone.
+    fn told_for_2_7(packages: impl Iterator<Item = Vec<u8>>) -> [usize; 5] {
+        let mut counts = [0; 5];
+        for package in packages {
+            let text = String::from_utf8(package).expect("ASCII");
+            let [older, newer] = VERSIONS.map(|version| directives::read(&text, version));
+            assert!(newer.number == 15 || directives::owned_with_ids(&text).is_ok() == (newer.number == 0), "{text:?}");
+            assert!(newer.number == 18 || newer == older, "{text:?}");
+            let rules = rules(&older);
+            let missed = rules.iter().position(|rule| newer.number == 18 && rule.0 == newer.values[0]).unwrap_or(0);
+            let crossed = rules.iter().any(|(_, has_id, _, crossed)| !has_id && *crossed);
+            counts[0] += usize::from(newer.number == 0);
+            counts[1] += usize::from(newer.number == 18);
+            counts[2] += usize::from(0 < missed && !rules[missed - 1].1);
+            counts[3] += usize::from(![0, 18].contains(&newer.number));
+            counts[4] += usize::from(newer.number == 0 && crossed);
+        }
+        counts
+    }
+
+    #[test]
+    fn random_packages_for_2_7_come_to_every_chain() {
+        let (pools, mut random) = (Pools::new(), Random(3));
+        let counts = told_for_2_7((0..20_000).map(|_| pools.chained(&mut random, 2000)));
+        println!("{counts:?}");
+        assert!(counts.iter().all(|count| 1_000 < *count), "{counts:?}");
+    }
+
+    #[test]
+    fn lines_of_chains_come_to_every_number() {
+        let mut texts = Vec::new();
+        Set { readers: &[], alphabet: CHAINED, quick: 0, full: 0 }.each(4, &mut |text| {
+            texts.push(text.to_vec());
+            true
+        });
+        let counts = told_for_2_7(texts.into_iter());
+        println!("{counts:?}");
+        assert!(counts.iter().all(|count| 300 < *count), "{counts:?}");
     }
 }

@@ -24,11 +24,13 @@ pub enum Reader {
     SpanToOld,
     IndexAdd,
     IndexRemove,
+    /// No reader of its own: `Directives` for 2.7.
+    Directives27,
     /// No reader: a part that `Directives` underlines, read alone.
     Underlined,
 }
 
-pub const READERS: [Reader; 23] = [
+pub const READERS: [Reader; 24] = [
     Reader::NextToken,
     Reader::Tokens,
     Reader::PlainTokens,
@@ -51,6 +53,7 @@ pub const READERS: [Reader; 23] = [
     Reader::SpanToOld,
     Reader::IndexAdd,
     Reader::IndexRemove,
+    Reader::Directives27,
     Reader::Underlined,
 ];
 

@@ -1,7 +1,7 @@
 //! Real rule files: each whole, all joined, their directives alone, and the arguments of these.
 
 use crate::cases::SHORT;
-use crate::directives;
+use crate::directives::{self, Version};
 use crate::original::LIMIT;
 use crate::parser::lexer::{probe as lexing, Lexer, TokenKind};
 use std::collections::BTreeMap;
@@ -99,17 +99,17 @@ impl Real {
     /// The files in ASCII that are read as packages, joined.
     pub fn readable(&self) -> String {
         let ascii = self.files.iter().filter(|file| file.is_ascii() && file.len() < LIMIT).map(|file| plain(file) + "\n");
-        ascii.filter(|file| directives::read(file).number == 0 && closed(file).last() == Some(&"")).collect()
+        ascii.filter(|file| directives::read(file, Version::V2_6).number == 0 && closed(file).last() == Some(&"")).collect()
     }
 
     /// How many files come to which number as packages.
-    pub fn numbers(&self) -> BTreeMap<u64, usize> {
+    pub fn numbers(&self, version: Version) -> BTreeMap<u64, usize> {
         let mut numbers = BTreeMap::new();
         for file in &self.files {
             let number = match file {
                 file if LIMIT < file.len() => 1,
                 file if !file.is_ascii() => 2,
-                file => directives::read(&plain(file)).number,
+                file => directives::read(&plain(file), version).number,
             };
             *numbers.entry(number).or_default() += 1;
         }

@@ -2,6 +2,7 @@
 
 use crate::cases::{Random, Set, SETS, TEXT_READERS};
 use crate::check::Checker;
+use crate::directives::VERSIONS;
 use crate::long::LONG_READERS;
 use crate::original;
 use crate::packages::{AROUND, SPANNED};
@@ -180,7 +181,9 @@ impl Run {
         let [files, copies, arguments, rules] = [&real.files, &real.copies, &real.arguments, &real.rules].map(Vec::len);
         let cases = self.done() - before;
         println!("{files} rule files whole, {copies} copies in ASCII, {arguments} arguments and {rules} directives alone: {cases} cases");
-        println!("of the files {}", told(&real.numbers()));
+        for version in VERSIONS {
+            println!("of the files for {version:?} {}", told(&real.numbers(version)));
+        }
         let lengths: Vec<String> = real.joined.iter().map(|text| text.len().to_string()).collect();
         println!("with them files joined to texts of {} bytes", lengths.join(", "));
         println!("of these {} parts that are underlined, each read alone", self.checker.counts[Reader::Underlined as usize] - alone);
@@ -249,6 +252,10 @@ pub fn all(wanted: &Wanted) -> bool {
         println!("{count:>12} {reader:?}");
     }
     println!("{:>12} span words of records have an old word, there and back the same", run.checker.held);
+    println!(
+        "{:>12} packages miss an id under 2.7, and {} have a rule without one that a chain leads to",
+        run.checker.missed, run.checker.continued
+    );
     let verdict = if run.fine { "no difference" } else { "A DIFFERENCE" };
     println!("{verdict} in {} cases, {} s", run.done(), run.began.elapsed().as_secs());
     run.fine

@@ -96,8 +96,9 @@ impl OfSize {
             plain: cut(&parts.plain, "|", size),
             excluding: cut(&parts.excluding, "|", size),
             operators: alike("@rx ", "(?i)union|select ", size),
-            packages,
+            ..Inputs::default()
         };
+        let inputs = inputs.read(packages);
         let first = inputs.texts.iter().take(1).cloned().collect();
         OfSize { inputs, settings: alike("tx.key=", "a value ", size), first }
     }

@@ -1,15 +1,15 @@
 //! The stored questions and answers for whole directives: every edge, and random packages, each with the model's answer.
 //!
-//! A question is `D`, a blank and the package in hexadecimal. Its answer is the number; for 0 the counts of directive, variable and
-//! action records, the length of the texts, the words of all three lists of records and the texts in hexadecimal (`-` where empty);
-//! for a refusal its values, and the name in hexadecimal behind 5, 7 and 10 to 12, else `-`.
-//! A package past 16,384 bytes is asked for as `D*`: how often its part stands, the lengths of its front and of the part, 8 bytes each,
+//! A question is `D` for 2.6 and `E` for 2.7, a blank and the package in hexadecimal. Its answer is the number; for 0 the counts of
+//! directive, variable and action records, the length of the texts, the words of all three lists of records and the texts in hexadecimal
+//! (`-` where empty); for a refusal its values, and the name in hexadecimal behind 5, 7 and 10 to 12, else `-`.
+//! A package past 16,384 bytes is asked for as `D*` or `E*`: how often its part stands, the lengths of its front and of the part, 8 bytes each,
 //! the largest first, and front, part and tail. A span word is told as document 01 had it where neither half is past 65,535, and
 //! else as it is behind a `+`, a text past 16,387 bytes by a sum.
 
 use crate::cases::{Random, SHORT};
-use crate::directives::{self, Package};
-use crate::edges::{Edge, EDGES, FLAWED, REFUSED, UNDERLINED};
+use crate::directives::{self, Package, Version, WIDTHS};
+use crate::edges::{self, Edge, EDGES, FLAWED, REFUSED, UNDERLINED, VERSIONED};
 use crate::original::LIMIT;
 use crate::packages::Pools;
 use crate::spans::halves;
@@ -18,6 +18,9 @@ use std::{fs, io};
 
 /// Random packages beside the edges.
 const RANDOM: usize = 60;
+
+/// The records that the program lends which answers the questions: crates/replay/src/sizes.rt.
+const ROOM: [usize; 3] = [4096, 5462, 5462];
 
 const SAMPLES: [&str; 2] = [include_str!("../../samples/desk.conf"), include_str!("../../tests/rules.conf")];
 
@@ -43,8 +46,9 @@ fn long() -> Vec<Vec<u8>> {
     texts
 }
 
-/// A package by its front, a part that stands so often, and its tail.
+/// A package by its front, a part that stands so often, and its tail; and what it is for.
 struct Asked {
+    version: Version,
     front: Vec<u8>,
     part: Vec<u8>,
     times: usize,
@@ -52,8 +56,12 @@ struct Asked {
 }
 
 impl Asked {
-    fn whole(package: Vec<u8>) -> Self {
-        Asked { front: package, part: Vec::new(), times: 0, tail: Vec::new() }
+    fn of(version: Version, front: &[u8], part: &[u8], times: usize, tail: &[u8]) -> Self {
+        Asked { version, front: front.into(), part: part.into(), times, tail: tail.into() }
+    }
+
+    fn whole(version: Version, package: &[u8]) -> Self {
+        Asked::of(version, package, b"", 0, b"")
     }
 
     fn package(&self) -> Vec<u8> {
@@ -61,18 +69,18 @@ impl Asked {
     }
 
     fn question(&self) -> String {
-        let package = self.package();
+        let (package, letter) = (self.package(), if self.version == Version::V2_6 { 'D' } else { 'E' });
         if package.len() <= SHORT {
-            return format!("D {}\n", hex(&package));
+            return format!("{letter} {}\n", hex(&package));
         }
         let lengths = [self.times, self.front.len(), self.part.len()].map(|n| format!("{n:016x}")).concat();
-        format!("D*{lengths}{}{}{}\n", hex(&self.front), hex(&self.part), hex(&self.tail))
+        format!("{letter}*{lengths}{}{}{}\n", hex(&self.front), hex(&self.part), hex(&self.tail))
     }
 }
 
 /// Packages at the limit and past it, and with spans past 65,535.
 fn longest() -> Vec<Asked> {
-    let of = |front: &[u8], part: &[u8], times, tail: &[u8]| Asked { front: front.into(), part: part.into(), times, tail: tail.into() };
+    let of = |front: &[u8], part: &[u8], times, tail: &[u8]| Asked::of(Version::V2_6, front, part, times, tail);
     vec![
         of(b"", b" ", LIMIT, b""),
         of(b"", b" ", LIMIT + 1, b""),
@@ -91,6 +99,37 @@ fn longest() -> Vec<Asked> {
     ]
 }
 
+/// The same for 2.7: chains and ids far apart, and 18 before and behind the other numbers, 4 too.
+fn longest_for_2_7() -> Vec<Asked> {
+    let of = |front: &[u8], part: &[u8], times, tail: &[u8]| Asked::of(Version::V2_7, front, part, times, tail);
+    vec![
+        of(b"SecAction deny\n", b" ", LIMIT, b""),
+        of(b"SecAction deny\n", b"#", LIMIT - 16, b"\x80"),
+        of(b"", b"\n", LIMIT - 14, b"SecAction deny"),
+        of(b"SecAction id:1,chain\n", b"#\n", 500_000, b"SecRule TX a"),
+        of(b"SecAction id:1\n", b"#\n", 500_000, b"SecRule TX a"),
+        of(b"SecAction \"id:1,msg:", b"a", 70_000, b",chain\"\nSecAction deny\nSecAction log"),
+        of(b"SecAction \"msg:", b"a", 70_000, b",chain,id:1\"\nSecAction deny"),
+        of(b"", b"SecAction id:1,chain\n", 5_000, b"SecAction deny\nSecAction log\nx"),
+        of(b"", b"SecMarker m\n", 5_000, b"SecAction id:1"),
+        of(b"", b"SecMarker m\n", 5_000, b"SecAction deny"),
+        of(b"SecAction id:1\n", b"SecMarker m\n", 5_000, b"\x0c"),
+        of(b"SecAction id:1", b",t:", 6_000, b""),
+        of(b"SecAction t:", b",t:", 6_000, b""),
+        of(b"SecRule TX", b"|!", 9_000, b" a id:1"),
+        of(b"SecRule TX", b"|!", 9_000, b" a"),
+    ]
+}
+
+/// Every edge for 2.7, those of versions first, and random packages with chains.
+fn asked_for_2_7() -> Vec<Asked> {
+    let (pools, mut random) = (Pools::of_stored(), Random(108));
+    let versioned = VERSIONED.iter().map(|edge| edge.0);
+    let texts = versioned.chain(edges::of_both()).chain(SAMPLES).map(|text| text.as_bytes().to_vec());
+    let all: Vec<Vec<u8>> = texts.chain((0..RANDOM).map(|_| pools.chained(&mut random, 2000))).collect();
+    all.iter().map(|package| Asked::whole(Version::V2_7, package)).chain(longest_for_2_7()).collect()
+}
+
 /// What was asked first stays in its place: a new question stands behind all others.
 fn asked() -> Vec<Asked> {
     let (pools, mut random) = (Pools::of_stored(), Random(100));
@@ -102,22 +141,26 @@ fn asked() -> Vec<Asked> {
     all.extend(edges(FLAWED));
     all.extend(edges(REFUSED));
     all.extend(UNDERLINED.iter().map(|edge| edge.0.as_bytes().to_vec()));
-    all.into_iter().map(Asked::whole).chain(longest()).collect()
+    let for_2_6 = all.iter().map(|package| Asked::whole(Version::V2_6, package));
+    for_2_6.chain(longest()).chain(asked_for_2_7()).collect()
 }
 
 fn hex(bytes: &[u8]) -> String {
     bytes.iter().map(|byte| format!("{byte:02x}")).collect()
 }
 
-/// 1 and 2, or what the model gives.
-fn answered(package: &[u8]) -> Package {
+/// 1 and 2, or what the model gives, with the room that there is.
+fn answered(package: &[u8], version: Version) -> Package {
     let gate = |number, value| Package { number, values: vec![value as u64], ..Package::default() };
     if LIMIT < package.len() {
         return gate(1, LIMIT);
     }
     match package.iter().position(|byte| 127 < *byte) {
         Some(place) => gate(2, place),
-        None => directives::read(std::str::from_utf8(package).expect("ASCII")),
+        None => {
+            let read = directives::read(std::str::from_utf8(package).expect("ASCII"), version);
+            read.without_room([0, 1, 2].map(|kind| ROOM[kind] * WIDTHS[kind])).unwrap_or(read)
+        }
     }
 }
 
@@ -151,8 +194,8 @@ fn shown_text(text: &[u8]) -> String {
     }
 }
 
-fn answer(package: &[u8]) -> String {
-    let told = answered(package);
+fn answer(package: &[u8], version: Version) -> String {
+    let told = answered(package, version);
     let records = [shown(&told.directives, 11, &[2, 3, 6]), shown(&told.variables, 6, &[4, 5]), shown(&told.actions, 7, &[2, 3, 5, 6])];
     format!("{}{}{} {}", told.number, shown_values(&told), records.concat(), shown_text(&told.texts))
 }
@@ -161,7 +204,7 @@ fn answer(package: &[u8]) -> String {
 pub fn write(folder: &Path) -> io::Result<usize> {
     let asked = asked();
     let questions: String = asked.iter().map(Asked::question).collect();
-    let answers: String = asked.iter().map(|asked| format!("{}\n", answer(&asked.package()))).collect();
+    let answers: String = asked.iter().map(|asked| format!("{}\n", answer(&asked.package(), asked.version))).collect();
     fs::create_dir_all(folder)?;
     fs::write(folder.join("stdin"), questions)?;
     fs::write(folder.join("stdout"), answers)?;

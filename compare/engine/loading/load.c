@@ -42,9 +42,10 @@ static double ran(void)
 
 /* ---- ours */
 
+/* From 2.7 on, as the engine asks for ids too. */
 static uint64_t read_piece(const struct piece *p, const size_t words[3])
 {
-    return seclang_directives(p->at, p->len, text, p->len, scratch, p->len, heads, words[0], variables, words[1],
+    return seclang_directives(p->at, p->len, true, text, p->len, scratch, p->len, heads, words[0], variables, words[1],
                               actions, words[2], values, SECLANG_VALUES_MOST);
 }
 

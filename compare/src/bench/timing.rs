@@ -1,7 +1,8 @@
 //! One row of a benchmark: its inputs, what is lent for each, and the time that each side takes.
 
+use crate::directives::{self, Version};
 use crate::original::Outcome;
-use crate::{directives, ours};
+use crate::ours;
 use std::hint::black_box;
 
 /// Rounds of each side in turn; the median of each is shown.
@@ -84,7 +85,7 @@ pub fn exact(read: Outcome) -> Needs {
 
 /// The same for a package, which must be one that is read.
 pub fn exact_package(package: &str) -> Needs {
-    let read = directives::read(package);
+    let read = directives::read(package, Version::V2_6);
     assert_eq!(read.number, 0, "a package that is refused");
     [read.directives.len(), read.variables.len(), read.actions.len(), 0]
 }

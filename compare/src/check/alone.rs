@@ -145,7 +145,7 @@ impl Checker {
         let [d, v, a] = [&model.directives, &model.variables, &model.actions].map(|words| vec![0; words.len()]);
         let (mut texts, mut scratch, mut values) = (vec![0; n], vec![0; n], vec![0; 10]);
         let (mut directives, mut variables, mut actions) = (d, v, a);
-        let number = ours::directives(input, &mut texts, &mut scratch, &mut directives, &mut variables, &mut actions, &mut values);
+        let number = ours::directives(input, false, &mut texts, &mut scratch, &mut directives, &mut variables, &mut actions, &mut values);
         Package { number, values, texts, directives, variables, actions }
     }
 

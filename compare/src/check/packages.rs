@@ -1,8 +1,8 @@
-//! Whole directives: each text with every shape of what is lent, beside the model's answer.
+//! Whole directives: each text for 2.6 and for 2.7, with every shape of what is lent, beside the model's answer.
 
 use super::spans::{all_held, of_records, of_refusal};
 use super::{gate, readable, Checked, Checker};
-use crate::directives::{self, Package, WIDTHS};
+use crate::directives::{self, Package, Version, VERSIONS, WIDTHS};
 use crate::lent::After;
 use crate::ours;
 use crate::readers::{sized, PackageShape, Reader, LONG_PACKAGE_SHAPES, PACKAGE_SHAPES};
@@ -15,14 +15,22 @@ struct Lens {
     values: usize,
 }
 
-impl Lens {
-    fn of(shape: PackageShape, input: &[u8], read: &Package) -> Self {
-        let needed = [read.directives.len(), read.variables.len(), read.actions.len()];
+/// A package for a version and what the model gives. Record buffers are sized by what 2.6 reads, so that there is much to clear where an
+/// id is missed late.
+struct Asked<'a> {
+    input: &'a [u8],
+    version: Version,
+    read: &'a Package,
+    lent: &'a Package,
+}
+
+impl Asked<'_> {
+    fn lens(&self, shape: PackageShape) -> Lens {
         let [d, v, a] = shape.words;
         Lens {
-            bytes: shape.bytes.map(|more| sized(input.len(), more)),
-            words: [sized(needed[0], d), sized(needed[1], v), sized(needed[2], a)],
-            values: sized(read.values.len(), shape.values),
+            bytes: shape.bytes.map(|more| sized(self.input.len(), more)),
+            words: [sized(self.lent.directives.len(), d), sized(self.lent.variables.len(), v), sized(self.lent.actions.len(), a)],
+            values: sized(self.read.values.len(), shape.values),
         }
     }
 }
@@ -54,12 +62,14 @@ impl Checker {
         Ok(())
     }
 
-    fn package(&mut self, input: &[u8], read: &Package, shape: PackageShape) -> Checked {
-        self.counts[Reader::Directives as usize] += 1;
-        let lens = Lens::of(shape, input, read);
+    fn package(&mut self, asked: &Asked, shape: PackageShape) -> Checked {
+        let (newer, lens) = (asked.version == Version::V2_7, asked.lens(shape));
+        self.counts[if newer { Reader::Directives27 } else { Reader::Directives } as usize] += 1;
+        let (input, read) = (asked.input, asked.read);
         let Lens { bytes: [n, k], words: [d, v, a], values } = lens;
         let got = ours::directives(
             input,
+            newer,
             self.text.lend(n),
             self.scratch.lend(k),
             self.records.lend(d),
@@ -96,14 +106,26 @@ impl Checker {
         Ok(())
     }
 
-    pub(super) fn packages(&mut self, input: &[u8]) -> Checked {
-        let read = readable(input).map(directives::read).unwrap_or_default();
+    /// With every shape of what is lent.
+    fn shaped(&mut self, asked: &Asked) -> Checked {
         let shapes = if self.long { &LONG_PACKAGE_SHAPES[..] } else { &PACKAGE_SHAPES };
         let (exact, others) = shapes.split_first().expect("the first is exact");
-        self.package(input, &read, *exact)?;
-        self.package_kept(input, &read)?;
-        others.iter().try_for_each(|shape| self.package(input, &read, *shape))?;
-        self.underlined(input, &read)
+        self.package(asked, *exact)?;
+        self.package_kept(asked.input, asked.read)?;
+        others.iter().try_for_each(|shape| self.package(asked, *shape))
+    }
+
+    pub(super) fn packages(&mut self, input: &[u8]) -> Checked {
+        let model = |version| readable(input).map(|text| directives::read(text, version)).unwrap_or_default();
+        let [older, newer] = VERSIONS.map(model);
+        for (version, read) in VERSIONS.into_iter().zip([&older, &newer]) {
+            let asked = Asked { input, version, read, lent: &older };
+            self.shaped(&asked).map_err(|e| format!("{version:?}: {e}"))?;
+        }
+        self.missed += u64::from(newer.number == 18);
+        self.continued += u64::from(newer.rests_on_chain());
+        // what 2.7 reads underlines the same
+        self.underlined(input, &older)
     }
 }
 

@@ -106,9 +106,10 @@ pub(super) fn of_refusal(number: u64, values: &[u64]) -> Option<u64> {
 #[cfg(test)]
 mod tests {
     use super::{of_records, of_refusal};
+    use crate::directives::{self, Version};
+    use crate::original;
     use crate::spans::span;
     use crate::underlined;
-    use crate::{directives, original};
 
     /// Each record's span words, by what the model gives.
     #[test]
@@ -121,7 +122,7 @@ mod tests {
         let expected = [sources[0], a, sources[1], b, c, sources[2], tx, d, e, sources[3], again, f, sources[4]];
         assert_eq!(spans(&actions, 7), expected);
         assert_eq!(spans(&original::tokens("a 'b'").words, 5), [span(0, 1), span(0, 1), span(2, 3), span(1, 1)]);
-        let read = directives::read("SecRule TX:k a\nSecMarker m");
+        let read = directives::read("SecRule TX:k a\nSecMarker m", Version::V2_6);
         assert_eq!(spans(&read.directives, 11), [span(0, 14), 0, span(1, 1), span(15, 11), span(2, 1), 0]);
         assert_eq!(spans(&read.variables, 6), [span(0, 1), span(8, 4)]);
     }

@@ -4,7 +4,7 @@ use super::long::Extent;
 use super::Run;
 use crate::cases::Random;
 use crate::check::Checker;
-use crate::directives;
+use crate::directives::{self, Version};
 use crate::index::{answer, edges, records, Call, Index, ID};
 use crate::readers::{ACTION_WORDS, DIRECTIVE_WORDS};
 use crate::real::Real;
@@ -280,7 +280,8 @@ impl Run {
     /// All rules of files that are read as packages, in one index: how many stand, and how many have an id that another has.
     fn index_of_files(&mut self, real: &Real) -> bool {
         let texts = real.files.iter().filter_map(|file| std::str::from_utf8(file).ok().filter(|text| text.is_ascii()));
-        let packages: Vec<directives::Package> = texts.map(directives::read).filter(|package| package.number == 0).collect();
+        let packages: Vec<directives::Package> =
+            texts.map(|text| directives::read(text, Version::V2_6)).filter(|package| package.number == 0).collect();
         let rules: Vec<Call> = packages.iter().flat_map(rules).collect();
         let mut words = vec![0; 1 + 2 * rules.len()];
         let mut told = BTreeMap::<u64, usize>::new();

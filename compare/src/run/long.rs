@@ -82,12 +82,14 @@ impl Run {
         texts
     }
 
-    /// Good pieces joined to each length, whole, with a fault at the end, and damaged.
+    /// Good pieces joined to each length, whole, with a fault at the end, and damaged; packages for 2.7 too.
     fn joined(&mut self, random: &mut Random, reader: Reader, extent: Extent, good: &Good) -> usize {
         let mut texts = 0;
-        for (turn, make) in
-            [Good::joined, Good::refused, Good::refused, Good::damaged, Good::damaged, Good::damaged].into_iter().enumerate()
-        {
+        let mut makes = vec![Good::joined, Good::refused, Good::refused, Good::damaged, Good::damaged, Good::damaged];
+        if reader == Reader::Directives {
+            makes.extend([Good::joined_with_ids, Good::missed]);
+        }
+        for (turn, make) in makes.into_iter().enumerate() {
             for len in extent.lengths(turn + 2 * reader as usize) {
                 texts += 1;
                 // one byte past the limit is told from the rest by the frames

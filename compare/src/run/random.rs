@@ -54,7 +54,7 @@ fn random_input(random: &mut Random, reader: Reader, real: &Real, names: &[&str]
 /// A random package or a real one, whole or damaged; one in some thousands is as long as a short text gets: those take long.
 fn random_package(random: &mut Random, real: &Real, pools: &Pools, pieces: &[&str]) -> Vec<u8> {
     let longest = if random.below(3000) == 0 { SHORT } else { 2000 };
-    match random.below(6) {
+    match random.below(10) {
         0 if !real.rules.is_empty() => {
             let rule = random.one(&real.rules);
             random.damaged(rule, pieces)
@@ -69,6 +69,11 @@ fn random_package(random: &mut Random, real: &Real, pools: &Pools, pieces: &[&st
             random.flipped(&mut package);
             package
         }
+        4 => {
+            let package = pools.chained(random, longest);
+            random.damaged(&package, pieces)
+        }
+        5..=7 => pools.chained(random, longest),
         _ => pools.package(random, longest),
     }
 }

@@ -11,6 +11,7 @@ use crate::selecting;
 use crate::targeting;
 use crate::thin;
 use ascii::Number;
+use directives::Version;
 use names::Lookup;
 
 fn print_number(n: Number) {
@@ -64,11 +65,11 @@ fn print_trimmed(s: &[u8]) {
     }
 }
 
-// What a question is lent: a text and records; scratch besides; all of a package's buffers; those of a listing; nothing.
+// What a question is lent: a text and records; scratch besides; all of a package's buffers, for a version; those of a listing; nothing.
 pub enum Lending {
     Reader,
     Actor,
-    Joiner,
+    Joiner(Version),
     Lister,
     Nothing,
 }
@@ -83,7 +84,8 @@ pub fn needs(letter: u8) -> Lending {
         b'u' => Lending::Reader,
         b'a' => Lending::Actor,
         b'e' => Lending::Actor,
-        b'D' => Lending::Joiner,
+        b'D' => Lending::Joiner(Version::TwoSix),
+        b'E' => Lending::Joiner(Version::TwoSeven),
         b'L' => Lending::Lister,
         _ => Lending::Nothing,
     }

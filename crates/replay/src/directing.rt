@@ -8,6 +8,7 @@ use directives::Answer;
 use directives::ArgumentFault;
 use directives::Fault;
 use directives::LineFault;
+use directives::Version;
 
 // A number with three values.
 fn print_three(number: u64, first: usize, second: usize, third: usize) {
@@ -22,6 +23,7 @@ fn line_number(why: LineFault) -> u64 {
         LineFault::WrongCount => 13,
         LineFault::Untaken => 14,
         LineFault::Stopped => 15,
+        LineFault::IdMissing => 18,
     }
 }
 
@@ -88,12 +90,13 @@ fn print_answer(answer: Answer, text: &[u8], records: &[u64], variables: &[u64],
 
 pub fn print_directives(
     input: &[u8],
+    version: Version,
     text: &mut [u8],
     scratch: &mut [u8],
     records: &mut [u64],
     variables: &mut [u64],
     actions: &mut [u64],
 ) {
-    let answer = directives::directives(input, text, scratch, records, variables, actions);
+    let answer = directives::directives(input, version, text, scratch, records, variables, actions);
     print_answer(answer, text, records, variables, actions);
 }

@@ -7,6 +7,7 @@ use crate::directing;
 use crate::hexes;
 use crate::listings;
 use crate::sizes;
+use directives::Version;
 
 // A function's result, so that the check need not count an array of this size one by one.
 fn memory() -> [u8; sizes::LONG_BYTES] {
@@ -26,7 +27,7 @@ fn act(letter: u8, body: &[u8]) {
     answers::answer_acted(letter, body, &mut text, &mut scratch, &mut records);
 }
 
-fn join(body: &[u8]) {
+fn join(version: Version, body: &[u8]) {
     let mut text = memory();
     let mut scratch = memory();
     let mut records = [0u64; sizes::DIRECTIVES];
@@ -34,6 +35,7 @@ fn join(body: &[u8]) {
     let mut actions = [0u64; sizes::ACTIONS];
     directing::print_directives(
         body,
+        version,
         &mut text,
         &mut scratch,
         &mut records,
@@ -100,7 +102,7 @@ fn answer_spread(letter: u8, body: &[u8]) {
     match answers::needs(letter) {
         Lending::Reader => read(letter, body),
         Lending::Actor => act(letter, body),
-        Lending::Joiner => join(body),
+        Lending::Joiner(version) => join(version, body),
         Lending::Lister => list(body),
         Lending::Nothing => answers::answer_bare(letter, body),
     }

@@ -4,6 +4,7 @@ use crate::answers::Lending;
 use crate::directing;
 use crate::listings;
 use crate::sizes;
+use directives::Version;
 
 fn read(letter: u8, body: &[u8]) {
     let mut text = [0u8; sizes::SHORT];
@@ -18,7 +19,7 @@ fn act(letter: u8, body: &[u8]) {
     answers::answer_acted(letter, body, &mut text, &mut scratch, &mut records);
 }
 
-fn join(body: &[u8]) {
+fn join(version: Version, body: &[u8]) {
     let mut text = [0u8; sizes::SHORT];
     let mut scratch = [0u8; sizes::SHORT];
     let mut records = [0u64; sizes::DIRECTIVES];
@@ -26,6 +27,7 @@ fn join(body: &[u8]) {
     let mut actions = [0u64; sizes::ACTIONS];
     directing::print_directives(
         body,
+        version,
         &mut text,
         &mut scratch,
         &mut records,
@@ -45,7 +47,7 @@ pub fn answer(letter: u8, body: &[u8]) {
     match answers::needs(letter) {
         Lending::Reader => read(letter, body),
         Lending::Actor => act(letter, body),
-        Lending::Joiner => join(body),
+        Lending::Joiner(version) => join(version, body),
         Lending::Lister => list(body),
         Lending::Nothing => answers::answer_bare(letter, body),
     }
