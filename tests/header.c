@@ -77,11 +77,13 @@ static uint64_t operator_of(const char *s)
     return seclang_parse_operator(bytes(s), strlen(s), values, SECLANG_VALUES_MOST);
 }
 
-static uint64_t directives(const char *s)
+static uint64_t package(const char *s, bool from_2_7)
 {
-    return seclang_directives(bytes(s), strlen(s), text, ROOM, scratch, ROOM, heads, HEADS, targets, TARGETS, acts,
-                              ACTS, values, SECLANG_VALUES_MOST);
+    return seclang_directives(bytes(s), strlen(s), from_2_7, text, ROOM, scratch, ROOM, heads, HEADS, targets, TARGETS,
+                              acts, ACTS, values, SECLANG_VALUES_MOST);
 }
+
+static uint64_t directives(const char *s) { return package(s, false); }
 
 /* ---- what is answered */
 
@@ -670,20 +672,20 @@ static void check_lent(void)
     const uint8_t *s = bytes("SecRule ARGS a deny");
     for (size_t lack = 0; lack < 3; lack++) {
         memset(acts, 1, sizeof acts);
-        CHECK(seclang_directives(s, 19, text, 19, scratch, 19, heads, SECLANG_DIRECTIVE_WORDS - (lack == 0), targets,
-                                 SECLANG_VARIABLE_WORDS - (lack == 1), acts, ONE - (lack == 2), values,
+        CHECK(seclang_directives(s, 19, false, text, 19, scratch, 19, heads, SECLANG_DIRECTIVE_WORDS - (lack == 0),
+                                 targets, SECLANG_VARIABLE_WORDS - (lack == 1), acts, ONE - (lack == 2), values,
                                  10) == SECLANG_NO_ROOM &&
               first_values(1, 1) && values[2] == 1 && acts[0] == 0 && text[0] == 0);
     }
     memset(text, 'x', ROOM);
     memset(scratch, 'x', ROOM);
-    CHECK(seclang_directives(s, 19, text, 18, scratch, 19, heads, 0, targets, 0, acts, 0, values, 10) ==
+    CHECK(seclang_directives(s, 19, false, text, 18, scratch, 19, heads, 0, targets, 0, acts, 0, values, 10) ==
               SECLANG_SHORT_BUFFER &&
           values[0] == 0 && text[0] == 'x');
-    CHECK(seclang_directives(s, 19, text, 19, scratch, 18, heads, 0, targets, 0, acts, 0, values, 10) ==
+    CHECK(seclang_directives(s, 19, false, text, 19, scratch, 18, heads, 0, targets, 0, acts, 0, values, 10) ==
               SECLANG_SHORT_BUFFER &&
           scratch[0] == 'x');
-    CHECK(seclang_directives(s, 19, text, 19, scratch, 19, heads, SECLANG_DIRECTIVE_WORDS, targets,
+    CHECK(seclang_directives(s, 19, false, text, 19, scratch, 19, heads, SECLANG_DIRECTIVE_WORDS, targets,
                              SECLANG_VARIABLE_WORDS, acts, ONE, values, 4) == SECLANG_READ &&
           four_values(1, 1, 1, 1) && text[0] == 'a' && text[1] == 0 && text[19] == 'x' && scratch[19] == 'x');
 }
@@ -801,14 +803,16 @@ static void check_long_word(lexer *lex)
 }
 
 /* Line feeds up to a last directive that ends at the limit. */
-static uint64_t last_directive(const char *s)
+static uint64_t last_of_package(const char *s, bool from_2_7)
 {
     const size_t n = strlen(s), at = SECLANG_LIMIT - n;
     memset(input, '\n', at);
     memcpy(input + at, s, n);
-    return seclang_directives(input, SECLANG_LIMIT, text, SECLANG_LIMIT, scratch, SECLANG_LIMIT, heads, HEADS, targets,
-                              TARGETS, acts, ACTS, values, SECLANG_VALUES_MOST);
+    return seclang_directives(input, SECLANG_LIMIT, from_2_7, text, SECLANG_LIMIT, scratch, SECLANG_LIMIT, heads, HEADS,
+                              targets, TARGETS, acts, ACTS, values, SECLANG_VALUES_MOST);
 }
+
+static uint64_t last_directive(const char *s) { return last_of_package(s, false); }
 
 /* Its line, and the spans of what was read and of what was refused, past all that an old span word could tell. */
 static void check_long_package(void)
@@ -824,6 +828,8 @@ static void check_long_package(void)
     CHECK(last_directive("SecRule TX @x") == SECLANG_UNKNOWN_OPERATOR &&
           four_values(most - 12, 1, 1, span(most - 1, 1)));
     CHECK(last_directive("SecRule x") == SECLANG_WRONG_COUNT && values[0] == most - 8);
+    CHECK(last_of_package("SecAction deny", true) == SECLANG_ID_MISSING && values[0] == most - 13);
+    CHECK(last_of_package("SecAction id:7", true) == SECLANG_READ && four_values(1, 0, 1, 0));
 }
 
 static bool painted(const void *at, size_t n)
@@ -849,8 +855,9 @@ static void check_too_long(void)
     CHECK(too_long(seclang_tokens(input, FULL, text, FULL, records, FULL_WORDS, values, 10)));
     CHECK(too_long(seclang_plain_tokens(input, FULL, text, FULL, records, FULL_WORDS, values, 10)));
     CHECK(too_long(seclang_next_token(input, FULL, 0, 1, 1, true, text, FULL, values, 10)));
-    CHECK(too_long(seclang_directives(input, FULL, text, FULL, scratch, FULL, heads, HEADS_IN(FULL), targets,
-                                      TARGETS_IN(FULL), acts, ACTS_IN(FULL), values, 10)));
+    for (int from_2_7 = 0; from_2_7 < 2; from_2_7++)
+        CHECK(too_long(seclang_directives(input, FULL, from_2_7, text, FULL, scratch, FULL, heads, HEADS_IN(FULL),
+                                          targets, TARGETS_IN(FULL), acts, ACTS_IN(FULL), values, 10)));
     CHECK(too_long(seclang_parse_actions(input, FULL, text, FULL, scratch, FULL, records, FULL_WORDS, values, 10)));
     CHECK(too_long(seclang_parse_setvar(input, FULL, text, FULL + 3, records, FULL_WORDS, values, 10)));
     CHECK(too_long(seclang_parse_variables(input, FULL, text, FULL, records, FULL_WORDS, values, 10)));
@@ -1135,6 +1142,140 @@ static void check_index(void)
     check_full_index();
 }
 
+/* ---- packages before and from 2.7 on */
+
+/* What short texts are lent is painted, so that it shows what a call leaves. */
+static void paint(void)
+{
+    memset(text, 'x', ROOM), memset(scratch, 'x', ROOM), memset(values, 'x', sizeof values);
+    memset(heads, 'x', HEADS * sizeof *heads), memset(targets, 'x', TARGETS * sizeof *targets);
+    memset(acts, 'x', ACTS * sizeof *acts);
+}
+
+/* Whether 2.7 refuses a package for a rule in this line, with no other value, and all that is lent is zero. */
+static bool misses(const char *s, uint64_t line)
+{
+    paint();
+    return package(s, true) == SECLANG_ID_MISSING && values[0] == line &&
+           painted(values + 1, sizeof values - sizeof *values) && cleared("");
+}
+
+/* All that a call leaves. */
+struct left {
+    uint64_t number, values[SECLANG_VALUES_MOST], heads[HEADS], targets[TARGETS], acts[ACTS];
+    uint8_t text[ROOM], scratch[ROOM];
+};
+
+static void leave(struct left *left, const char *s, bool from_2_7)
+{
+    paint();
+    left->number = package(s, from_2_7);
+    memcpy(left->values, values, sizeof left->values), memcpy(left->heads, heads, sizeof left->heads);
+    memcpy(left->targets, targets, sizeof left->targets), memcpy(left->acts, acts, sizeof left->acts);
+    memcpy(left->text, text, sizeof left->text), memcpy(left->scratch, scratch, sizeof left->scratch);
+}
+
+/* Whether both give this number, and leave the same. */
+static bool both(const char *s, uint64_t number)
+{
+    static struct left older, newer;
+    leave(&older, s, false), leave(&newer, s, true);
+    return newer.number == number && memcmp(&older, &newer, sizeof older) == 0;
+}
+
+static void check_ids(void)
+{
+    CHECK(misses("SecAction deny", 1) && directives("SecAction deny") == SECLANG_READ && four_values(1, 0, 1, 0));
+    CHECK(misses("SecAction deny\nx", 1) && directives("SecAction deny\nx") == SECLANG_UNTAKEN && values[0] == 2);
+    CHECK(both("SecAction id:0", SECLANG_READ) && four_values(1, 0, 1, 0) && acts[1] == 0);
+    CHECK(both("SecAction chain,id:1\nSecMarker a\nSecAction deny", SECLANG_READ) && four_values(3, 0, 3, 1));
+    CHECK(both("SecAction chain,id:1\nSecAction chain\nSecAction deny", SECLANG_READ) && four_values(3, 0, 4, 0));
+    CHECK(misses("SecDefaultAction chain\nSecAction deny", 2));
+    CHECK(directives("SecDefaultAction chain\nSecAction deny") == SECLANG_READ && four_values(2, 0, 2, 0));
+    CHECK(both("SecAction id:1,chain", SECLANG_READ) && four_values(1, 0, 2, 0));
+    CHECK(both("", SECLANG_READ) && both("SecMarker a\nSecDefaultAction log\nsec", SECLANG_READ));
+    CHECK(both("secRULE TX a \"log,\\\n ID:7\"", SECLANG_READ) && four_values(1, 1, 2, 1));
+    /* none of these is an id */
+    CHECK(misses("SecRule ARGS a", 1) && misses("#\n\nSECaction ''", 3) && misses("SecAction \"msg:'id:1'\"", 1));
+    CHECK(misses("SecRule TX id:1", 1) && misses("SecAction ctl:ruleRemoveById=1,setvar:id=1,t:id", 1));
+}
+
+static void check_chains(void)
+{
+    static const char *const between[] = {"",           "\n \n",      "# chain\n", "SecMarker a\n",
+                                          "Include x\n", "sec # c\n", "SecDefaultAction log\n",
+                                          "SecMarker a\n#\nSecDefaultAction id:9\nSecRuleEngine On\n"};
+    char s[200];
+    for (size_t i = 0; i < sizeof between / sizeof *between; i++) {
+        snprintf(s, sizeof s, "SecRule TX a \"id:7,CHAIN\"\n%sSecRule TX b", between[i]);
+        check(both(s, SECLANG_READ), s, __LINE__);
+        snprintf(s, sizeof s, "SecRule TX a \"id:7,log\"\n%sSecAction chain", between[i]);
+        check(package(s, true) == SECLANG_ID_MISSING && directives(s) == SECLANG_READ, s, __LINE__);
+    }
+    /* a rule that continues another hands on its own chain alone, and one with an id starts afresh */
+    CHECK(misses("SecAction id:1,chain\nSecAction log\nSecAction deny", 3));
+    CHECK(misses("SecAction id:1,chain\nSecRule TX a\nSecMarker chain\nSecRule TX b", 4));
+    CHECK(misses("SecAction id:1,chain\nSecAction id:2\nSecAction deny", 3));
+    CHECK(misses("SecAction chain", 1) && misses("SecAction chain\nSecAction deny", 1));
+    CHECK(both("SecAction id:1,chain\nSecAction id:2,chain\nSecAction deny\nSecAction id:3", SECLANG_READ));
+    CHECK(misses("SecAction id:1,msg:chain,t:chain\nSecAction deny", 2));
+}
+
+/* Of one directive the id is judged last, and of two the first one first. */
+static void check_id_order(void)
+{
+    static const char after[][24] = {"SecRule x", "SecAction bogus", "SecRule nope a", "SecRule TX @x", "SecAction id",
+                                     "SecAction id:x", "SecAction phase:256", "x", "\f"};
+    static const uint64_t numbers[] = {13, 5, 7, 8, 10, 11, 12, 14, 15};
+    char s[64];
+    for (size_t i = 0; i < sizeof numbers / sizeof *numbers; i++) {
+        check(both(after[i], numbers[i]), after[i], __LINE__);
+        snprintf(s, sizeof s, "SecAction deny\n%s", after[i]);
+        check(misses(s, 1) && directives(s) == numbers[i], s, __LINE__);
+        snprintf(s, sizeof s, "SecAction id:7\n%s\nSecAction deny", after[i]);
+        check(both(s, numbers[i]), s, __LINE__);
+    }
+    CHECK(both("SecAction deny log", SECLANG_WRONG_COUNT) && both("SecRule TX a log,bogus", SECLANG_UNKNOWN_ACTION));
+    CHECK(misses("SecAction deny\f", 1) && both("SecAction id:1\f", SECLANG_STOPPED));
+    CHECK(both("SecAction deny\n\x80", SECLANG_NOT_ASCII) && values[0] == 15);
+}
+
+/* With no room for a record, or little: 18 comes before 4, and behind 3. */
+static void check_id_lent(void)
+{
+    const uint8_t *s = bytes("SecRule TX a deny"), *good = bytes("SecRule TX a id:7");
+    for (size_t lack = 0; lack < 4; lack++) {
+        const size_t d = SECLANG_DIRECTIVE_WORDS * (lack != 0), v = SECLANG_VARIABLE_WORDS - (lack == 1);
+        const size_t a = ONE - (lack == 2);
+        const bool fits = lack == 3;
+        paint();
+        CHECK(seclang_directives(s, 17, true, text, 17, scratch, 17, heads, d, targets, v, acts, a, values, 1) ==
+              SECLANG_ID_MISSING);
+        CHECK(values[0] == 1 && text[16] == 0 && text[17] == 'x' && scratch[16] == 0 && scratch[17] == 'x');
+        CHECK(zero_words(heads, d) && painted(heads + d, sizeof *heads) && zero_words(targets, v) &&
+              painted(targets + v, sizeof *targets) && zero_words(acts, a) && painted(acts + a, sizeof *acts));
+        CHECK(seclang_directives(good, 17, true, text, 17, scratch, 17, heads, d, targets, v, acts, a, values, 10) ==
+              (fits ? SECLANG_READ : SECLANG_NO_ROOM));
+        CHECK(first_values(1, 1) && values[2] == 1 && text[0] == (fits ? 'a' : 0));
+    }
+    paint();
+    CHECK(seclang_directives(s, 17, true, text, 17, scratch, 17, heads, 0, targets, 0, acts, 0, values, 0) ==
+              SECLANG_ID_MISSING &&
+          painted(values, sizeof values));
+    paint();
+    CHECK(seclang_directives(s, 17, true, text, 16, scratch, 17, heads, 0, targets, 0, acts, 0, values, 10) ==
+              SECLANG_SHORT_BUFFER &&
+          values[0] == 0 && painted(text, ROOM) && painted(scratch, ROOM));
+}
+
+static void check_versions(void)
+{
+    check_ids();
+    check_chains();
+    check_id_order();
+    check_id_lent();
+}
+
 /* ---- bounds */
 
 /* n bytes of a first part, and then of another again and again; blanks where it does not fit. */
@@ -1193,8 +1334,8 @@ static void check_crowded(size_t n, size_t which)
     for (size_t less = 0; less < 2; less++) {
         const bool fits = less == 0 || values[which] == 0;
         if (!fits) room[which] = values[which] * width[which] - 1;
-        CHECK(seclang_directives(input, n, text, n, scratch, n, heads, room[0], targets, room[1], acts, room[2], values,
-                                 10) == (fits ? SECLANG_READ : SECLANG_NO_ROOM));
+        CHECK(seclang_directives(input, n, false, text, n, scratch, n, heads, room[0], targets, room[1], acts, room[2],
+                                 values, 10) == (fits ? SECLANG_READ : SECLANG_NO_ROOM));
     }
 }
 
@@ -1234,6 +1375,7 @@ int main(void)
     check_conversions();
     check_limit();
     check_index();
+    check_versions();
     for (size_t n = 0; n <= 100; n++) check_bounds_at(n), check_package_bounds_at(n);
     for (size_t n = 65533; n <= 65538; n++) check_bounds_at(n), check_package_bounds_at(n);
     for (size_t n = SECLANG_LIMIT - 5; n <= SECLANG_LIMIT; n++) check_bounds_at(n), check_package_bounds_at(n);

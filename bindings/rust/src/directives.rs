@@ -8,6 +8,26 @@ use std::ops::Range;
 /// variable records and of its action records.
 const WIDTH: usize = 11;
 
+/// Which ModSecurity a package is for, of those before and from 2.7 on: the desk chooses for each package.
+///
+/// A rule is a `SecRule` or a `SecAction`. The next rule behind one with `chain` continues it and needs no id in either, whatever other
+/// directives stand between the two; it is continued in turn only where it has a `chain` itself.
+///
+/// ```
+/// use seclang::{directives, Refusal, Version};
+///
+/// let package = "SecAction id:7,chain\nSecMarker m\nSecAction log\nSecAction deny\n";
+/// assert_eq!(directives(package, Version::V2_6).map(|list| list.len()), Ok(4));
+/// assert_eq!(directives(package, Version::V2_7), Err(Refusal::IdMissing { line: 4 }));
+/// ```
+#[derive(Clone, Copy, Debug, PartialEq, Eq, Hash)]
+pub enum Version {
+    /// 2.6 and before: a rule may do without an id.
+    V2_6,
+    /// 2.7 and later: a rule must have an id, and 0 is one.
+    V2_7,
+}
+
 /// The operator of a rule, with its argument.
 #[derive(Clone, Debug, PartialEq, Eq, Hash)]
 pub struct RuleOperator {
@@ -79,9 +99,9 @@ impl Package {
         }
     }
 
-    fn read(&mut self, input: &[u8], scratch: &mut [u8]) -> u64 {
+    fn read(&mut self, input: &[u8], version: Version, scratch: &mut [u8]) -> u64 {
         let Package { values, texts, directives, variables, actions } = self;
-        raw::directives(input, &mut texts.0, scratch, directives, variables, actions, values)
+        raw::directives(input, version == Version::V2_7, &mut texts.0, scratch, directives, variables, actions, values)
     }
 
     fn directive(&self, record: &[u64]) -> Directive {
@@ -129,13 +149,14 @@ impl Directive {
 /// The directives of a package, each with its arguments read. Sources and the spans of refusals are in the package.
 ///
 /// A directive takes the words and strings up to the next line feed, comment or directive: `SecRule` two or three, `SecAction`,
-/// `SecMarker` and `SecDefaultAction` one, in any letter case; any other name as many as there are.
+/// `SecMarker` and `SecDefaultAction` one, in any letter case; any other name as many as there are. What [`Version::V2_7`] reads,
+/// [`Version::V2_6`] reads too, and gives the same.
 ///
 /// ```
-/// use seclang::{directives, Action, DirectiveKind, OperatorName, Refusal, VariableName};
+/// use seclang::{directives, Action, DirectiveKind, OperatorName, Refusal, VariableName, Version};
 ///
 /// let package = "SecRuleEngine On\nSecRule ARGS \"@contains x\" \\\n    \"id:7,deny\"\n";
-/// let list = directives(package)?;
+/// let list = directives(package, Version::V2_7)?;
 /// assert_eq!(list[0].kind, DirectiveKind::Unknown("SecRuleEngine".to_string()));
 /// assert_eq!((list[1].line, list[1].bytes.clone()), (2, 17..61));
 /// let DirectiveKind::Rule { targets, operator, actions } = &list[1].kind else { panic!("a rule") };
@@ -145,22 +166,22 @@ impl Directive {
 /// assert_eq!(&package[actions[1].source.clone()], "deny");
 ///
 /// let why = Box::new(Refusal::UnknownAction { piece: 1, name: "bogus".to_string(), span: 27..32 });
-/// assert_eq!(directives("SecMarker m\nSecAction deny,bogus"), Err(Refusal::InDirective { line: 2, why }));
-/// assert_eq!(directives("SecMarker a b"), Err(Refusal::WrongCount { line: 1 }));
+/// assert_eq!(directives("SecMarker m\nSecAction deny,bogus", Version::V2_7), Err(Refusal::InDirective { line: 2, why }));
+/// assert_eq!(directives("SecMarker a b", Version::V2_7), Err(Refusal::WrongCount { line: 1 }));
 /// # Ok::<(), Refusal>(())
 /// ```
-pub fn directives(input: &(impl AsRef<[u8]> + ?Sized)) -> Result<Vec<Directive>, Refusal> {
+pub fn directives(input: &(impl AsRef<[u8]> + ?Sized), version: Version) -> Result<Vec<Directive>, Refusal> {
     let input = input.as_ref();
     // an input past the limit is refused before anything lent is looked at
     let len = input.len().min(LIMIT);
     let (mut package, mut scratch) = (Package::new(len), vec![0; len]);
-    let mut number = package.read(input, &mut scratch);
+    let mut number = package.read(input, version, &mut scratch);
     if number == NO_ROOM {
         let [needed, of_variables, of_actions, ..] = package.values.map(size);
         package.directives = vec![0; needed * WIDTH];
         package.variables = vec![0; of_variables * variables::WIDTH];
         package.actions = vec![0; of_actions * actions::WIDTH];
-        number = package.read(input, &mut scratch);
+        number = package.read(input, version, &mut scratch);
     }
     if number != 0 {
         return Err(Refusal::of_package(number, &package.values, input, &package.texts.0));

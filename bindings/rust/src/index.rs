@@ -78,10 +78,10 @@ impl std::error::Error for IndexRefusal {}
 /// Each call looks at all places, so that a rule more takes time that grows with them.
 ///
 /// ```
-/// use seclang::{directives, DirectiveKind, Index, IndexRefusal, RuleIdSelector};
+/// use seclang::{directives, DirectiveKind, Index, IndexRefusal, RuleIdSelector, Version};
 ///
 /// let package = "SecAction id:7,log\nSecRule ARGS a id:4294967303,deny\nSecRule ARGS b id:7,deny\n";
-/// let list = directives(package)?;
+/// let list = directives(package, Version::V2_7)?;
 /// let rules = list.iter().filter(|one| matches!(one.kind, DirectiveKind::Rule { .. } | DirectiveKind::Action(_)));
 ///
 /// let mut index = Index::with_places(list.len());

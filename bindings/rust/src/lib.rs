@@ -3,11 +3,11 @@
 //!
 //! The functions here take any bytes, size what the library is lent, and give Rust types back: [`Directive`], [`Token`], [`Action`],
 //! [`Variable`], [`Operator`], or a [`Refusal`]. Actions, variables and exclusions know which bytes they were read from ([`Sourced`]),
-//! and a refusal shows its own as a compiler does ([`Refusal::message`]). An [`Index`] tells which rules stand, by id. [`raw`] has the
-//! library's own functions over lent buffers.
+//! and a refusal shows its own as a compiler does ([`Refusal::message`]). A package is read for ModSecurity before or from 2.7 on
+//! ([`Version`]). An [`Index`] tells which rules stand, by id. [`raw`] has the library's own functions over lent buffers.
 //!
 //! ```
-//! use seclang::{Action, OperatorName, TokenKind, VariableName};
+//! use seclang::{Action, OperatorName, TokenKind, VariableName, Version};
 //!
 //! let package = "SecRule ARGS|!ARGS:token \"@rx (?i)union\" \"id:7,phase:1,deny,msg:'a, b'\"\n";
 //! let arguments: Vec<String> = seclang::tokens(package)?.list.into_iter().filter_map(|token| match token.kind {
@@ -28,7 +28,7 @@
 //! assert_eq!(actions[3], Action::Msg("a, b".to_string()));
 //! assert_eq!(seclang::phase(&actions), 1);
 //!
-//! let refusal = seclang::directives("SecAction \"id:7,dney\"").unwrap_err();
+//! let refusal = seclang::directives("SecAction \"id:7,dney\"", Version::V2_7).unwrap_err();
 //! assert_eq!(refusal.message("desk.conf", "SecAction \"id:7,dney\""), "\
 //! desk.conf:1:17: unknown action 'dney'
 //! SecAction \"id:7,dney\"
@@ -60,7 +60,7 @@ mod variables;
 
 pub use actions::{parse_actions, parse_setvar, Action, SetVar, SetVarValue};
 pub use codes::{severity, ActionCode, DirectiveCode, OperatorName, ValueKind, VariableName};
-pub use directives::{directives, Directive, DirectiveKind, RuleOperator};
+pub use directives::{directives, Directive, DirectiveKind, RuleOperator, Version};
 pub use index::{Index, IndexRefusal};
 pub use operators::{parse_operator, Operator};
 pub use refusals::{Flaw, Refusal};
@@ -74,7 +74,7 @@ pub use variables::{parse_update_targets, parse_variables, Selection, Targets, V
 pub const LIMIT: usize = 1_048_576;
 
 /// The version of the library that this crate was made for.
-pub const VERSION: u64 = 4;
+pub const VERSION: u64 = 5;
 
 /// The version of the library that is linked.
 ///

@@ -161,7 +161,9 @@ impl Refusal {
             Refusal::UnknownVariable { name, .. } => format!("unknown variable '{name}'"),
             Refusal::UnknownOperator { name, .. } if name.is_empty() => "no name of an operator behind the @".to_string(),
             Refusal::UnknownOperator { name, .. } => format!("unknown operator '@{name}'"),
-            Refusal::WrongCount { line } | Refusal::Untaken { line } | Refusal::Stopped { line } => return self.in_line(input, *line),
+            Refusal::WrongCount { line } | Refusal::Untaken { line } | Refusal::Stopped { line } | Refusal::IdMissing { line } => {
+                return self.in_line(input, *line)
+            }
             Refusal::InDirective { why, .. } => return why.said(input),
             Refusal::ShortBuffer | Refusal::NoRoom { .. } | Refusal::BadCursor => self.to_string(),
         };
@@ -179,6 +181,11 @@ impl Refusal {
                 Some((token, count)) => (wrong_count(token.text(), count), Some(token.bytes.clone())),
                 None => ("a directive has another count of arguments than it takes".to_string(), whole()),
             },
+            Refusal::IdMissing { .. } => {
+                let rule = directive_in(list, line).map(|(token, _)| token);
+                let sentence = format!("{} must have an id from 2.7 on", rule.map_or("a rule", Token::text));
+                (sentence, rule.map(|token| token.bytes.clone()).or_else(whole))
+            }
             Refusal::Untaken { .. } => {
                 let part = untaken_in(list, line).map(|token| token.bytes.clone());
                 ("no directive takes this text".to_string(), part.or_else(whole))
@@ -205,7 +212,7 @@ impl Refusal {
     ///
     /// ```
     /// let package = "SecMarker m\nSecRule ARGS \"@rx a\" \\\n\t\"id:7,phase:9x,deny\"\n";
-    /// let refusal = seclang::directives(package).unwrap_err();
+    /// let refusal = seclang::directives(package, seclang::Version::V2_7).unwrap_err();
     /// assert_eq!(refusal.message("desk.conf", package), "\
     /// desk.conf:3:8: the argument of 'phase' is no number
     /// \t\"id:7,phase:9x,deny\"

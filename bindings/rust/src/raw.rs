@@ -53,6 +53,7 @@ mod c {
         pub fn seclang_directives(
             input: *const u8,
             input_len: usize,
+            from_2_7: bool,
             text: *mut u8,
             text_len: usize,
             scratch: *mut u8,
@@ -240,10 +241,13 @@ pub fn parse_actions(input: &[u8], text: &mut [u8], scratch: &mut [u8], records:
 }
 
 /// The directives of a package; `scratch` too is asked to be as long as the input. Eleven words to a directive record, six to a
-/// variable's and seven to an action's.
+/// variable's and seven to an action's. With `from_2_7` a rule that continues no chain must have an id, as
+/// [`Version::V2_7`](crate::Version::V2_7) says.
 #[inline]
+#[allow(clippy::too_many_arguments)]
 pub fn directives(
     input: &[u8],
+    from_2_7: bool,
     text: &mut [u8],
     scratch: &mut [u8],
     directives: &mut [u64],
@@ -256,6 +260,7 @@ pub fn directives(
         c::seclang_directives(
             input.as_ptr(),
             input.len(),
+            from_2_7,
             text.as_mut_ptr(),
             text.len(),
             scratch.as_mut_ptr(),

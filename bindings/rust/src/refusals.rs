@@ -91,6 +91,11 @@ pub enum Refusal {
         /// Its line, from 1.
         line: usize,
     },
+    /// 18: a rule has no id and continues no chain, in a package for [`Version::V2_7`](crate::Version::V2_7).
+    IdMissing {
+        /// The rule's line, from 1.
+        line: usize,
+    },
     /// 5, 7, 8 or 10 to 12 in a package: what an argument of a directive is refused for.
     InDirective {
         /// The directive's line, from 1.
@@ -150,6 +155,7 @@ impl Refusal {
             13 => Some(Refusal::WrongCount { line }),
             14 => Some(Refusal::Untaken { line }),
             15 => Some(Refusal::Stopped { line }),
+            18 => Some(Refusal::IdMissing { line }),
             _ => None,
         }
     }
@@ -198,7 +204,7 @@ impl Refusal {
     ///
     /// ```
     /// let package = "SecAction \"msg:a,\\\n  bo\\\n  gus\"";
-    /// let span = seclang::directives(package).unwrap_err().span().unwrap();
+    /// let span = seclang::directives(package, seclang::Version::V2_7).unwrap_err().span().unwrap();
     /// assert_eq!(&package[span], "bo\\\n  gus");
     /// ```
     pub fn span(&self) -> Option<Range<usize>> {
@@ -214,13 +220,13 @@ impl Refusal {
     /// The line of a package that it is about.
     ///
     /// ```
-    /// assert_eq!(seclang::directives("\nSecAction bogus").unwrap_err().line(), Some(2));
+    /// assert_eq!(seclang::directives("\nSecAction bogus", seclang::Version::V2_7).unwrap_err().line(), Some(2));
     /// assert_eq!(seclang::parse_actions("bogus").unwrap_err().line(), None);
     /// ```
     pub fn line(&self) -> Option<usize> {
         match self {
             Refusal::WrongCount { line } | Refusal::Untaken { line } | Refusal::Stopped { line } => Some(*line),
-            Refusal::InDirective { line, .. } => Some(*line),
+            Refusal::IdMissing { line } | Refusal::InDirective { line, .. } => Some(*line),
             _ => None,
         }
     }
@@ -246,6 +252,7 @@ impl Refusal {
             Refusal::WrongCount { .. } => 13,
             Refusal::Untaken { .. } => 14,
             Refusal::Stopped { .. } => 15,
+            Refusal::IdMissing { .. } => 18,
             Refusal::InDirective { why, .. } => why.number(),
         }
     }
@@ -284,6 +291,7 @@ impl fmt::Display for Refusal {
             Refusal::WrongCount { line } => write!(out, "line {line}: a directive with another count of arguments than it takes"),
             Refusal::Untaken { line } => write!(out, "line {line}: a text that no directive takes"),
             Refusal::Stopped { line } => write!(out, "line {line}: a vertical tab or a form feed where no text is"),
+            Refusal::IdMissing { line } => write!(out, "line {line}: a rule without an id, which it must have from 2.7 on"),
             Refusal::InDirective { line, why } => write!(out, "line {line}: {why}"),
         }
     }

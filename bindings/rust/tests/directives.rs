@@ -2,16 +2,19 @@
 
 use seclang::{
     directives, Action, DirectiveKind, Flaw, OperatorName, Refusal, RuleOperator, Selection, SetVar, SetVarValue, Sourced, Targets,
-    Variable, VariableName, LIMIT,
+    Variable, VariableName, Version, LIMIT,
 };
 use std::ops::Range;
 
+const VERSIONS: [Version; 2] = [Version::V2_6, Version::V2_7];
+
 fn kinds(package: &str) -> Vec<DirectiveKind> {
-    directives(package).unwrap_or_else(|refusal| panic!("{package:?}: {refusal}")).into_iter().map(|directive| directive.kind).collect()
+    let read = directives(package, Version::V2_6).unwrap_or_else(|refusal| panic!("{package:?}: {refusal}"));
+    read.into_iter().map(|directive| directive.kind).collect()
 }
 
 fn refusal(package: &str) -> Refusal {
-    directives(package).expect_err(package)
+    directives(package, Version::V2_6).expect_err(package)
 }
 
 fn inside(line: usize, why: Refusal) -> Refusal {
@@ -69,7 +72,7 @@ fn a_rule_has_all_its_parts() {
 #[test]
 fn sources_are_in_the_package() {
     let told = |package: &'static str| {
-        let read = directives(package).expect(package);
+        let read = directives(package, Version::V2_6).expect(package);
         read.iter().flat_map(|directive| directive.actions()).map(|action| &package[action.source.clone()]).collect::<Vec<_>>()
     };
     assert_eq!(told("SecAction \"msg:a\\,deny\""), ["msg:a\\", "deny"]);
@@ -83,7 +86,8 @@ fn sources_are_in_the_package() {
 #[test]
 fn lines_and_bytes_are_told() {
     let package = "#\n\n  SecAction \\\n  'log'  # x\nsec";
-    let told: Vec<(usize, &str)> = directives(package).expect("a package").iter().map(|d| (d.line, &package[d.bytes.clone()])).collect();
+    let read = directives(package, Version::V2_6).expect("a package");
+    let told: Vec<(usize, &str)> = read.iter().map(|d| (d.line, &package[d.bytes.clone()])).collect();
     assert_eq!(told, [(3, "SecAction \\\n  'log'"), (5, "sec")]);
 }
 
@@ -126,7 +130,7 @@ fn an_argument_of_an_action_has_its_flaw() {
     assert_eq!(refusal("SecAction \"id:1\nSecAction log"), bad(1, Flaw::Unreadable, 0, "id", 11..29));
     assert_eq!(refusal("SecAction id:+99999999999999999999"), bad(1, Flaw::TooLarge, 0, "id", 10..34));
     assert_eq!(refusal("#\nSecDefaultAction \"log,severity:'300'\""), bad(2, Flaw::TooLarge, 1, "severity", 24..38));
-    assert!(directives("SecAction expirevar:a=99999999999999999999,setvar:b=+99999999999999999999").is_ok());
+    assert!(directives("SecAction expirevar:a=99999999999999999999,setvar:b=+99999999999999999999", Version::V2_6).is_ok());
     let told = ["SecAction id", "SecAction id:", "SecAction phase:256"].map(refusal);
     assert_eq!(told.iter().map(Refusal::number).collect::<Vec<_>>(), [10, 11, 12]);
     assert_eq!(told[2].to_string(), "line 1: the argument of 'phase' in piece 0 is too large a number");
@@ -146,16 +150,18 @@ fn an_operator_is_refused_by_name() {
 
 #[test]
 fn lengths_and_bytes_are_judged_first() {
-    assert_eq!(directives(&vec![b'x'; LIMIT + 1]), Err(Refusal::TooLong));
-    assert_eq!(directives("SecRule é"), Err(Refusal::NotAscii { place: 8 }));
-    assert_eq!(directives(&vec![b'\n'; LIMIT]), Ok(Vec::new()));
-    assert_eq!(directives(""), Ok(Vec::new()));
+    for version in VERSIONS {
+        assert_eq!(directives(&vec![b'x'; LIMIT + 1], version), Err(Refusal::TooLong));
+        assert_eq!(directives("SecAction deny\nSecRule é", version), Err(Refusal::NotAscii { place: 23 }));
+        assert_eq!(directives(&vec![b'\n'; LIMIT], version), Ok(Vec::new()));
+        assert_eq!(directives("", version), Ok(Vec::new()));
+    }
 }
 
 /// Packages with as many records as their length allows are read with the room that the library asks for.
 #[test]
 fn rooms_are_as_large_as_is_asked() {
-    let read = |package: String| directives(&package).expect("a package");
+    let read = |package: String| directives(&package, Version::V2_6).expect("a package");
     for len in [11, 12, 13, 40, 500, LIMIT] {
         assert_eq!(read("sec\n".repeat(len / 4)).len(), len / 4);
         let [rule] = &read(format!("SecRule TX{}\"", "|!".repeat((len - 11) / 2)))[..] else { panic!("one rule") };
@@ -171,7 +177,7 @@ fn rooms_are_as_large_as_is_asked() {
 fn the_parts_are_the_single_readers() {
     let list = "id:7,phase:1,msg:'a, b',setvar:'tx.a=+5',t:none";
     let package = format!("SecRule ARGS|!ARGS:p \"!@rx a b\" \"{list}\"\nSecAction \"{list}\"\n");
-    let read = directives(&package).expect("a package");
+    let read = directives(&package, Version::V2_7).expect("a package");
     let actions = seclang::parse_actions(list).expect("a list");
     for (directive, first) in read.iter().zip([package.find(list), package.rfind(list)]) {
         let first = first.expect("the list");
@@ -185,4 +191,75 @@ fn the_parts_are_the_single_readers() {
     assert_eq!((targets.variables.len(), targets.exclusions.len()), (single.variables.len(), single.exclusions.len()));
     let single = seclang::parse_operator("!@rx a b").expect("an operator");
     assert_eq!((operator.negated, operator.name, operator.argument.as_str()), (single.negated, single.name, single.argument));
+}
+
+/// What 2.7 refuses for a rule without an id, 2.6 reads or refuses for something else.
+fn missed(package: &str) -> usize {
+    match directives(package, Version::V2_7) {
+        Err(Refusal::IdMissing { line }) => line,
+        other => panic!("{package:?}: {other:?}"),
+    }
+}
+
+/// Whether both read a package, to the same directives: how many these are.
+fn read_by_both(package: &str) -> usize {
+    let [older, newer] = VERSIONS.map(|version| directives(package, version).expect(package));
+    assert_eq!(older, newer, "{package:?}");
+    newer.len()
+}
+
+#[test]
+fn a_rule_must_have_an_id_from_2_7_on() {
+    let packages =
+        ["SecAction deny", "SecRule ARGS a", "SecRule ARGS a 'chain'", "SecAction ''", "SecAction \"msg:'id:1'\"", "SecRule ARGS id:1"];
+    for package in packages {
+        assert_eq!((missed(package), kinds(package).len()), (1, 1), "{package:?}");
+    }
+    assert_eq!((missed("#\n\nSecAction id:1\n\nsecrule ARGS a deny"), missed("SecAction id:1\nSecAction \\\n log")), (5, 2));
+    assert_eq!(
+        (read_by_both("SecAction id:0"), read_by_both("SECRULE ARGS a ID:7,log"), read_by_both("SecAction log,id:1,id:2")),
+        (1, 1, 1)
+    );
+    assert_eq!(read_by_both("SecMarker a\nSecDefaultAction log\nSecRuleEngine On\nSecAction id:1"), 4);
+}
+
+#[test]
+fn a_chain_goes_on_without_ids() {
+    assert_eq!(read_by_both("SecAction chain,id:1\nSecMarker a\nSecAction deny"), 3);
+    assert_eq!(read_by_both("SecAction chain,id:1\nSecAction chain\nSecAction deny"), 3);
+    assert_eq!(read_by_both("SecAction id:1,chain"), 1);
+    let between = "# c\nSecMarker a\nSecDefaultAction chain,log\nInclude x\n\n";
+    assert_eq!(read_by_both(&format!("SecRule ARGS a 'id:1,Chain'\n{between}SecRule ARGS b")), 5);
+    assert_eq!(missed(&format!("SecRule ARGS a 'id:1,chain'\n{between}SecRule ARGS b\nSecRule ARGS c")), 8);
+    assert_eq!(missed("SecDefaultAction chain\nSecAction deny"), 2);
+    assert_eq!(missed("SecAction id:1,chain\nSecAction log\nSecAction deny"), 3);
+    assert_eq!(missed("SecAction id:1,chain\nSecAction id:2\nSecAction deny"), 3);
+}
+
+/// With its directive's own faults before it, and before all that comes later.
+#[test]
+fn a_missing_id_comes_in_its_place() {
+    let faults =
+        ["SecRule x", "SecAction bogus", "SecRule nope a", "SecRule TX @x", "SecAction id", "SecAction id:x", "SecAction phase:256"];
+    for (fault, number) in faults.into_iter().zip([13, 5, 7, 8, 10, 11, 12]).chain([("x", 14), ("\x0c", 15)]) {
+        for package in [fault.to_string(), format!("SecAction id:1\n{fault}\nSecAction deny")] {
+            let [older, newer] = VERSIONS.map(|version| directives(&package, version).expect_err(fault));
+            assert_eq!((older.number(), older), (number, newer), "{package:?}");
+        }
+        let package = format!("SecAction deny\n{fault}");
+        assert_eq!((missed(&package), refusal(&package).number()), (1, number), "{package:?}");
+    }
+    let refusal = directives("\nSecAction deny", Version::V2_7).expect_err("no id");
+    assert_eq!((refusal.number(), refusal.line(), refusal.span()), (18, Some(2), None));
+    assert_eq!(refusal.to_string(), "line 2: a rule without an id, which it must have from 2.7 on");
+}
+
+/// A package that takes more room than was lent first is read again for the same version.
+#[test]
+fn room_is_asked_for_in_either() {
+    let rules = "SecAction t:,t:,t:,t:,t:,t:,t:\n".repeat(50);
+    assert_eq!((missed(&rules), kinds(&rules).len()), (1, 50));
+    let chained = rules.replace("t:\n", "chain\n");
+    assert_eq!(read_by_both(&format!("SecAction id:1,chain\n{chained}")), 51);
+    assert_eq!(missed(&format!("SecAction id:1,chain\n{chained}SecAction log\nSecAction log\n")), 53);
 }

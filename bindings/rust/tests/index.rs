@@ -1,6 +1,6 @@
 //! The index of ids: what each call gives and leaves at the edges, ids at their full width, and any run of calls beside a map.
 
-use seclang::{directives, parse_actions, raw, Action, Index, IndexRefusal, RuleIdSelector};
+use seclang::{directives, parse_actions, raw, Action, Index, IndexRefusal, RuleIdSelector, Version};
 use std::collections::BTreeMap;
 
 const HALF: u64 = 1 << 31;
@@ -273,7 +273,7 @@ fn any_run_of_calls_leaves_what_stands() {
 fn a_package_is_entered_once() {
     let ids: Vec<u64> = (0..2_000).map(|k| (k * 617 % 2_000) * HIGH + 7).collect();
     let package: String = ids.iter().map(|id| format!("SecRule ARGS a \"phase:1,\\\n  id:{id}\"\nSecMarker m\n")).collect();
-    let list = directives(&package).expect("a package");
+    let list = directives(&package, Version::V2_7).expect("a package");
     let rules = || list.iter().filter(|one| !one.actions().is_empty());
     let mut index = Index::with_places(ids.len());
     assert!(rules().all(|rule| index.add(rule.actions(), rule.line) == Ok(true)));

@@ -1,9 +1,11 @@
 //! What a person reads of each refusal: place, sentence and underlined source, to the byte.
 
-use seclang::{directives, next_token, parse_actions, parse_operator, parse_update_targets, parse_variables, raw, Cursor, Refusal, LIMIT};
+use seclang::{
+    directives, next_token, parse_actions, parse_operator, parse_update_targets, parse_variables, raw, Cursor, Refusal, Version, LIMIT,
+};
 
 fn in_package(package: &str) -> String {
-    directives(package).expect_err(package).message("desk.conf", package)
+    directives(package, Version::V2_6).expect_err(package).message("desk.conf", package)
 }
 
 fn in_list(list: &str) -> String {
@@ -18,7 +20,7 @@ fn lines(expected: &[&str]) -> String {
 #[test]
 fn number_1_is_shown() {
     let package = format!("{}SecMarker m", "#\n".repeat(LIMIT / 2 - 4));
-    let said = directives(&package).expect_err("too long").message("desk.conf", &package);
+    let said = directives(&package, Version::V2_7).expect_err("too long").message("desk.conf", &package);
     assert_eq!(said, lines(&["desk.conf:524285:9: the input is longer than 1048576 bytes", "SecMarker m", "        ^"]));
 }
 
@@ -42,7 +44,7 @@ fn numbers_3_and_4_are_shown() {
     assert_eq!(told(8, 13), (4, "form: room for 2 records is needed".to_string()));
     let package = b"SecRule ARGS a deny";
     let (mut text, mut scratch, mut none, mut variables, mut actions) = ([0; 19], [0; 19], [0; 0], [0; 6], [0; 7]);
-    let number = raw::directives(package, &mut text, &mut scratch, &mut none, &mut variables, &mut actions, &mut values);
+    let number = raw::directives(package, false, &mut text, &mut scratch, &mut none, &mut variables, &mut actions, &mut values);
     let refusal = Refusal::from_raw_package(number, &values, package, &text).expect("a refusal");
     let said = "desk.conf: room for 1 directive, 1 variable and 1 action records is needed";
     assert_eq!((refusal.number(), refusal.message("desk.conf", package)), (4, said.to_string()));
@@ -149,6 +151,18 @@ fn number_15_is_shown() {
     assert_eq!(said, lines(&["desk.conf:1:13: reading stops at a vertical tab", "SecMarker m \u{240b}x", "            ^"]));
 }
 
+/// The rule's name is underlined.
+#[test]
+fn number_18_is_shown() {
+    let in_newer = |package: &str| directives(package, Version::V2_7).expect_err(package).message("desk.conf", package);
+    let said = in_newer("SecAction id:7\n\tsecrule ARGS \"@rx a\" \\\n\t  \"deny\"\n");
+    let sentence = "desk.conf:2:2: secrule must have an id from 2.7 on";
+    assert_eq!(said, lines(&[sentence, "\tsecrule ARGS \"@rx a\" \\", "\t^~~~~~~"]));
+    let said = in_newer("SecAction id:7,chain\nSecAction log\nSecAction deny # x");
+    let sentence = "desk.conf:3:1: SecAction must have an id from 2.7 on";
+    assert_eq!(said, lines(&[sentence, "SecAction deny # x", "^~~~~~~~~"]));
+}
+
 /// Lines, columns and spans past 65,535: a piece in a late line, a long one, and one that runs on from there.
 #[test]
 fn far_pieces_are_underlined() {
@@ -223,13 +237,16 @@ fn control_bytes_are_pictured() {
 /// With another text than the one that was refused there is still something to read.
 #[test]
 fn another_text_is_no_trouble() {
-    for package in ["SecAction log,bogus", "\n\n\nSecRule x", "\n\nstray", "\n\n\n\x0c", "SecRule ARGS '@x'", "SecMarker \u{e9}"] {
-        let refusal = directives(package).expect_err(package);
+    let refused =
+        ["SecAction log,bogus", "\n\n\nSecRule x", "\n\nstray", "\n\n\n\x0c", "SecRule ARGS '@x'", "SecMarker \u{e9}", "\nSecAction log"];
+    for package in refused {
+        let refusal = directives(package, Version::V2_7).expect_err(package);
         for other in ["", "\n", "x", "a\r\n", "SecMarker m", "\u{e9}\u{e9}\u{e9}", "\t\t\t\t\t\t\t\t\t\t\t\t\t\t\t\t\t\t\t\t"] {
             assert!(refusal.message("desk.conf", other).starts_with("desk.conf:"), "{package:?} {other:?}");
         }
     }
     assert_eq!(Refusal::WrongCount { line: 4 }.message("a", "x"), "a:4: a directive has another count of arguments than it takes");
+    assert_eq!(Refusal::IdMissing { line: 4 }.message("a", "x"), "a:4: a rule must have an id from 2.7 on");
     assert_eq!(
         Refusal::Untaken { line: 1 }.message("a", "  SecMarker m "),
         lines(&["a:1:3: no directive takes this text", "  SecMarker m ", "  ^~~~~~~~~~~"])

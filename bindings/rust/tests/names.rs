@@ -1,7 +1,9 @@
 //! Each name and code of the enums against the library's own tables.
 
 use seclang::raw::{lookup, test, UNKNOWN};
-use seclang::{directives, parse_actions, severity, ActionCode, DirectiveCode, OperatorName, SetVarValue, ValueKind, VariableName};
+use seclang::{
+    directives, parse_actions, severity, ActionCode, DirectiveCode, OperatorName, SetVarValue, ValueKind, VariableName, Version,
+};
 
 #[test]
 fn each_variable_is_found_by_its_name() {
@@ -77,7 +79,8 @@ fn each_value_has_its_kind() {
 #[test]
 fn each_directive_has_its_kind() {
     let package = "SecRule ARGS a\nSecAction log\nSecMarker m\nSecDefaultAction log\nSecRuleEngine On\n";
-    let codes: Vec<DirectiveCode> = directives(package).expect("a package").iter().map(|directive| directive.code()).collect();
+    let read = directives(package, Version::V2_6).expect("a package");
+    let codes: Vec<DirectiveCode> = read.iter().map(|directive| directive.code()).collect();
     assert_eq!(codes, DirectiveCode::ALL);
     assert_eq!((DirectiveCode::from_code(0), DirectiveCode::from_code(6)), (None, None));
     assert_eq!(DirectiveCode::Unknown.code(), 5);

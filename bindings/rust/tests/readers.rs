@@ -135,14 +135,14 @@ fn sources_are_told() {
 #[test]
 fn refusals_are_told_by_what_was_left() {
     assert_eq!(Refusal::from_raw(0, &[], b"", b""), None);
-    assert_eq!((Refusal::from_raw(13, &[1], b"", b""), Refusal::from_raw_package(9, &[0], b"", b"")), (None, None));
+    assert_eq!((Refusal::from_raw(18, &[1], b"", b""), Refusal::from_raw_package(9, &[0], b"", b"")), (None, None));
     assert_eq!(Refusal::from_raw(8, &[1, 2, raw::SPAN_BASE + 2], b"@no x", b"").map(|refusal| refusal.span()), Some(Some(1..3)));
     // values that did not fit were not stored
     assert!(Refusal::from_raw(5, &[], b"bogus", b"bogus").is_some());
     let numbers: Vec<u64> = (0..99).filter_map(|n| Refusal::from_raw(n, &[0; 10], b"x", b"x")).map(|refusal| refusal.number()).collect();
     assert_eq!(numbers, [1, 2, 3, 4, 5, 7, 8, 9, 10, 11, 12]);
     let numbers = (0..99).filter_map(|n| Refusal::from_raw_package(n, &[0; 10], b"x", b"x")).map(|refusal| refusal.number());
-    assert_eq!(numbers.collect::<Vec<_>>(), [1, 2, 3, 4, 5, 7, 8, 10, 11, 12, 13, 14, 15]);
+    assert_eq!(numbers.collect::<Vec<_>>(), [1, 2, 3, 4, 5, 7, 8, 10, 11, 12, 13, 14, 15, 18]);
 }
 
 /// Why an argument is refused, by number and in words.

@@ -2,7 +2,8 @@
 //! What was read is held against the source, cut here a second time by plain text searches.
 
 use seclang::{
-    Action, ActionCode, Directive, DirectiveKind, Index, Refusal, Selection, SetVarValue, Sourced, Targets, Token, TokenKind, LIMIT,
+    Action, ActionCode, Directive, DirectiveKind, Index, Refusal, Selection, SetVarValue, Sourced, Targets, Token, TokenKind, Version,
+    LIMIT,
 };
 use std::path::{Path, PathBuf};
 
@@ -182,9 +183,34 @@ fn check_sources(rule: &str, in_rule: &[Sourced<Action>], list: &str, in_list: &
     }
 }
 
+fn is_rule(directive: &Directive) -> bool {
+    matches!(directive.kind, DirectiveKind::Rule { .. } | DirectiveKind::Action(_))
+}
+
+/// The line of the first rule that has no id and is not chained to the one before.
+fn first_without_id(list: &[Directive]) -> Option<usize> {
+    let has = |rule: &Directive, code| rule.actions().iter().any(|action| action.code() == code);
+    let rules: Vec<&Directive> = list.iter().filter(|one| is_rule(one)).collect();
+    let chained = |at: usize| 0 < at && has(rules[at - 1], ActionCode::Chain);
+    (0..rules.len()).find(|at| !has(rules[*at], ActionCode::Id) && !chained(*at)).map(|at| rules[at].line)
+}
+
+/// For 2.7 a package is what it is for 2.6, or is refused for its first rule without an id; whether it is the same.
+fn check_versions(package: &str) -> bool {
+    let [older, newer] = [Version::V2_6, Version::V2_7].map(|version| seclang::directives(package, version));
+    match (&older, &newer) {
+        (Ok(list), Err(Refusal::IdMissing { line })) => assert_eq!(first_without_id(list), Some(*line), "{package}"),
+        (Ok(list), _) => assert!(older == newer && first_without_id(list).is_none(), "{package}"),
+        (Err(fault), Err(Refusal::IdMissing { line })) => assert!(Some(*line) < fault.line(), "{package}"),
+        (Err(_), _) => assert_eq!(older, newer, "{package}"),
+    }
+    older == newer
+}
+
 /// The same rule by the reader of whole directives: its actions are those of its list, and what is refused is known.
 fn check_directive(source: &str, list: &str, actions: Result<Vec<Sourced<Action>>, Refusal>) {
-    match (seclang::directives(source), actions) {
+    check_versions(source);
+    match (seclang::directives(source, Version::V2_6), actions) {
         (Ok(read), Ok(actions)) => {
             assert_eq!((read.len(), read[0].line, read[0].bytes.clone()), (1, 1, 0..source.len()), "{source}");
             check_sources(source, read[0].actions(), list, &actions);
@@ -313,12 +339,12 @@ fn moved(directive: &Directive, bytes: usize, lines: usize) -> Directive {
 }
 
 /// The files that are read, joined again and again up to the limit, are read as one package: each where it stands there.
-#[test]
-fn a_merged_package_is_read() {
+fn check_merged(version: Version) {
     let mut found = Vec::new();
     files(Path::new(FOLDER), &mut found);
     let texts = found.iter().map(|path| plain(&std::fs::read(path).expect("a file that can be read")) + "\n");
-    let read: Vec<(String, Vec<Directive>)> = texts.filter_map(|text| seclang::directives(&text).ok().map(|list| (text, list))).collect();
+    let read: Vec<(String, Vec<Directive>)> =
+        texts.filter_map(|text| seclang::directives(&text, version).ok().map(|list| (text, list))).collect();
     if read.is_empty() {
         return println!("left out: there is no Core Rule Set in {FOLDER}");
     }
@@ -332,7 +358,13 @@ fn a_merged_package_is_read() {
         package.push_str(text);
     }
     assert!(LIMIT / 2 < package.len());
-    assert_eq!(seclang::directives(&package), Ok(expected));
+    assert_eq!(seclang::directives(&package, version), Ok(expected));
+}
+
+#[test]
+fn a_merged_package_is_read() {
+    check_merged(Version::V2_6);
+    check_merged(Version::V2_7);
 }
 
 /// File by file into one index: no rule has another's id, and the ids are those that a search finds.
@@ -342,9 +374,9 @@ fn each_id_of_the_core_rule_set_stands_once() {
     files(Path::new(FOLDER), &mut found);
     for path in &found {
         let text = plain(&std::fs::read(path).expect("a file that can be read"));
-        let Ok(list) = seclang::directives(&text) else { continue };
+        let Ok(list) = seclang::directives(&text, Version::V2_6) else { continue };
         searched.extend(searched_ids(&text));
-        for rule in list.iter().filter(|one| matches!(one.kind, DirectiveKind::Rule { .. } | DirectiveKind::Action(_))) {
+        for rule in list.iter().filter(|one| is_rule(one)) {
             let added = index.add(rule.actions(), rule.line);
             assert!(added.is_ok(), "{}:{}: {added:?}", path.display(), rule.line);
         }
@@ -366,4 +398,6 @@ fn the_core_rule_set_is_read() {
     let [ids, refused] = [sum(|s| s.ids.len()), sum(|s| s.refused.len())];
     println!("{} files, {tokens} tokens, {rules} rules, {actions} actions, {ids} ids, {refused} lists refused as known", found.len());
     assert!(0 < rules && rules / 2 < ids, "rules without ids");
+    let same = found.iter().filter(|path| check_versions(&plain(&std::fs::read(path).expect("a file that can be read")))).count();
+    println!("{same} of {} files, the same for 2.6 and 2.7", found.len());
 }

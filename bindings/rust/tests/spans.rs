@@ -1,7 +1,7 @@
 //! Span words of before version 4, and packages up to the limit, whose spans are past those words.
 
 use seclang::raw::{self, SPAN_BASE};
-use seclang::{directives, plain_tokens, span_from_old, span_to_old, tokens, Action, DirectiveKind, Refusal, LIMIT};
+use seclang::{directives, plain_tokens, span_from_old, span_to_old, tokens, Action, DirectiveKind, Refusal, Version, LIMIT};
 
 const OLD_BASE: u64 = 65_536;
 
@@ -69,7 +69,7 @@ fn merged() -> String {
 #[test]
 fn a_package_of_a_mebibyte_is_read_whole() {
     let mut package = merged();
-    let read = directives(&package).expect("a package at the limit");
+    let read = directives(&package, Version::V2_7).expect("a package at the limit");
     assert_eq!((package.len(), read.len()), (LIMIT, 12_000));
     for (id, directive) in (1..).zip(&read) {
         let DirectiveKind::Rule { targets, operator, actions } = &directive.kind else { panic!("a rule") };
@@ -82,7 +82,7 @@ fn a_package_of_a_mebibyte_is_read_whole() {
         assert_eq!(sources.map(|part| &package[part.clone()]), written);
     }
     package.push('x');
-    assert_eq!(directives(&package), Err(Refusal::TooLong));
+    assert_eq!(directives(&package, Version::V2_7), Err(Refusal::TooLong));
 }
 
 #[test]
