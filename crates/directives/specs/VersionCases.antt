@@ -1,4 +1,4 @@
--- Worked packages of M-108, for both versions: EDGES-02's, and the order of faults.
+-- Worked packages of M-108, for both versions: what a rule, an id and a chain are, and the order of faults.
 use mathlib.Core.Path.{_≡_, refl}
 use Prim.Native.Nat.{ℕ}
 use Prim.Native.String.{String}
