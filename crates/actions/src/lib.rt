@@ -1,4 +1,7 @@
 // Action lists (document 01, module 4): normalising, cutting, and what is read of each piece written into lent memory.
+
+#![tactic(auto)]
+
 mod cutting;
 mod lists;
 mod normalising;
@@ -9,7 +12,7 @@ pub use lists::{parse_actions, parse_setvar, read_actions};
 pub use normalising::{Normal, normalise};
 
 // The paper's numbers, by name; `name` is the length of the name that the text buffer starts with, `span` the piece's in the input.
-#[derive(Drop)]
+#[derive(Clone, Copy)]
 pub enum Answer {
     // 0: the count of records, and the length of the texts
     Read {
@@ -40,7 +43,7 @@ pub enum Answer {
 }
 
 // What a normalised text comes to that is read into buffers from an offset and a count of records on.
-#[derive(Drop)]
+#[derive(Clone, Copy)]
 pub enum Reached {
     // how many records, the offset past the last text, and whether an id and `chain` are among them
     Read {

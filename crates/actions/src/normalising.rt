@@ -5,7 +5,7 @@ ghost use Rattle.actions.specs.Steps.{act_text, act_mode, Passed, Normalises};
 ghost use Rattle.actions.specs.Cores.{Normalise};
 
 // Plainly; a backslash held back; behind backslash-CR; in the whitespace behind an escaped line end.
-#[derive(Drop)]
+#[derive(Clone, Copy)]
 pub enum Mode {
     Plain,
     Held,
@@ -14,7 +14,7 @@ pub enum Mode {
 }
 
 // What a byte does: it vanishes, gives itself, or gives itself behind the backslash that was held back.
-#[derive(Drop)]
+#[derive(Clone, Copy)]
 pub enum Act {
     Vanishes(Mode),
     Gives(u8, Mode),
@@ -22,7 +22,7 @@ pub enum Act {
 }
 
 // How long the normalised text is, or that the buffer is shorter than the text it is made from.
-#[derive(Drop)]
+#[derive(Clone, Copy)]
 pub enum Normal {
     Text(usize),
     Short,

@@ -1,4 +1,7 @@
 // Bytes and numbers (document 01, module 1): what every parser reads by.
+
+#![tactic(auto)]
+
 mod classes;
 mod folding;
 mod numbers;

@@ -26,7 +26,7 @@ use Rattle.variables.specs.Cores.{reached_by, ReadTargets}
 use Rattle.variables.specs.declared.singles.Exclusions.TheVariants.{AsWritten}
 use Rattle.variables.specs.declared.Reached.{Reached as TargetsReached}
 use Rattle.variables.specs.declared.Reached.TheVariants as T
-use Rattle.variables.specs.contracts.Reached as targetsReached
+use Rattle.variables.specs.contracts.Reached as TargetsReached
 use Rattle.variables.proofs.FitLaws.{Within, targets_within}
 use Rattle.variables.proofs.SourceLaws.{Inside, EachIn, targets_inside}
 use Rattle.lexer.specs.Steps.{part}
@@ -59,8 +59,8 @@ module _ (e : Entry) (line place : ℕ) (s text text' records records' : List �
   variables_unfit q = go (targets_of AsWritten s) (sym q ∙ variables_are)
     where
       go : (ts : Targets) → T.Unfit ≡ reached_by e.text ts → ⊥
-      go (targets vs es) p = let z : ◌≡◌ {A = ℕ} 2 0 = ap (tag_of targetsReached.the_type) p in omega arith
-      go (refused i name y) p = let z : ◌≡◌ {A = ℕ} 2 1 = ap (tag_of targetsReached.the_type) p in omega arith
+      go (targets vs es) p = let z : ◌≡◌ {A = ℕ} 2 0 = ap (tag_of TargetsReached.the_type) p in omega arith
+      go (refused i name y) p = let z : ◌≡◌ {A = ℕ} 2 1 = ap (tag_of TargetsReached.the_type) p in omega arith
 
   pub variables_read_lem : (count offset : ℕ) → r ≡ T.Read count offset → AddsVariables e line place text text' records records' (variables_read s) (Judged.Good (with_variables e count offset))
   variables_read_lem count offset q = go (targets_of AsWritten s) refl (sym q ∙ variables_are) (targets_within AsWritten s)
@@ -77,7 +77,7 @@ module _ (e : Entry) (line place : ℕ) (s text text' records records' : List �
             laid = rw (x.texts, h, z) (laid_stored text e.text (Listed.texts vs es) k);
             records_are = x.words ∙ rw (h, z);
           }
-      go (refused i name y') z p w = let y : ◌≡◌ {A = ℕ} 0 1 = ap (tag_of targetsReached.the_type) p in absurd (omega arith)
+      go (refused i name y') z p w = let y : ◌≡◌ {A = ℕ} 0 1 = ap (tag_of TargetsReached.the_type) p in absurd (omega arith)
 
   module _ (piece name first past : ℕ) (q : r ≡ T.Unknown piece name first past) where
     -- the piece stands in the list
@@ -85,7 +85,7 @@ module _ (e : Entry) (line place : ℕ) (s text text' records records' : List �
     unknown_inside = go (targets_of AsWritten s) (sym q ∙ variables_are) (targets_inside AsWritten s)
       where
         go : (ts : Targets) → T.Unknown piece name first past ≡ reached_by e.text ts → EachIn (Inside (length s)) ts → (first ≤ past) × (past ≤ length s)
-        go (targets vs es) p w = let y : ◌≡◌ {A = ℕ} 1 0 = ap (tag_of targetsReached.the_type) p in absurd (omega arith)
+        go (targets vs es) p w = let y : ◌≡◌ {A = ℕ} 1 0 = ap (tag_of TargetsReached.the_type) p in absurd (omega arith)
         go (refused i written y) p w =
             let a : first ≡ y.first = cc in
             let b : past ≡ y.past = cc in
@@ -97,7 +97,7 @@ module _ (e : Entry) (line place : ℕ) (s text text' records records' : List �
       where
         go : (ts : Targets) → targets_of AsWritten s ≡ ts → T.Unknown piece name first past ≡ reached_by e.text ts
             → AddsVariables e line place text text' records records' (listed_by ts) (Judged.Bad (Fault.Argument UnknownVariable line piece name span))
-        go (targets vs es) z p = let y : ◌≡◌ {A = ℕ} 1 0 = ap (tag_of targetsReached.the_type) p in absurd (omega arith)
+        go (targets vs es) z p = let y : ◌≡◌ {A = ℕ} 1 0 = ap (tag_of TargetsReached.the_type) p in absurd (omega arith)
         go (refused i written y) z p =
             let m : piece ≡ i = cc in
             let n : name ≡ length written = cc in

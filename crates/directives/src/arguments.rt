@@ -11,7 +11,7 @@ use lexer::Cursor;
 
 // How many arguments there are, where the texts of the first, of the first two and of the first three end, and those of all;
 // where the last one ends in the input, and where the first three stand there.
-#[derive(Drop)]
+#[derive(Clone, Copy)]
 pub struct Arguments {
     pub count: usize,
     pub one: usize,
@@ -25,7 +25,7 @@ pub struct Arguments {
 }
 
 // The arguments, and the cursor behind what ended them.
-#[derive(Drop)]
+#[derive(Clone, Copy)]
 pub struct Taken {
     pub arguments: Arguments,
     pub next: Cursor,

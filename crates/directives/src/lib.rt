@@ -1,5 +1,8 @@
 // Whole directives (document 02, M-100 and M-108): the tokens of a text joined, their arguments read by the parsers, and all of it laid out
 // in lent memory.
+
+#![tactic(auto)]
+
 mod arguments;
 mod bodies;
 mod chains;
@@ -15,14 +18,14 @@ use lent::Flaw;
 pub use reading::directives;
 
 // The version of ModSecurity that a package is written for: from 2.7 a rule that continues none must have an id.
-#[derive(Drop)]
+#[derive(Clone, Copy)]
 pub enum Version {
     TwoSix,
     TwoSeven,
 }
 
 // Why a line is refused.
-#[derive(Drop)]
+#[derive(Clone, Copy)]
 pub enum LineFault {
     // 13, 14, 15 and 18
     WrongCount,
@@ -32,7 +35,7 @@ pub enum LineFault {
 }
 
 // Why an argument of a directive is refused.
-#[derive(Drop)]
+#[derive(Clone, Copy)]
 pub enum ArgumentFault {
     // 7, 8, 5, and 10 to 12
     UnknownVariable,
@@ -42,7 +45,7 @@ pub enum ArgumentFault {
 }
 
 // What no directive is read for.
-#[derive(Drop)]
+#[derive(Clone, Copy)]
 pub enum Fault {
     // the line of the directive, the token or the stop
     Line {
@@ -61,7 +64,7 @@ pub enum Fault {
 }
 
 // The paper's numbers, by name.
-#[derive(Drop)]
+#[derive(Clone, Copy)]
 pub enum Answer {
     // 0: how many records of each kind, and bytes of text
     Read {

@@ -15,7 +15,7 @@ use variables::{Exclusions, Reached as Targets};
 
 // How many directives, bytes of text and records of the other two kinds are reached in lent memory, and whether the next rule continues
 // one.
-#[derive(Drop)]
+#[derive(Clone, Copy)]
 pub struct Tally {
     pub directives: usize,
     pub text: usize,
@@ -26,7 +26,7 @@ pub struct Tally {
 
 // What a directive's record has of its own, the offset past its texts, by how much its list of actions was shorter when it was
 // normalised, and whether an id and `chain` are in that list.
-#[derive(Drop)]
+#[derive(Clone, Copy)]
 pub struct Entry {
     pub kind: u64,
     pub name: u64,
@@ -41,7 +41,7 @@ pub struct Entry {
     pub chain: bool,
 }
 
-#[derive(Drop)]
+#[derive(Clone, Copy)]
 pub enum Judged {
     Good(Entry),
     Bad(Fault),
@@ -187,7 +187,7 @@ pub fn add_operator(e: Entry, line: usize, s: &[u8], text: &mut [u8]) -> Judged
 }
 
 // What an action list comes to, and by how much it was shorter when it was normalised.
-#[derive(Drop)]
+#[derive(Clone, Copy)]
 struct List {
     reached: Reached,
     shrunk: usize,

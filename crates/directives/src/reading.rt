@@ -17,7 +17,7 @@ use lent::Gate;
 use lexer::Cursor;
 
 // How reading ends: with what all directives come to, or at the first fault in text order.
-#[derive(Drop)]
+#[derive(Clone, Copy)]
 pub enum Ended {
     All(Tally),
     First(Fault),

@@ -13,7 +13,7 @@ use lexer::Cursor;
 use places::Rule;
 
 // Where a list of actions stands: its token in the input, and its text in scratch from `first` up to `past`.
-#[derive(Drop)]
+#[derive(Clone, Copy)]
 pub struct Listed {
     pub token: Part,
     pub first: usize,

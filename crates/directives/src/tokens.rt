@@ -7,7 +7,7 @@ ghost use Rattle.directives.specs.Steps.{role_of, Nexts};
 use lexer::{Cursor, Kind, Lexeme, Step};
 
 // What a token does to a directive: it opens one, is an argument of the one before it, or ends that one.
-#[derive(Drop)]
+#[derive(Clone, Copy)]
 pub enum Role {
     Opens,
     Argues,
@@ -27,7 +27,7 @@ pub fn role_of(kind: Kind) -> Role
 }
 
 // The next token, or where reading stops.
-#[derive(Drop)]
+#[derive(Clone, Copy)]
 pub enum Next {
     Token(Lexeme),
     Nothing(Cursor),

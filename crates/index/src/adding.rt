@@ -9,7 +9,7 @@ use crate::checking::{is_index, places};
 use crate::seeking::{Sought, seek};
 use rules::Found;
 
-#[derive(Drop)]
+#[derive(Clone, Copy)]
 pub enum Added {
     // 0: the rule was entered; how many the index has now.
     Entered(u64),

@@ -5,7 +5,7 @@ use crate::changing::compact;
 use crate::checking::is_index;
 use rules::RuleIdSelector;
 
-#[derive(Drop)]
+#[derive(Clone, Copy)]
 pub enum Removed {
     // 0: how many rules were removed, and how many the index has now.
     Done(u64, u64),

@@ -6,7 +6,7 @@ ghost use Rattle.index.specs.Steps.{Sorted, Placed, below, seen, least_of, run};
 
 use rules::RuleIdSelector;
 
-#[derive(Drop)]
+#[derive(Clone, Copy)]
 pub enum Sought {
     // The line of the rule that has it.
     OnLine(u64),

@@ -4,7 +4,7 @@ ghost use Rattle.lent.specs.Gates.{first_high, highest, gate_of};
 
 use crate::LIMIT;
 
-#[derive(Drop)]
+#[derive(Clone, Copy)]
 pub enum Gate {
     Open,
     // 1: the input is over the limit.

@@ -1,4 +1,7 @@
 // What the caller lends: the gate that every reader's input passes, and the buffers it writes.
+
+#![tactic(auto)]
+
 mod ending;
 mod filling;
 mod gating;

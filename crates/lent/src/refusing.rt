@@ -2,7 +2,7 @@
 ghost use Rattle.std.specs.Prelude.{◌≡◌};
 ghost use Rattle.lent.specs.Table.{flaw_number};
 
-#[derive(Drop)]
+#[derive(Clone, Copy)]
 pub enum Flaw {
     // 10: there is none
     Absent,

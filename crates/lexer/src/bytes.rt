@@ -4,7 +4,7 @@ ghost use Rattle.lexer.specs.Bytes.{class};
 ghost use Rattle.lexer.specs.Rules.{line_end};
 
 // The bytes that rules treat apart, told once: LF; CR; tab and space; VT and FF; #; both quotation marks; backslash.
-#[derive(Drop)]
+#[derive(Clone, Copy)]
 pub enum Class {
     Feed,
     Return,

@@ -5,7 +5,7 @@ ghost use Rattle.lexer.specs.Steps.{Within, Blank, Passes, past_bytes};
 use crate::{Column, Cursor, Line};
 
 // A run of bytes: the place past it, the length of its text, its line feeds, and where its last line starts.
-#[derive(Drop)]
+#[derive(Clone, Copy)]
 pub struct Run {
     pub past: usize,
     pub len: usize,

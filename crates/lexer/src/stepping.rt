@@ -13,7 +13,7 @@ use crate::{Column, Cursor, Kind, Line};
 use lent::Gate;
 
 // A token without its text: it runs from `first` up to the next cursor's place, and `len` bytes of text were written.
-#[derive(Drop)]
+#[derive(Clone, Copy)]
 pub struct Lexeme {
     pub kind: Kind,
     pub line: Line,
@@ -24,7 +24,7 @@ pub struct Lexeme {
 }
 
 // What a step answers.
-#[derive(Drop)]
+#[derive(Clone, Copy)]
 pub enum Step {
     Token(Lexeme),
     // No token: the text ends here, or reading stops.
@@ -37,7 +37,7 @@ pub enum Step {
 }
 
 // What stands at a cursor inside the text.
-#[derive(Drop)]
+#[derive(Clone, Copy)]
 pub enum Found {
     Token(Lexeme),
     Nothing(Cursor),

@@ -1,5 +1,8 @@
 // Lists the tokens of a SecRule package, a file or standard input, as one JSON array and a line feed on standard output.
 // What cannot be read or written is told on standard error: the kit gives a program no exit status, and tools/list makes one.
+
+#![tactic(auto)]
+
 mod printing;
 mod reading;
 

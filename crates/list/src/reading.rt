@@ -3,14 +3,14 @@ ghost use Rattle.std.specs.Prelude.{length};
 ghost use Rattle.list.specs.Reading.{Told, Within};
 
 // What one read came to: so many more bytes, the input's end, or a failure, of which errno says why.
-#[derive(Drop)]
+#[derive(Clone, Copy)]
 pub enum Took {
     More(usize),
     End,
     Failed,
 }
 
-#[derive(Drop)]
+#[derive(Clone, Copy)]
 pub enum Input {
     // How many bytes, up to the input's end or the buffer's.
     Read(usize),

@@ -1,4 +1,7 @@
 // Names and their codes (document 01, module 2): variables, operators and severity words looked up, and tests on a code.
+
+#![tactic(auto)]
+
 mod folding;
 mod matching;
 mod operator_names;
@@ -16,7 +19,7 @@ pub use severities::severity_code;
 pub use variable_names::{is_collection, is_implemented, variable_code};
 
 // What a lookup finds: the name's place in the Rust's enum, from 0, or a severity word's number.
-#[derive(Drop)]
+#[derive(Clone, Copy)]
 pub enum Lookup {
     Code(u64),
     Unknown,

@@ -7,7 +7,7 @@ use crate::folding::fold;
 use crate::wording::{eight, up_to_eight};
 
 // The last word has one to eight bytes; the others eight, where there is a byte behind them, else they are 0.
-#[derive(Drop)]
+#[derive(Clone, Copy)]
 pub struct Words {
     pub last: u64,
     pub first: u64,

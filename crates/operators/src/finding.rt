@@ -7,7 +7,7 @@ ghost use Rattle.operators.specs.Places.{sign_width, found_of};
 
 // The name runs from `first` up to `past`, the argument from `argument` up to `end`. Where there is no `@`,
 // no name is written, and the argument is all that is left.
-#[derive(Drop)]
+#[derive(Clone, Copy)]
 pub struct Found {
     pub negated: bool,
     pub named: bool,

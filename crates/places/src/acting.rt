@@ -8,7 +8,7 @@ use crate::Rule;
 
 // Plainly; behind a backslash that gives nothing by itself; behind one that stays; behind an escaped CR; in the blanks behind an
 // escaped line end.
-#[derive(Drop)]
+#[derive(Clone, Copy)]
 pub enum Mode {
     Plain,
     Escaped,
@@ -18,7 +18,7 @@ pub enum Mode {
 }
 
 // A byte gives nothing, one byte from its own place, or one from the place before and its own.
-#[derive(Drop)]
+#[derive(Clone, Copy)]
 pub enum Step {
     Pass(Mode),
     Keep(Mode),

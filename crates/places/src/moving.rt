@@ -8,7 +8,7 @@ use crate::Rule;
 use crate::walking::{Stand, site_from, start};
 
 // A span word put in its place, and where the walk stands that found it.
-#[derive(Drop)]
+#[derive(Clone, Copy)]
 struct Moved {
     word: u64,
     stand: Stand,

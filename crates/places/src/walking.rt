@@ -10,7 +10,7 @@ use crate::running::{begins, blank_run, plain_run};
 use ascii::Part;
 
 // `count` bytes of the text are passed, its source is read up to `place`, and the byte passed last is from `first` up to `last`.
-#[derive(Drop)]
+#[derive(Clone, Copy)]
 pub struct Stand {
     pub count: usize,
     pub place: usize,
@@ -20,14 +20,14 @@ pub struct Stand {
 }
 
 // Where a walk stands, and where the byte came from that it was to note on its way.
-#[derive(Drop)]
+#[derive(Clone, Copy)]
 pub struct Found {
     pub stand: Stand,
     pub noted: usize,
 }
 
 // A part's place in the input, and where the walk stands that found it.
-#[derive(Drop)]
+#[derive(Clone, Copy)]
 pub struct Sited {
     pub part: Part,
     pub stand: Stand,

@@ -12,7 +12,7 @@ use crate::table::{END, JOIN, K, KEEP, LINE, OPEN, STAND};
 use lexer::{Cursor, Kind, Lexeme};
 
 // The registers beside state and cursor: where the open token began, the offset of its text, and how many bytes and records are written.
-#[derive(Drop)]
+#[derive(Clone, Copy)]
 pub struct Held {
     pub from: Cursor,
     pub start: usize,

@@ -1,4 +1,7 @@
 // A reader that holds its text, as the Rust's lexer does; the work is next_token's.
+
+#![tactic(auto)]
+
 ghost use Rattle.std.specs.Prelude.{◌≡◌};
 ghost use Rattle.lexer.specs.Cursors.{fresh};
 ghost use Rattle.lexer.specs.Promises.{NextToken};
@@ -6,7 +9,7 @@ ghost use Rattle.lexer.specs.Promises.{NextToken};
 use lexer::{Cursor, Step, next_token, start};
 
 // The Rust's Lexer<'a>: the text, and where reading stands in it.
-#[derive(Drop)]
+#[derive(Clone, Copy)]
 pub struct Reader<'a> {
     pub text: &'a [u8],
     pub cursor: Cursor,

@@ -1,4 +1,7 @@
 // Action records (document 01): codes, value kinds, and which words are texts. What a record says is defined in specs/, and read back in proofs/.
+
+#![tactic(auto)]
+
 mod marking;
 
 pub use marking::{is_known, is_text};

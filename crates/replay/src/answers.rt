@@ -59,7 +59,7 @@ fn print_trimmed(s: &[u8]) {
 }
 
 // What a question is lent: a text and records; scratch besides; all of a package's buffers, for a version; those of a listing; an output alone; nothing.
-#[derive(Drop)]
+#[derive(Clone, Copy)]
 pub enum Lending {
     Reader,
     Actor,

@@ -2,14 +2,14 @@
 ghost use Rattle.std.specs.Prelude.{◌≤◌, length};
 ghost use Rattle.replay.specs.Lines.{Within};
 
-#[derive(Drop)]
+#[derive(Clone, Copy)]
 pub enum Line {
     // Its length without the line feed.
     Of(usize),
     End,
 }
 
-#[derive(Drop)]
+#[derive(Clone, Copy)]
 enum Input {
     Byte(u8),
     End,

@@ -1,5 +1,8 @@
 // Answers the stored questions on standard input, a line each. The file `stdout` beside this folder
 // has the original's answers, and the check compares the two.
+
+#![tactic(auto)]
+
 mod acting;
 mod answers;
 mod converting;

@@ -2,7 +2,7 @@
 use crate::lexing;
 use lexer::{Cursor, Step};
 
-#[derive(Drop)]
+#[derive(Clone, Copy)]
 enum Next {
     From(Cursor),
     End,

@@ -2,7 +2,7 @@
 ghost use Rattle.std.specs.Prelude.{◌≡◌};
 ghost use Rattle.rules.specs.Entries.{entries, first_of};
 
-#[derive(Drop)]
+#[derive(Clone, Copy)]
 pub enum Found {
     // The action's number, as it stands.
     Number(u64),

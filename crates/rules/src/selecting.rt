@@ -3,7 +3,7 @@ ghost use Rattle.std.specs.Prelude.{◌≡◌};
 ghost use Rattle.rules.specs.Selectors.{matched};
 
 // The Rust's enum, by value.
-#[derive(Drop)]
+#[derive(Clone, Copy)]
 pub enum RuleIdSelector {
     Single(u64),
     // Both ends belong to it; a start above the end leaves nothing.

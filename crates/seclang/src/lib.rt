@@ -1,4 +1,7 @@
 // The readers and lookups for C and Rust: numbers and slices in, document 01's number back, its values in lent words.
+
+#![tactic(auto)]
+
 mod converting;
 mod indexing;
 mod looking;

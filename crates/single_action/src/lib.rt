@@ -1,4 +1,7 @@
 // One action (document 01, module 4): what a piece of a list comes to, and a setvar alone, by places in the piece.
+
+#![tactic(auto)]
+
 mod finding;
 mod marking;
 mod naming;

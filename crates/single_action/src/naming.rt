@@ -11,7 +11,7 @@ const LARGEST_16: u64 = u16::MAX as u64;
 const LARGEST_32: u64 = u32::MAX as u64;
 
 // What is done with an argument.
-#[derive(Drop)]
+#[derive(Clone, Copy)]
 pub enum Rule {
     // nothing
     Plain,

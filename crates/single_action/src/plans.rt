@@ -2,7 +2,7 @@
 use lent::Flaw;
 
 // Where a text of a record comes from.
-#[derive(Drop)]
+#[derive(Clone, Copy)]
 pub enum Origin {
     Absent,
     // the bytes from `first` up to `past`, as they are or in small letters
@@ -15,7 +15,7 @@ pub enum Origin {
 }
 
 // One record: code, number, texts a, b and c, value kind.
-#[derive(Drop)]
+#[derive(Clone, Copy)]
 pub struct Plan {
     pub code: u64,
     pub number: u64,
@@ -26,7 +26,7 @@ pub struct Plan {
 }
 
 // What one piece comes to.
-#[derive(Drop)]
+#[derive(Clone, Copy)]
 pub enum Verdict {
     Done(Plan),
     // 10 to 12: why, and the row of the table whose name it has

@@ -11,14 +11,14 @@ use crate::searching::has_macro;
 use ascii::Number;
 
 // The collection and the key.
-#[derive(Drop)]
+#[derive(Clone, Copy)]
 pub struct NamePlan {
     pub collection: Origin,
     pub key: Origin,
 }
 
 // The value: its number, its kind from 1 in the order of SetVarValue, and its text.
-#[derive(Drop)]
+#[derive(Clone, Copy)]
 pub struct ValuePlan {
     pub number: u64,
     pub kind: u64,

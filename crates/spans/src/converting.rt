@@ -2,7 +2,7 @@
 ghost use Rattle.std.specs.Prelude.{◌≡◌};
 ghost use Rattle.spans.specs.Conversion.{in_both, from_old, to_old};
 
-#[derive(Drop)]
+#[derive(Clone, Copy)]
 pub enum Answer {
     Word(u64),
     TooFar,

@@ -6,7 +6,7 @@ ghost use Rattle.spelled.specs.Records.{whole, start};
 ghost use Rattle.spelled.specs.Steps.{text_end, ReadEntry};
 
 // The texts a, b and c stand one after another: from `first`, `second` and `third` on, and up to `past`. One that is absent is empty.
-#[derive(Drop)]
+#[derive(Clone, Copy)]
 pub struct Entry {
     pub code: u64,
     pub number: u64,
@@ -17,7 +17,7 @@ pub struct Entry {
     pub past: usize,
 }
 
-#[derive(Drop)]
+#[derive(Clone, Copy)]
 pub enum Reading {
     // its words are none that a reader writes
     Stray,

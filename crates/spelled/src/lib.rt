@@ -1,4 +1,7 @@
 // Action lists written back (document 02, M-109): records and texts in one fixed spelling, where that reads back to them.
+
+#![tactic(auto)]
+
 mod entries;
 mod fitting;
 mod naming;

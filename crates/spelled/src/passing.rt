@@ -4,7 +4,7 @@ ghost use Rattle.actions.specs.Pieces.{nest};
 ghost use Rattle.spelled.specs.Steps.{line_end, stepped_bare, stepped, passed, passed_all};
 
 // The open quotation mark, 0 for none, and the depth of brackets; or that a byte does not stay.
-#[derive(Drop)]
+#[derive(Clone, Copy)]
 pub enum Passed {
     Lost,
     Open { mark: u8, depth: usize },

@@ -17,14 +17,14 @@ use listing::Answer;
 use single_action::Rule;
 
 // The first record that is not written, or the place past all of them.
-#[derive(Drop)]
+#[derive(Clone, Copy)]
 pub enum Rows {
     Fails(usize),
     Put(usize),
 }
 
 // A record that is not written, or the offset past its texts and the place past its spelling.
-#[derive(Drop)]
+#[derive(Clone, Copy)]
 pub enum Row {
     Fails,
     Put { past: usize, next: usize },

@@ -2,7 +2,7 @@
 ghost use Rattle.variables.specs.Steps.{Nexts};
 
 // The next piece runs from `first` up to `past`, and the part after its bar starts at `next`.
-#[derive(Drop)]
+#[derive(Clone, Copy)]
 pub enum Next {
     Piece {
         first: usize,

@@ -1,4 +1,7 @@
 // Variables and update targets (document 01, module 5).
+
+#![tactic(auto)]
+
 mod finding;
 mod parsing;
 mod singles;
@@ -8,7 +11,7 @@ pub use parsing::{parse_update_targets, parse_variables, read_targets};
 pub use singles::Exclusions;
 
 // What a list of variables or of update targets answers.
-#[derive(Drop)]
+#[derive(Clone, Copy)]
 pub enum Answer {
     // 0: how many records and bytes of text.
     Read {
@@ -30,7 +33,7 @@ pub enum Answer {
 }
 
 // What a list comes to that is read into buffers from an offset and a place on.
-#[derive(Drop)]
+#[derive(Clone, Copy)]
 pub enum Reached {
     // How many records, and the offset past the last text.
     Read {

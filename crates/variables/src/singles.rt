@@ -6,14 +6,14 @@ ghost use Rattle.variables.specs.Steps.{selection_after, excluding_of, Chose, Si
 use names::Lookup;
 
 // What a parser does with the names of exclusions: parse_variables keeps them as written, parse_update_targets looks them up.
-#[derive(Drop)]
+#[derive(Clone, Copy)]
 pub enum Exclusions {
     AsWritten,
     LookedUp,
 }
 
 // A record but for the offset of its text, which runs from `first` up to `past`; without `spanned` its span word is 0.
-#[derive(Drop)]
+#[derive(Clone, Copy)]
 pub struct Entry {
     pub kind: u64,
     pub code: u64,
@@ -25,7 +25,7 @@ pub struct Entry {
 }
 
 // What a piece is; an unknown name by its places.
-#[derive(Drop)]
+#[derive(Clone, Copy)]
 pub enum Reading {
     Variable(Entry),
     Exclusion,
@@ -33,7 +33,7 @@ pub enum Reading {
 }
 
 // A selection by its number and places.
-#[derive(Drop)]
+#[derive(Clone, Copy)]
 struct Chosen {
     selection: u64,
     spanned: bool,

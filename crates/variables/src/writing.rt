@@ -59,7 +59,7 @@ fn put(
 
 // What a list was read to: how many variables and exclusions, and the offset past the selections' texts;
 // or the first name that is none, with its piece, its places, and the piece's.
-#[derive(Drop)]
+#[derive(Clone, Copy)]
 pub enum Tally {
     Targets {
         variables: usize,

@@ -1,9 +1,12 @@
 // XmlTarget::from_selection, on a selection as a record has it: its kind's number, and its text.
+
+#![tactic(auto)]
+
 ghost use Rattle.std.specs.Prelude.{◌≡◌};
 ghost use Rattle.xml.specs.Xml.{key_target, xml_target};
 
 // The Rust's enum, and Neither where it has no target.
-#[derive(Drop)]
+#[derive(Clone, Copy)]
 pub enum XmlTarget {
     Elements,
     Attributes,

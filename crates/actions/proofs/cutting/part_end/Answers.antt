@@ -1,0 +1,81 @@
+use mathlib.Core.Path.{◌≡◌, ◌∙◌, ap}
+use mathlib.Core.Logic.{⊎_elim, inl, inr}
+use Prim.Native.Nat.{◌+◌, ◌-◌, ◌≤◌}
+use native.Mathlib.Omega.{arith}
+use lib.ListN.{length, drop, get_or}
+use Rattle.ascii.specs.Splits.{first_of}
+use Rattle.ascii.proofs.ListLaws.{rest_is}
+use Rattle.actions.proofs.QuoteLaws.{Cutting, cutting_none, cutting_end, cutting_stop, cutting_opened, cutting_shut, cutting_deep, cutting_other, cutting_open, cutting_closed, run_fits, mark_is}
+use Rattle.actions.proofs.cutting.part_end.Goals as goal
+use Rattle.actions.proofs.cutting.part_end.Goals.{After-first_of, Joined-b}
+
+-- the bytes up to the next mark
+run_is : (c : After-first_of) → let s = c.args.s.now in let at = c.loop-at.at in c.first_of.result ≡ first_of (get_or s at 0) (drop (at + 1) s)
+run_is c =
+    let s = c.args.s.now in
+    let at = c.loop-at.at in
+    c.first_of.ensures ∙ ap (first_of (get_or s at 0)) (rest_is s (at + 1))
+
+pub loop-at-init : goal.loop-at-init
+loop-at-init c = cutting_none _ _ c.requires
+
+pub bounds-s-at : goal.bounds-s-at
+bounds-s-at c = omega arith
+
+pub slice_bounds-first_of-count : goal.slice_bounds-first_of-count
+slice_bounds-first_of-count c = omega arith
+
+run_ends : (c : After-first_of) → c.loop-at.at + (1 + c.first_of.result) ≤ length c.args.s.now
+run_ends c = run_fits c.loop-at.invariant c.loop-at-test.true (mark_is _ c.in-34.is) _ (run_is c)
+
+pub overflow_add-at-in-34 : goal.overflow_add-at-in-34
+overflow_add-at-in-34 c = omega (arith, run_ends (goal.at.overflow_add-at-in-34 c).After-first_of)
+
+pub overflow_add-at-in-34-2 : goal.overflow_add-at-in-34-2
+overflow_add-at-in-34-2 c = omega (arith, run_ends (goal.at.overflow_add-at-in-34-2 c).After-first_of)
+
+pub returns-then-s-at : goal.returns-then-s-at
+returns-then-s-at c =
+    let d = c in
+    cutting_open d.loop-at.invariant d.loop-at-test.true (mark_is _ d.in-34.is) _ (run_is d) c.if-s-at.true
+
+pub overflow_add-depth : goal.overflow_add-depth
+overflow_add-depth c = omega (arith, c.loop-at.invariant.shallow)
+
+pub returns-then-depth-eq0 : goal.returns-then-depth-eq0
+returns-then-depth-eq0 c = cutting_stop c.loop-at.invariant c.loop-at-test.true c.in-44.is c.if-depth-eq0.true
+
+-- by the arm that the byte took
+turned : (c : Joined-b) → let a = c.args in (c.loop-at.at ≤ c.in-34.at) × Cutting a.s.now a.from (c.in-34.at + 1) c.in-34.depth
+turned c =
+    let x = c.loop-at.invariant in
+    let h = c.loop-at-test.true in
+    let before = c in
+    ⊎_elim
+    (λ w.
+    let d : tie.After-first-of invariant-loop decreases-loop = record { before = record { before = record { before = before; match = w.0 }; first-of-arg = w.1 }; first_of_lem = w.2 } in
+    rw (w.4, w.5) (omega arith, cutting_closed x h (mark_is _ w.0.keys1) _ (run_is d) w.3.false))
+    (⊎_elim
+    (λ w. rw (w.1, w.2) (omega arith, cutting_opened x h w.0.keys2))
+    (⊎_elim
+    (λ w. rw (w.2, w.3) (omega arith, cutting_shut x h w.0.keys3))
+    (⊎_elim
+    (λ w. let e : c.loop-at.depth - 1 ≡ c.loop-at.depth = omega (arith, w.1.false) in rw (w.2, w.3) (omega arith, rw e at (cutting_shut x h w.0.keys3)))
+    (⊎_elim
+    (λ w. rw (w.2, w.3) (omega arith, cutting_deep x h w.0.keys4 w.1.false))
+    (λ w.
+    let r = w.0.rest in
+    rw (w.1, w.2) (omega arith, cutting_other x h (λ e. r.0.0.0.1 (inl e)) (λ e. r.0.0.0.1 (inr e)) r.0.0.1 r.0.1 r.1))))))
+    c.in-34.branch-raw
+
+pub overflow_add-at-in-loop-at : goal.overflow_add-at-in-loop-at
+overflow_add-at-in-loop-at c = omega (arith, (turned (goal.at.overflow_add-at-in-loop-at c).Joined-b).1.inside)
+
+pub loop-at-smaller : goal.loop-at-smaller
+loop-at-smaller c = omega (arith, (turned (goal.at.loop-at-smaller c).Joined-b).0, c.loop-at-test.true)
+
+pub loop-at-preserved : goal.loop-at-preserved
+loop-at-preserved c = (turned (goal.at.loop-at-preserved c).Joined-b).1
+
+pub returns : goal.returns
+returns c = cutting_end c.loop-at.invariant c.loop-at-test.false

@@ -1,0 +1,14 @@
+-- Both buffers are cleared, and the name stored at the front of the text.
+use mathlib.Core.Path.{◌∙◌, ap}
+use mathlib.Core.List.{List}
+use Prim.Native.Nat.{ℕ}
+use Rattle.lent.specs.Buffers.{stored}
+use Rattle.lent.proofs.EndLaws.{refused_text_lem}
+use Rattle.single_action.specs.Table.{row_at}
+use Rattle.actions.specs.Listing.{badly}
+use Rattle.actions.proofs.lists.refuse_row.Goals as goal
+
+pub returns : goal.returns
+returns c =
+    let name = (row_at c.args.row).name in
+    let e = c.put_name-name.ensures in let whole = (refused_text_lem c.args.text.now name (e.0 ∙ ap (λ (l : List ℕ). stored l 0 name) c.clear_bytes.ensures) c.requires, (c.clear_words.ensures, ap (λ (n : ℕ). badly c.args.flaw c.args.piece n c.args.span) e.1)) in record { text_after = whole.0; records_after = whole.1.0; value = whole.1.1 }

@@ -1,0 +1,18 @@
+-- Each arm of the match is the test that it stands for.
+use borrow.Author.Tests.{ne_eqb}
+use Rattle.listing.proofs.records.kind_of.Goals as goal
+
+pub returns-in-1 : goal.returns-in-1
+returns-in-1 c = rw c.in-1.is
+
+pub returns-in-2 : goal.returns-in-2
+returns-in-2 c = rw c.in-2.is
+
+pub returns-in-3 : goal.returns-in-3
+returns-in-3 c = rw c.in-3.is
+
+pub returns-in-4 : goal.returns-in-4
+returns-in-4 c = rw c.in-4.is
+
+pub returns-in_default : goal.returns-in_default
+returns-in_default c = let n = c.args.code in simp (ne_eqb n 1 c.in-1.rest.0.0.0.1, ne_eqb n 2 c.in-1.rest.0.0.1, ne_eqb n 3 c.in-1.rest.0.1, ne_eqb n 4 c.in-1.rest.1)

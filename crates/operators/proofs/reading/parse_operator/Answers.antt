@@ -1,0 +1,12 @@
+-- By the gate's answer; each way is one law of AnswerLaws.
+use Rattle.operators.proofs.AnswerLaws.{answer_too_long, answer_not_ascii, answer_open}
+use Rattle.operators.proofs.reading.parse_operator.Goals as goal
+
+pub returns-in-TooLong : goal.returns-in-TooLong
+returns-in-TooLong c = answer_too_long c.args.input.now _ c.admit.ensures c.in-TooLong.is
+
+pub returns-in-NotAscii : goal.returns-in-NotAscii
+returns-in-NotAscii c = answer_not_ascii c.args.input.now _ c.admit.ensures _ c.in-NotAscii.is
+
+pub returns-in-Open : goal.returns-in-Open
+returns-in-Open c = answer_open c.args.input.now _ c.admit.ensures c.in-TooLong.keys3 _ c.operator_in.ensures

@@ -1,0 +1,16 @@
+-- Each arm of the match is the test that it stands for.
+use borrow.Author.Tests.{ne_eqb}
+use Rattle.places.specs.Tables.{quoting_by}
+use Rattle.places.proofs.acting.escaped_quote.Goals as goal
+
+pub returns-in-10 : goal.returns-in-10
+unfolding quoting_by
+returns-in-10 c = rw c.in-10.is
+
+pub returns-in-13 : goal.returns-in-13
+unfolding quoting_by
+returns-in-13 c = rw c.in-13.is
+
+pub returns-in_default : goal.returns-in_default
+unfolding quoting_by
+returns-in_default c = let r = c.in-10.rest in rw (ne_eqb _ 10 r.0.1, ne_eqb _ 13 r.1)

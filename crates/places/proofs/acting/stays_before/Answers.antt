@@ -1,0 +1,34 @@
+-- Each arm of the match is the test that it stands for.
+use mathlib.Core.Logic.{⊎_elim, inl, inr}
+use borrow.Author.Tests.{ne_eqb}
+use Rattle.lexer.specs.Rules.{unescaped}
+use Rattle.places.specs.Tables.{stays}
+use Rattle.places.proofs.acting.stays_before.Goals as goal
+
+pub returns-in-10 : goal.returns-in-10
+unfolding stays unescaped
+returns-in-10 c = ⊎_elim (λ e. rw e) (λ e. rw e) c.in-10.is
+
+pub returns-in-34 : goal.returns-in-34
+unfolding stays unescaped
+returns-in-34 c = ⊎_elim (λ e. rw e) (⊎_elim (λ e. rw e) (λ e. rw e)) c.in-34.is
+
+pub returns-in-110 : goal.returns-in-110
+unfolding stays unescaped
+returns-in-110 c = ⊎_elim (λ e. rw e) (⊎_elim (λ e. rw e) (λ e. rw e)) c.in-110.is
+
+pub returns-in_default : goal.returns-in_default
+unfolding stays unescaped
+returns-in_default c =
+    let b = c.args.b in
+    let r = c.in-10.rest in
+    simp (
+      ne_eqb b 10 (λ e. r.0.0.1 (inl e)),
+      ne_eqb b 13 (λ e. r.0.0.1 (inr e)),
+      ne_eqb b 34 (λ e. r.0.1 (inl e)),
+      ne_eqb b 39 (λ e. r.0.1 (inr (inl e))),
+      ne_eqb b 92 (λ e. r.0.1 (inr (inr e))),
+      ne_eqb b 110 (λ e. r.1 (inl e)),
+      ne_eqb b 114 (λ e. r.1 (inr (inl e))),
+      ne_eqb b 116 (λ e. r.1 (inr (inr e))),
+    )

@@ -1,0 +1,13 @@
+-- Each arm tells its own row of the table.
+use Rattle.listing.specs.Promises.{answer_given}
+use Rattle.seclang.proofs.ToldLaws.{told_case}
+use Rattle.seclang.proofs.telling.tell_listed.Goals as goal
+
+pub returns-in-Written : goal.returns-in-Written
+returns-in-Written c = told_case answer_given c.in-Written.is c.tell_one.ensures
+
+pub returns-in-NoRoom : goal.returns-in-NoRoom
+returns-in-NoRoom c = told_case answer_given c.in-NoRoom.is c.tell_one-in-NoRoom.ensures
+
+pub returns-in-NotWritten : goal.returns-in-NotWritten
+returns-in-NotWritten c = told_case answer_given c.in-NotWritten.is c.tell_one-in-NotWritten.ensures

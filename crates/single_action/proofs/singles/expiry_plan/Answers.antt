@@ -1,0 +1,33 @@
+-- The first `=` splits it, and the second half is the seconds.
+use mathlib.Core.Path.{◌∙◌, sym, ap}
+use native.Mathlib.Omega.{arith}
+use Rattle.single_action.specs.Actions.{seconds}
+use Rattle.single_action.proofs.JudgedLaws.{equals_within, expiry_whole, expiry_halves}
+use Rattle.single_action.proofs.singles.expiry_plan.Goals as goal
+
+pub overflow_add-equals : goal.overflow_add-equals
+overflow_add-equals c = let s = c in omega (arith, equals_within s.args.s.now s.args.from s.args.code s.requires c.first_of.result c.first_of.ensures)
+
+pub returns-then-s-equals : goal.returns-then-s-equals
+returns-then-s-equals c =
+    let s = c in
+    rw c.text_plan.ensures (expiry_whole s.args.s.now s.args.from s.args.code s.requires c.first_of.result c.first_of.ensures c.if-s-equals.true)
+
+pub returns-in-Value : goal.returns-in-Value
+returns-in-Value c =
+    let s = c in
+    rw c.text_plan-in-Value.ensures
+    (expiry_halves s.args.s.now s.args.from s.args.code s.requires c.first_of.result c.first_of.ensures c.if-s-equals.false c.in-Value.seconds
+    (ap seconds (sym c.unsigned.ensures ∙ c.in-Value.is)))
+
+pub returns-in-Unreadable : goal.returns-in-Unreadable
+returns-in-Unreadable c =
+    let s = c in
+    rw c.text_plan-in-Unreadable.ensures
+    (expiry_halves s.args.s.now s.args.from s.args.code s.requires c.first_of.result c.first_of.ensures c.if-s-equals.false 0 (ap seconds (sym c.unsigned.ensures ∙ c.in-Unreadable.is)))
+
+pub returns-in-TooLarge : goal.returns-in-TooLarge
+returns-in-TooLarge c =
+    let s = c in
+    rw c.text_plan-in-TooLarge.ensures
+    (expiry_halves s.args.s.now s.args.from s.args.code s.requires c.first_of.result c.first_of.ensures c.if-s-equals.false 0 (ap seconds (sym c.unsigned.ensures ∙ c.in-TooLarge.is)))

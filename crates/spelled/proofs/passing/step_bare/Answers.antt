@@ -1,0 +1,40 @@
+-- Each arm of the match is the arm of the cutter.
+use borrow.Author.Tests.{ne_eqb}
+use Rattle.single_action.specs.Marks.{quotation}
+use Rattle.actions.specs.Pieces.{nest_bare, nest_after, cuts}
+use Rattle.spelled.proofs.passing.step_bare.Goals as goal
+
+pub returns-then-depth-eq0-2 : goal.returns-then-depth-eq0-2
+unfolding cuts nest_after nest_bare quotation
+returns-then-depth-eq0-2 c = rw (c.in-44.is, c.if-depth-eq0-2.true)
+
+pub returns-in-34 : goal.returns-in-34
+unfolding cuts nest_after nest_bare quotation
+returns-in-34 c = rw c.in-34.is
+
+pub returns-in-39 : goal.returns-in-39
+unfolding cuts nest_after nest_bare quotation
+returns-in-39 c = rw c.in-39.is
+
+pub returns-in-40 : goal.returns-in-40
+unfolding cuts nest_after nest_bare quotation
+returns-in-40 c = rw c.in-40.is
+
+pub returns-then-depth-eq0 : goal.returns-then-depth-eq0
+unfolding cuts nest_after nest_bare quotation
+returns-then-depth-eq0 c = rw (c.in-41.is, c.if-depth-eq0.true)
+
+pub returns-else-depth-eq0 : goal.returns-else-depth-eq0
+unfolding cuts nest_after nest_bare quotation
+returns-else-depth-eq0 c = rw c.in-41.is
+
+pub returns-else-depth-eq0-2 : goal.returns-else-depth-eq0-2
+unfolding cuts nest_after nest_bare quotation
+returns-else-depth-eq0-2 c = rw (c.in-44.is, ne_eqb c.args.depth 0 c.if-depth-eq0-2.false)
+
+pub returns-in_default : goal.returns-in_default
+unfolding cuts nest_after nest_bare quotation
+returns-in_default c =
+    let b = c.args.b in
+    let r = c.in-34.rest in
+    simp (ne_eqb b 34 r.0.0.0.0.1, ne_eqb b 39 r.0.0.0.1, ne_eqb b 40 r.0.0.1, ne_eqb b 41 r.0.1, ne_eqb b 44 r.1)

@@ -1,0 +1,61 @@
+-- By whether it may start, then by what the list was read to; each way out is one law of CoreLaws.
+use mathlib.Core.Path.{◌∙◌, sym}
+use native.Mathlib.Omega.{arith}
+use lib.ListN.{length}
+use Rattle.lent.proofs.StartLaws.{starts_is}
+use Rattle.variables.specs.Parts.{pieces}
+use Rattle.variables.specs.Steps.{excluded_of}
+use Rattle.variables.proofs.CoreLaws.{kept_low, all_or_none, used_fits, core_unfit, core_unknown, core_read}
+use Rattle.variables.proofs.parsing.read_targets.Goals as goal
+
+pub scan-requires : goal.scan-requires
+scan-requires c =
+    let a = c.args in
+    let b = (starts_is (length a.s.now) (length a.text.now) a.offset a.place).0 (sym c.starts.ensures ∙ c.if-starts.true) in
+    record { s_len_bound = b.within; offset_le_limit = (b.offset_low, b.count_low) }
+
+pub slice_bounds-refuse_piece-count : goal.slice_bounds-refuse_piece-count
+slice_bounds-refuse_piece-count c = let x = (rw c.in-Unknown.is at c.scan.ensures) in x.ordered
+
+pub slice_bounds-refuse_piece-start : goal.slice_bounds-refuse_piece-start
+slice_bounds-refuse_piece-start c = let x = (rw c.in-Unknown.is at c.scan.ensures) in x.ordered
+
+pub slice_bounds-refuse_piece-end : goal.slice_bounds-refuse_piece-end
+slice_bounds-refuse_piece-end c = let x = (rw c.in-Unknown.is at c.scan.ensures) in x.inside
+
+pub overflow_sub-result : goal.overflow_sub-result
+overflow_sub-result c = let x = (rw c.in-Unknown.is at c.scan.ensures) in x.ordered
+
+pub returns-in-Unknown : goal.returns-in-Unknown
+returns-in-Unknown c =
+    let a = c.args in
+    let at-scan = c in
+    core_unknown a.exclusions a.s.now a.offset a.place a.text.now a.records.now (sym c.starts.ensures ∙ c.if-starts.true) (rw c.in-Unknown.is at at-scan.scan.ensures) at-scan.scan.new.1.1.0 at-scan.scan.new.1.1.1.1.0 at-scan.scan.auto.1.1.0 at-scan.scan.auto.1.1.1.1.0 c.refuse_piece.ensures.0 c.refuse_piece.ensures.1
+
+pub overflow_add-place : goal.overflow_add-place
+overflow_add-place c =
+    let a = c.args in
+    let b = (starts_is (length a.s.now) (length a.text.now) a.offset a.place).0 (sym c.starts.ensures ∙ c.if-starts.true) in
+    let x = (rw c.in-Targets.is at c.scan.ensures) in
+    omega (arith, x.few, b.count_low)
+
+pub add_exclusions-past-requires : goal.add_exclusions-past-requires
+add_exclusions-past-requires c =
+    let a = c.args in
+    let b = (starts_is (length a.s.now) (length a.text.now) a.offset a.place).0 (sym c.starts.ensures ∙ c.if-starts.true) in
+    let x = (rw c.in-Targets.is at c.scan.ensures) in let whole = (b.within, ((omega (arith, used_fits x, b.offset_low, b.within), omega (arith, x.few, b.count_low)), all_or_none a.exclusions _ _ _ (excluded_of (pieces a.s.now)) c.kept-kept.ensures x.excluded_are)) in record { s_len_bound = whole.0; offset_bound = whole.1.0; all_or_none = whole.1.1 }
+
+pub overflow_add-result : goal.overflow_add-result
+overflow_add-result c =
+    let x = (rw c.in-Targets.is at c.scan.ensures) in
+    omega (arith, x.few, kept_low c.args.exclusions _ _ _ c.kept-kept.ensures)
+
+pub returns-in-Targets : goal.returns-in-Targets
+returns-in-Targets c =
+    let a = c.args in
+    core_read a.exclusions a.s.now a.offset a.place a.text.now a.records.now (sym c.starts.ensures ∙ c.if-starts.true) (rw c.in-Targets.is at c.scan.ensures) _ c.kept-kept.ensures c.add_exclusions-past.ensures
+
+pub returns : goal.returns
+returns c =
+    let a = c.args in
+    core_unfit a.exclusions a.s.now a.offset a.place a.text.now a.records.now (sym c.starts.ensures ∙ c.if-starts.false)

@@ -1,0 +1,30 @@
+-- As written it is an exclusion at once; looked up, by what the lookup finds.
+use native.Mathlib.Omega.{arith}
+use mathlib.Core.Bool.{false}
+use Rattle.variables.proofs.SingleLaws.{colon_fits, marked_written, marked_known, marked_unknown}
+use Rattle.variables.proofs.singles.marked.Goals as goal
+
+pub overflow_add-end : goal.overflow_add-end
+overflow_add-end c = omega (arith, colon_fits c.args.p.now 1 _ false (omega arith) c.first_of-end.ensures)
+
+pub slice_bounds-variable_code-end : goal.slice_bounds-variable_code-end
+slice_bounds-variable_code-end c = colon_fits c.args.p.now 1 _ false (omega arith) c.first_of-end.ensures
+
+pub returns-in-AsWritten : goal.returns-in-AsWritten
+returns-in-AsWritten c = rw c.in-AsWritten.is (marked_written c.args.p.now c.requires.p_nonzero c.requires.p_value)
+
+pub returns-in-Code : goal.returns-in-Code
+returns-in-Code c =
+    let at-variable-code = c in
+    let at-first-of = at-variable-code.before.before in
+    let at-enum-told2 = at-first-of.before.before in
+    let start = at-enum-told2.before.before.before in
+    rw at-enum-told2.enum-told2.given.1 (marked_known start.args.p.now start.requires.0 start.requires.1 _ at-first-of.first_of_lem.ensures _ at-variable-code.variable_code_lem.ensures _ c.in-Code.is)
+
+pub returns-in-Unknown : goal.returns-in-Unknown
+returns-in-Unknown c =
+    let at-variable-code = c in
+    let at-first-of = at-variable-code.before.before in
+    let at-enum-told2 = at-first-of.before.before in
+    let start = at-enum-told2.before.before.before in
+    rw at-enum-told2.enum-told2.given.1 (marked_unknown start.args.p.now start.requires.0 start.requires.1 _ at-first-of.first_of_lem.ensures _ at-variable-code.variable_code_lem.ensures c.in-Unknown.is)

@@ -1,0 +1,134 @@
+use Prim.Native.Nat.{◌-◌}
+use native.Mathlib.Omega.{arith}
+use Rattle.variables.proofs.ScanLaws.{begun, ended, some_low, this_long, this_some, stopped, passed, entry_narrow, entry_inside, turned}
+use Rattle.variables.proofs.LayoutLaws.{text_long, records_long}
+use Rattle.variables.proofs.writing.scan.Goals as goal
+
+pub loop-first-init : goal.loop-first-init
+loop-first-init c =
+    let a = c.args in
+    begun a.exclusions a.s.now a.text.now a.records.now a.offset a.place
+
+pub shape_of-text-in_default : goal.shape_of-text-in_default
+shape_of-text-in_default c = text_long c.loop-first.invariant.wrote
+
+pub shape_of-records-in_default : goal.shape_of-records-in_default
+shape_of-records-in_default c = records_long c.loop-first.invariant.wrote
+
+pub returns-in_default : goal.returns-in_default
+returns-in_default c = ended c.loop-first.invariant c.requires.s_len_bound c.requires.offset_le_limit (rw c.in_default.is at c.next_piece.ensures)
+
+pub slice_bounds-p-count : goal.slice_bounds-p-count
+slice_bounds-p-count c = let p = (rw c.in-Piece.is at c.next_piece.ensures) in omega (arith, p.some)
+
+pub slice_bounds-p-start : goal.slice_bounds-p-start
+slice_bounds-p-start c = let p = (rw c.in-Piece.is at c.next_piece.ensures) in omega (arith, p.some)
+
+pub slice_bounds-p-end : goal.slice_bounds-p-end
+slice_bounds-p-end c = let p = (rw c.in-Piece.is at c.next_piece.ensures) in omega (arith, p.before, p.inside)
+
+pub read_piece-requires : goal.read_piece-requires
+read_piece-requires c = this_some c.loop-first.invariant c.requires.s_len_bound c.requires.offset_le_limit _ _ _ (rw c.in-Piece.is at c.next_piece.ensures)
+
+pub overflow_add-result : goal.overflow_add-result
+overflow_add-result c = omega (arith, some_low c.loop-first.invariant c.requires.s_len_bound c.requires.offset_le_limit)
+
+pub overflow_add-result-in-Unknown : goal.overflow_add-result-in-Unknown
+overflow_add-result-in-Unknown c = omega (arith, stopped c.loop-first.invariant c.requires.s_len_bound c.requires.offset_le_limit _ _ _ (rw c.in-Piece.is at c.next_piece.ensures) _ _ (rw c.in-Unknown.is at c.read_piece.ensures), c.requires.s_len_bound)
+
+pub overflow_add-result-in-Unknown-2 : goal.overflow_add-result-in-Unknown-2
+overflow_add-result-in-Unknown-2 c = omega (arith, stopped c.loop-first.invariant c.requires.s_len_bound c.requires.offset_le_limit _ _ _ (rw c.in-Piece.is at c.next_piece.ensures) _ _ (rw c.in-Unknown.is at c.read_piece.ensures), c.requires.s_len_bound)
+
+pub shape_of-text-in-Unknown : goal.shape_of-text-in-Unknown
+shape_of-text-in-Unknown c = text_long c.loop-first.invariant.wrote
+
+pub shape_of-records-in-Unknown : goal.shape_of-records-in-Unknown
+shape_of-records-in-Unknown c = records_long c.loop-first.invariant.wrote
+
+pub returns-in-Unknown : goal.returns-in-Unknown
+returns-in-Unknown c =
+    let at-begin = c in
+    let at-read-piece = at-begin.before.before in
+    let at_first = at-read-piece.before.before.before in
+    let at-next-piece = at_first.before.before in
+    let at-loop = at-next-piece.before in
+    let start = at-loop.before.before.before.before in
+    stopped at-loop.loop.invariant start.requires.0 start.requires.1 _ _ _ (rw at_first.first.given.1 at at-next-piece.next-piece.ensures) _ _ (rw at-begin.begin.given.1 at at-read-piece.read-piece.ensures)
+
+pub overflow_add-excluded : goal.overflow_add-excluded
+overflow_add-excluded c = omega (arith, some_low c.loop-first.invariant c.requires.s_len_bound c.requires.offset_le_limit)
+
+pub loop-first-smaller-in-Exclusion : goal.loop-first-smaller-in-Exclusion
+loop-first-smaller-in-Exclusion c = let p = (rw c.in-Piece.is at c.next_piece.ensures) in omega (arith, p.begun, p.some, p.before, p.inside)
+
+pub loop-first-preserved-in-Exclusion : goal.loop-first-preserved-in-Exclusion
+loop-first-preserved-in-Exclusion c =
+    let at-read-piece = c in
+    let at_first = at-read-piece.before.before.before in
+    let at-next-piece = at_first.before.before in
+    let at-loop = at-next-piece.before in
+    let start = at-loop.before.before.before.before in
+    passed at-loop.loop.invariant start.requires.0 start.requires.1 _ _ _ (rw at_first.first.given.1 at at-next-piece.next-piece.ensures) (rw c.in-Exclusion.is at at-read-piece.read-piece.ensures)
+
+pub overflow_add-place : goal.overflow_add-place
+overflow_add-place c =
+    let at-e = c in
+    let at-read-piece = at-e.before.before in
+    let at_first = at-read-piece.before.before.before in
+    let at-next-piece = at_first.before.before in
+    let at-loop = at-next-piece.before in
+    let start = at-loop.before.before.before.before in
+    omega (arith, some_low at-loop.loop.invariant start.requires.0 start.requires.1, start.requires.1)
+
+pub put-requires : goal.put-requires
+put-requires c =
+    let at-e = c in
+    let at-read-piece = at-e.before.before in
+    let at_first = at-read-piece.before.before.before in
+    let at-next-piece = at_first.before.before in
+    let at-loop = at-next-piece.before in
+    let start = at-loop.before.before.before.before in
+    let p = (rw at_first.first.given.1 at at-next-piece.next-piece.ensures) in let whole = (entry_narrow at-loop.loop.invariant start.requires.0 start.requires.1 _ _ _ p _ (rw at-e.e.given.1 at at-read-piece.read-piece.ensures), ((entry_inside at-loop.loop.invariant start.requires.0 start.requires.1 _ _ _ p _ (rw at-e.e.given.1 at at-read-piece.read-piece.ensures), omega (arith, some_low at-loop.loop.invariant start.requires.0 start.requires.1)), (omega (arith, start.requires.0, p.begun, p.some, p.before, p.inside), omega (arith, start.requires.0, this_long at-loop.loop.invariant start.requires.0 start.requires.1 _ _ _ p, p.before, p.inside)))) in record { narrow = whole.0; past_in_bounds = whole.1.0; at_le_limit = whole.1.1 }
+
+pub overflow_sub-used : goal.overflow_sub-used
+overflow_sub-used c =
+    let at-e = c in
+    let at-read-piece = at-e.before.before in
+    let at_first = at-read-piece.before.before.before in
+    let at-next-piece = at_first.before.before in
+    let at-loop = at-next-piece.before in
+    let start = at-loop.before.before.before.before in
+    (entry_narrow at-loop.loop.invariant start.requires.0 start.requires.1 _ _ _ (rw at_first.first.given.1 at at-next-piece.next-piece.ensures) _ (rw at-e.e.given.1 at at-read-piece.read-piece.ensures)).ordered
+
+pub overflow_add-used : goal.overflow_add-used
+overflow_add-used c =
+    let at-e = c in
+    let at-read-piece = at-e.before.before in
+    let at_first = at-read-piece.before.before.before in
+    let at-next-piece = at_first.before.before in
+    let at-loop = at-next-piece.before in
+    let start = at-loop.before.before.before.before in
+    omega (arith, entry_narrow at-loop.loop.invariant start.requires.0 start.requires.1 _ _ _ (rw at_first.first.given.1 at at-next-piece.next-piece.ensures) _ (rw at-e.e.given.1 at at-read-piece.read-piece.ensures))
+
+pub overflow_add-variables : goal.overflow_add-variables
+overflow_add-variables c =
+    let at-loop = c in
+    let start = at-loop.before.before.before.before in
+    omega (arith, some_low at-loop.loop.invariant start.requires.0 start.requires.1)
+
+pub loop-first-smaller : goal.loop-first-smaller
+loop-first-smaller c =
+    let at_first = c in
+    let at-next-piece = at_first in
+    let p = (rw at_first.in-Piece.is at at-next-piece.next-piece.ensures) in omega (arith, p.begun, p.some, p.before, p.inside)
+
+pub loop-first-preserved : goal.loop-first-preserved
+loop-first-preserved c =
+    let at-put = c in
+    let at-e = at-put.before.before.before.before in
+    let at-read-piece = at-e.before.before in
+    let at_first = at-read-piece.before.before.before in
+    let at-next-piece = at_first.before.before in
+    let at-loop = at-next-piece.before in
+    let start = at-loop.before.before.before.before in
+    turned at-loop.loop.invariant start.requires.0 start.requires.1 _ _ _ (rw at_first.first.given.1 at at-next-piece.next-piece.ensures) _ (rw at-e.e.given.1 at at-read-piece.read-piece.ensures) _ _ at-put.put.ensures.0 at-put.put.ensures.1
