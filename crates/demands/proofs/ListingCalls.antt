@@ -22,7 +22,7 @@ use Rattle.demands.proofs.FixedLaws.{left_same, wrote_same}
 told : (o : P.Outcome) → (r : Answer) × (P.answer_given r ≡ P.given_by o)
 told (P.writes xs) = (Answer.Written (length xs), refl)
 told (P.no_room n) = (Answer.NoRoom n, refl)
-told (P.not_written n) = (Answer.NotWritten n, refl)
+told (P.no_token n) = (Answer.NoToken n, refl)
 
 -- those that write into one buffer, by what a call comes to
 leaves_fixed : {In : Type 0} (buffer : In → List ℕ) (o : In → P.Outcome) → Fixed In (Wrote Answer) (λ i w. P.Leaves (o i) (buffer i) w.buffer w.answer)

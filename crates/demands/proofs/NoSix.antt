@@ -63,12 +63,12 @@ directives_not (Directing.filled x) e = omega arith
 listing_not : (o : Listing.Outcome) → (Listing.given_by o).number ≡ 6 → ⊥
 listing_not (Listing.writes xs) e = omega arith
 listing_not (Listing.no_room needed) e = omega arith
-listing_not (Listing.not_written place) e = omega arith
+listing_not (Listing.no_token place) e = omega arith
 
 listed_not : (r : Listed) → (Listing.answer_given r).number ≡ 6 → ⊥
 listed_not (Listed.Written n) e = omega arith
 listed_not (Listed.NoRoom needed) e = omega arith
-listed_not (Listed.NotWritten place) e = omega arith
+listed_not (Listed.NoToken place) e = omega arith
 
 span_not : (r : Converted) → (Spans.answer_given r).number ≡ 6 → ⊥
 span_not (Converted.Word w) e = omega arith

@@ -16,7 +16,7 @@ use Rattle.lent.proofs.HighLaws.{low_high}
 use Rattle.records.specs.Actions.{Action}
 use Rattle.actions.specs.Lists.{actions_of}
 use Rattle.actions.specs.Promises.{ParseActions}
-use Rattle.listing.specs.Promises.{writes, no_room, not_written, given_by, buffer_by}
+use Rattle.listing.specs.Promises.{writes, no_room, no_token, given_by, buffer_by}
 use Rattle.listing.specs.Promises as Listing
 use Rattle.listing.specs.declared.Answer.{Answer as Listed}
 use Rattle.spelled.specs.Spelling.{spell_all}
@@ -54,7 +54,7 @@ module _ (i : ActionRecords) where
 
   -- by the verdict: 19, 4 or 0
   data Came : Type 0 where
-    failed : (k : ℕ) → (Writable i.words i.texts → ⊥) → written_outcome i.words i.texts room ≡ not_written k → Came
+    failed : (k : ℕ) → (Writable i.words i.texts → ⊥) → written_outcome i.words i.texts room ≡ no_token k → Came
     short : Writable i.words i.texts → room < length spelling → written_outcome i.words i.texts room ≡ no_room (length spelling) → Came
     done : Writable i.words i.texts → length spelling ≤ room → written_outcome i.words i.texts room ≡ writes spelling → Came
 

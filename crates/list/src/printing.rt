@@ -33,6 +33,6 @@ pub fn line_of(input: &[u8], out: &mut [u8]) -> usize
     match list_any(input, out) {
         Answer::Written(n) => n,
         Answer::NoRoom(n) => n,
-        Answer::NotWritten(n) => n,
+        Answer::NoToken(n) => n,
     }
 }

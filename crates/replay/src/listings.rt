@@ -17,6 +17,6 @@ pub fn print_listing(input: &[u8], text: &mut [u8], records: &mut [u64], out: &m
     match listing::list_text(input, text, records, out) {
         Answer::Written(n) => print_line(out, n),
         Answer::NoRoom(_) => {}
-        Answer::NotWritten(_) => {}
+        Answer::NoToken(_) => {}
     }
 }

@@ -11,7 +11,7 @@ fn print_answer(answer: Answer, out: &[u8]) {
             print_text(out, n);
         }
         Answer::NoRoom(needed) => print_refusal(4, needed),
-        Answer::NotWritten(record) => print_refusal(19, record),
+        Answer::NoToken(record) => print_refusal(19, record),
     }
 }
 

@@ -222,7 +222,7 @@ pub fn tell_listed(answer: Listed, values: &mut [u64]) -> u64
     match answer {
         Listed::Written(n) => tell_one(0, n, values),
         Listed::NoRoom(needed) => tell_one(4, needed, values),
-        Listed::NotWritten(place) => tell_one(19, place, values),
+        Listed::NoToken(place) => tell_one(19, place, values),
     }
 }
 

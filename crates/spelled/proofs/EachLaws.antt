@@ -190,7 +190,7 @@ module _ {words text old new : List ℕ} {offset to count at : ℕ} (x : Sofar w
 -- ---- the end of the call
 
 module _ {words text old mid : List ℕ} {rows : Rows} (x : PutEach words text old mid rows) where
-  pub each_failed : {k : ℕ} {new : List ℕ} → rows ≡ Rows.Fails k → new ≡ zeros (length mid) → Leaves (written_outcome words text (length old)) old new (Answer.NotWritten k)
+  pub each_failed : {k : ℕ} {new : List ℕ} → rows ≡ Rows.Fails k → new ≡ zeros (length mid) → Leaves (written_outcome words text (length old)) old new (Answer.NoToken k)
   unfolding written_outcome
   each_failed q e = rw (subst (RowsAre words text old mid) q x.rows_are) (record { answer = refl; buffer = e ∙ ap zeros x.long })
 

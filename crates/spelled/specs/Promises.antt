@@ -1,6 +1,6 @@
 -- What write_actions promises: the answer, and every byte of the lent buffer, on every path.
 use Rattle.std.specs.Prelude.{ℕ, List, length}
-use Rattle.listing.specs.Promises.{Outcome, not_written, fitted, Leaves}
+use Rattle.listing.specs.Promises.{Outcome, no_token, fitted, Leaves}
 use Rattle.listing.specs.declared.Answer.{Answer}
 use Rattle.spelled.specs.Spelling.{spell_all}
 use Rattle.spelled.specs.Records.{shown, records_of}
@@ -9,7 +9,7 @@ use Rattle.spelled.specs.Writing.{Verdict, fine, fails, verdict}
 -- xs in a buffer of n bytes, or 19 with the record that fails.
 abbrev pub outcome_by : ℕ → List ℕ → Verdict → Outcome
 outcome_by n xs (fine m) = fitted n xs
-outcome_by n xs (fails k) = not_written k
+outcome_by n xs (fails k) = no_token k
 
 -- What a call comes to, with records, texts and a buffer of n bytes lent: 19 comes before 4.
 unfoldable pub written_outcome : List ℕ → List ℕ → ℕ → Outcome

@@ -138,7 +138,7 @@ pub fn write_actions(words: &[u64], text: &[u8], out: &mut [u8]) -> Answer
     match put_records(words, text, out) {
         Rows::Fails(record) => {
             lent::clear_bytes(out);
-            Answer::NotWritten(record)
+            Answer::NoToken(record)
         }
         Rows::Put(end) => listing::finish(out, end),
     }

@@ -8,5 +8,5 @@ returns-in-Written c = let k = printed_written _ c.requires c.list_any.ensures _
 pub returns-in-NoRoom : goal.returns-in-NoRoom
 returns-in-NoRoom c = absurd (printed_short_never _ c.requires c.list_any.ensures _ c.in-NoRoom.is)
 
-pub returns-in-NotWritten : goal.returns-in-NotWritten
-returns-in-NotWritten c = absurd (printed_strange_never _ c.requires c.list_any.ensures _ c.in-NotWritten.is)
+pub returns-in-NoToken : goal.returns-in-NoToken
+returns-in-NoToken c = absurd (printed_strange_never _ c.requires c.list_any.ensures _ c.in-NoToken.is)

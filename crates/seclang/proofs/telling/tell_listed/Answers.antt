@@ -9,5 +9,5 @@ returns-in-Written c = told_case answer_given c.in-Written.is c.tell_one.ensures
 pub returns-in-NoRoom : goal.returns-in-NoRoom
 returns-in-NoRoom c = told_case answer_given c.in-NoRoom.is c.tell_one-in-NoRoom.ensures
 
-pub returns-in-NotWritten : goal.returns-in-NotWritten
-returns-in-NotWritten c = told_case answer_given c.in-NotWritten.is c.tell_one-in-NotWritten.ensures
+pub returns-in-NoToken : goal.returns-in-NoToken
+returns-in-NoToken c = told_case answer_given c.in-NoToken.is c.tell_one-in-NoToken.ensures
