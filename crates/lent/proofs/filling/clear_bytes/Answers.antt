@@ -1,4 +1,3 @@
-use Prim.Native.Nat.{◌-◌}
 use borrow.Author.Rules.{rules}
 use Rattle.lent.proofs.LoopLaws.{clearing_none, clearing_one, clears}
 use Rattle.lent.proofs.filling.clear_bytes.Goals as goal

@@ -1,4 +1,3 @@
-use Prim.Native.Nat.{◌-◌}
 use native.Mathlib.Omega.{arith}
 use Rattle.lent.proofs.HighLaws.{high_here, high_later, high_end}
 use Rattle.lent.proofs.gating.first_high.Goals as goal

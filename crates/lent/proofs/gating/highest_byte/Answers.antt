@@ -1,5 +1,4 @@
 use mathlib.Core.Logic.{⊎_elim}
-use Prim.Native.Nat.{◌-◌}
 use native.Mathlib.Omega.{arith}
 use Rattle.lent.proofs.HighLaws.{highest_more, highest_end}
 use Rattle.lent.proofs.gating.highest_byte.Goals as goal
