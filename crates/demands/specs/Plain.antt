@@ -24,9 +24,9 @@ pub record TwoLexers : Type 3 where
   pub plain : Keeps PlainTokens.ended (λ M 𝓤. PlainTokens.spec 𝓤) PlainTokens.Symbol.routine Lent (Left Answer) tokens_promise
       (λ _ a. lent a.0.now a.1.0.now a.1.1.0.now) (λ _ r e. left r e.1.0.now e.1.1.0.now)
   -- so over two calls, one of each, with the same lent: the same answer, with its stop place, and the same text and records to the last element
-  pub same : (i : Lent) (by_first by-plain : Left Answer) → tokens_promise i by_first → tokens_promise i by-plain → by_first ≡ by-plain
+  pub same : (i : Lent) (by_first by_plain : Left Answer) → tokens_promise i by_first → tokens_promise i by_plain → by_first ≡ by_plain
   -- and over a call of each C function: the number, the words for values and both buffers
-  pub same_in_c : (i : With Lent) (by_first by-plain : With (Left ℕ)) → lexer_promise i by_first → lexer_promise i by-plain → by_first ≡ by-plain
+  pub same_in_c : (i : With Lent) (by_first by_plain : With (Left ℕ)) → lexer_promise i by_first → lexer_promise i by_plain → by_first ≡ by_plain
   -- over the definitions: the automaton, byte by byte as its table says, reads a text as the first lexer's rules do
   pub same_reading : (s : List ℕ) → plain_reading s ≡ reading s
   -- demand 3 knows of a call nothing but its promise, so that it is about a call of either, also where the whole is read by one and a part by the other
