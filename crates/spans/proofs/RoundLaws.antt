@@ -1,8 +1,8 @@
 -- There and back: a word that is made in the other form gives the same word again.
-use mathlib.Core.Path.{◌≡◌, ◌∙◌, refl}
-use Prim.Native.Nat.{ℕ, ◌/◌, ◌%◌, ◌≤◌, ◌<◌}
+use mathlib.Core.Path.{◌≡◌, ◌∙◌}
+use Prim.Native.Nat.{ℕ, ◌/◌, ◌%◌, ◌≤◌}
 use native.Mathlib.Omega.{arith}
-use Rattle.lent.specs.Sizes.{span_base, span_word, span_offset, span_length}
+use Rattle.lent.specs.Sizes.{span_word, span_offset, span_length}
 use Rattle.lent.proofs.SpanLaws.{span_offset_lem, span_length_lem}
 use Rattle.spans.specs.Conversion.{old_base, old_word, half_most, from_old, to_old}
 use Rattle.spans.specs.declared.converting.Answer.TheVariants.{Word}

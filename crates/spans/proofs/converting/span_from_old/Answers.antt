@@ -1,5 +1,4 @@
 -- Both ways out are laws of the word's halves.
-use borrow.Author.Tests.{not-true, not-false}
 use mathlib.Core.Path.{◌∙◌, sym, ap}
 use native.Mathlib.Omega.{arith}
 use Rattle.lent.specs.Sizes.{span_word}

@@ -1,5 +1,4 @@
 -- Both ways out are laws of the word's halves.
-use borrow.Author.Tests.{not-true, not-false}
 use mathlib.Core.Path.{◌∙◌, sym}
 use native.Mathlib.Omega.{arith}
 use Rattle.spans.specs.Conversion.{old_word}
