@@ -7,13 +7,13 @@ use Rattle.listing.proofs.ElementLaws.{pair_length, comma_length}
 use Rattle.listing.proofs.elements.put_stop.Goals as goal
 
 pub put_bytes-named-requires : goal.put_bytes-named-requires
-put_bytes-named-requires c = omega (arith, c.put_comma-next.ensures.next_is, comma_length c.args)
+put_bytes-named-requires c = omega (arith, c.put_comma-next.ensures.next_is, comma_length c.args.before)
 
 pub put_pair-past-requires : goal.put_pair-past-requires
-put_pair-past-requires c = omega (arith, c.put_comma-next.ensures.next_is, comma_length c.args, c.put_bytes-named.ensures.next_is)
+put_pair-past-requires c = omega (arith, c.put_comma-next.ensures.next_is, comma_length c.args.before, c.put_bytes-named.ensures.next_is)
 
 pub put_byte-requires : goal.put_byte-requires
-put_byte-requires c = omega (arith, c.put_comma-next.ensures.next_is, comma_length c.args, c.put_bytes-named.ensures.next_is, c.put_pair-past.ensures.next_is, pair_length c.in-Early.line.0 c.in-Early.column.0)
+put_byte-requires c = omega (arith, c.put_comma-next.ensures.next_is, comma_length c.args.before, c.put_bytes-named.ensures.next_is, c.put_pair-past.ensures.next_is, pair_length c.in-Early.line.0 c.in-Early.column.0)
 
 pub returns-in-End : goal.returns-in-End
 returns-in-End c = rw c.in-End.is (put_none _ _)

@@ -8,4 +8,4 @@ use Rattle.listing.proofs.numbers.put_number.Goals as goal
 
 pub returns : goal.returns
 unfolding decimal
-returns c = put_rest c.digits_into-first.new.1.0 c.digits_into-first.result (20 - c.digits_into-first.result) _ (omega (arith, c.digits_into-first.auto)) (digits_shown c.digits_into-first.ensures) c.put_bytes.ensures
+returns c = put_rest c.digits_into-first.new.digits c.digits_into-first.result (20 - c.digits_into-first.result) _ (omega arith) (digits_shown c.digits_into-first.ensures) c.put_bytes.ensures

@@ -5,7 +5,7 @@ use Rattle.listing.proofs.PutLaws.{put_set, put_past}
 use Rattle.listing.proofs.putting.put_byte.Goals as goal
 
 pub shape_of-out : goal.shape_of-out
-shape_of-out c = ⊎_elim (λ w. rw w.1 (simp length-set)) (λ w. rw w.1) c.if-at-out.branch-raw
+shape_of-out c = ⊎_elim (λ w. rw w.out-is (simp length-set)) (λ w. rw w.out-is) c.if-at-out.branch-raw
 
 pub returns : goal.returns
-returns c = ⊎_elim (λ w. rw w.1 (put_set _ _ _ w.0.true)) (λ w. rw w.1 (put_past _ _ _ w.0.false)) c.if-at-out.branch-raw
+returns c = ⊎_elim (λ w. rw w.out-is (put_set _ _ _ w.if-at-out.true)) (λ w. rw w.out-is (put_past _ _ _ w.if-at-out.false)) c.if-at-out.branch-raw

@@ -15,4 +15,4 @@ pub returns-in-4 : goal.returns-in-4
 returns-in-4 c = rw c.in-4.is
 
 pub returns-in_default : goal.returns-in_default
-returns-in_default c = let n = c.args.code in simp (ne_eqb n 1 c.in-1.rest.0.0.0.1, ne_eqb n 2 c.in-1.rest.0.0.1, ne_eqb n 3 c.in-1.rest.0.1, ne_eqb n 4 c.in-1.rest.1)
+returns-in_default c = let n = c.args.code in simp (ne_eqb n 1 c.in_default.in_default-own.rest.0.0.0.1, ne_eqb n 2 c.in_default.in_default-own.rest.0.0.1, ne_eqb n 3 c.in_default.in_default-own.rest.0.1, ne_eqb n 4 c.in_default.in_default-own.rest.1)

@@ -14,7 +14,7 @@ pub slice_bounds-put_listing-end : goal.slice_bounds-put_listing-end
 slice_bounds-put_listing-end c = read_within c.tokens.ensures c.in-Read.count c.in-Read.text c.in-Read.place c.in-Read.line c.in-Read.column c.in-Read.is
 
 pub slice_bounds-put_listing-end-in-Read : goal.slice_bounds-put_listing-end-in-Read
-slice_bounds-put_listing-end-in-Read c = sym (length-take-le (c.in-Read.count * 5) c.tokens.new.1.1.0 (read_within c.tokens.ensures c.in-Read.count c.in-Read.text c.in-Read.place c.in-Read.line c.in-Read.column c.in-Read.is))
+slice_bounds-put_listing-end-in-Read c = sym (length-take-le (c.in-Read.count * 5) c.tokens.new.records (read_within c.tokens.ensures c.in-Read.count c.in-Read.text c.in-Read.place c.in-Read.line c.in-Read.column c.in-Read.is))
 
 pub put_byte-end-requires : goal.put_byte-end-requires
 put_byte-end-requires c = c.put_listing-rows.ensures.near

@@ -5,7 +5,7 @@ use Rattle.listing.proofs.ElementLaws.{stop_length}
 use Rattle.listing.proofs.writing.put_listing.Goals as goal
 
 pub put_records-rows-requires : goal.put_records-rows-requires
-put_records-rows-requires c = let whole = (omega (arith, room_fits c.args.records.now, c.least-most.ensures, c.room-whole.ensures), (omega (arith, c.least-most.ensures), omega (arith, c.put_byte-inside.ensures.next_is))) in record { token_words_in_bounds = whole.0; most_le_limit = whole.1.0; from_bound = whole.1.1 }
+put_records-rows-requires c = record { token_words_in_bounds = omega (arith, room_fits c.args.records.now, c.least-most.ensures, c.room-whole.ensures); most_le_limit = omega (arith, c.least-most.ensures); from_bound = omega (arith, c.put_byte-inside.ensures.next_is) }
 
 pub put_stop-past-requires : goal.put_stop-past-requires
 put_stop-past-requires c = omega (arith, c.put_byte-inside.ensures.next_is, c.put_records-rows.ensures.near, c.least-most.ensures)
