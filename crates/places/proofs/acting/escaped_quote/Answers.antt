@@ -1,4 +1,5 @@
 -- Each arm of the match is the test that it stands for.
+use native.Mathlib.Omega.{arith}
 use borrow.Author.Tests.{ne_eqb}
 use Rattle.places.specs.Tables.{quoting_by}
 use Rattle.places.proofs.acting.escaped_quote.Goals as goal
@@ -13,4 +14,4 @@ returns-in-13 c = rw c.in-13.is
 
 pub returns-in_default : goal.returns-in_default
 unfolding quoting_by
-returns-in_default c = let r = c.in-10.rest in rw (ne_eqb _ 10 r.0.1, ne_eqb _ 13 r.1)
+returns-in_default c = rw (ne_eqb c.args.b 10 (omega arith), ne_eqb c.args.b 13 (omega arith))

@@ -1,4 +1,5 @@
 -- The end, LF, CR with what follows it, or another byte.
+use native.Mathlib.Omega.{arith}
 use mathlib.Core.Path.{◌∙◌, sym}
 use Rattle.lexer.proofs.LineEndLaws.{none_past, feed_one, none_other}
 use Rattle.places.proofs.ActLaws.{behind_return_lem}
@@ -14,4 +15,4 @@ pub returns-in-13 : goal.returns-in-13
 returns-in-13 c = let a = c.args in c.feed_next.ensures ∙ sym (behind_return_lem a.s.now a.at c.if-s-at.false c.in-13.is)
 
 pub returns-in_default : goal.returns-in_default
-returns-in_default c = let a = c.args in let r = c.in-10.rest in sym (none_other a.s.now a.at c.if-s-at.false r.0.1 r.1)
+returns-in_default c = let a = c.args in sym (none_other a.s.now a.at c.if-s-at.false (omega arith) (omega arith))

@@ -6,6 +6,7 @@ use lib.ListN.{get_or}
 use Rattle.ascii.specs.Classes.{white}
 use Rattle.places.proofs.ActLaws.{skipped_range, skipped_not}
 use Rattle.places.proofs.acting.margin_join.Goals as goal
+use Rattle.places.proofs.acting.margin_join.Goals.{in_default-via-then-this-lt11, in_default-via-else-this-lt11+else-this-lt14}
 
 pub returns-in-9 : goal.returns-in-9
 unfolding white
@@ -22,6 +23,5 @@ pub returns-in_default : goal.returns-in_default
 returns-in_default c =
     let a = c.args in
     let b = get_or a.s.now a.at 0 in
-    let r = c.in-9.rest in
-    let o : (b < 11) ⊎ (13 < b) = ⊎_elim (λ w. inl w.true) (λ w. inr (omega (arith, w.1.false))) c.if-this-lt11.branch-raw in
-    rw (skipped_not b r.0.1 o r.1) c.plain_join.ensures
+    let o : (b < 11) ⊎ (13 < b) = elim c.in_default.branch [ in_default-via-then-this-lt11 w ↦ inl (omega arith) | in_default-via-else-this-lt11+else-this-lt14 w ↦ inr (omega arith) ] in
+    rw (skipped_not b (omega arith) o (omega arith)) c.plain_join.ensures

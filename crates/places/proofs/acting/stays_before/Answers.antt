@@ -1,5 +1,6 @@
 -- Each arm of the match is the test that it stands for.
 use mathlib.Core.Logic.{⊎_elim, inl, inr}
+use native.Mathlib.Omega.{arith}
 use borrow.Author.Tests.{ne_eqb}
 use Rattle.lexer.specs.Rules.{unescaped}
 use Rattle.places.specs.Tables.{stays}
@@ -21,14 +22,13 @@ pub returns-in_default : goal.returns-in_default
 unfolding stays unescaped
 returns-in_default c =
     let b = c.args.b in
-    let r = c.in-10.rest in
     simp (
-      ne_eqb b 10 (λ e. r.0.0.1 (inl e)),
-      ne_eqb b 13 (λ e. r.0.0.1 (inr e)),
-      ne_eqb b 34 (λ e. r.0.1 (inl e)),
-      ne_eqb b 39 (λ e. r.0.1 (inr (inl e))),
-      ne_eqb b 92 (λ e. r.0.1 (inr (inr e))),
-      ne_eqb b 110 (λ e. r.1 (inl e)),
-      ne_eqb b 114 (λ e. r.1 (inr (inl e))),
-      ne_eqb b 116 (λ e. r.1 (inr (inr e))),
+      ne_eqb b 10 (grind arith),
+      ne_eqb b 13 (grind arith),
+      ne_eqb b 34 (grind arith),
+      ne_eqb b 39 (grind arith),
+      ne_eqb b 92 (grind arith),
+      ne_eqb b 110 (grind arith),
+      ne_eqb b 114 (grind arith),
+      ne_eqb b 116 (grind arith),
     )
