@@ -15,4 +15,4 @@ returns-in-1 c = rw c.in-1.is (c.key_target.ensures ∙ ap key_target (ap bytes_
 
 pub returns-in_default : goal.returns-in_default
 unfolding xml_target
-returns-in_default c = let n = c.args.selection in simp (ne_eqb n 0 c.in-0.rest.0.1, ne_eqb n 1 c.in-0.rest.1)
+returns-in_default c = let n = c.args.selection in simp (ne_eqb n 0 c.in_default.in_default-own.rest.0.1, ne_eqb n 1 c.in_default.in_default-own.rest.1)
