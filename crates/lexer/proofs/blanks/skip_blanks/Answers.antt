@@ -1,8 +1,9 @@
 use mathlib.Core.Path.{◌≡◌, ◌∙◌, sym, refl}
 use Prim.Native.Nat.{◌+◌, ◌-◌, ◌≤◌}
 use native.Mathlib.Omega.{arith}
-use mathlib.Core.List.{◌∷◌}
+use mathlib.Core.List.{[], ◌∷◌}
 use lib.ListN.{length, drop}
+use borrow.Enum.Refused.{opened}
 use Rattle.lexer.specs.Bytes.{Feed, Return, Gap, Upright, Hash, Quote, Slash, Other}
 use Rattle.lexer.specs.Cursors.{cursor}
 use Rattle.lexer.specs.Rules.{before_by, line_end}
@@ -30,7 +31,7 @@ loop-place-preserved-in-Gap c =
     let s = c.args.s.now in
     let l = c.loop-place in
     let d = cursor l.place l.line.0 l.column.0 l.mark in
-    arm (λ k. class_at s l.place ≡ k → Skipping s c.args.c 0 (cursor (l.place + 1) l.line.0 (l.column.0 + 1) l.mark)) (Gap ∷ Return ∷ []) _ c.in-Gap.keys1
+    arm (λ k. class_at s l.place ≡ k → Skipping s c.args.c 0 (cursor (l.place + 1) l.line.0 (l.column.0 + 1) l.mark)) (Gap ∷ Return ∷ []) _ c.in-Gap.in-Gap-own.keys1
     (λ e. skip_gap s _ d l.invariant c.if-s-place.false e, (λ e. skip_return s _ d l.invariant c.if-s-place.false e, tt))
     (sym c.class_of.ensures)
 
@@ -95,6 +96,6 @@ returns-in_default c =
     let d = cursor l.place l.line.0 l.column.0 l.mark in
     let stops = skip_stop s _ d l.invariant c.if-s-place.false in
     let w = c.requires in
-    arm (λ k. class_at s l.place ≡ k → Skipped s c.args.c d) (Feed ∷ Upright ∷ Hash ∷ Quote ∷ Other ∷ []) _ c.in-Gap.keys3
+    arm (λ k. class_at s l.place ≡ k → Skipped s c.args.c d) (Feed ∷ Upright ∷ Hash ∷ Quote ∷ Other ∷ []) _ (opened c.in_default.in_default-own.keys3)
     (λ e. stops Feed e (λ r. refl) w, (λ e. stops Upright e (λ r. refl) w, (λ e. stops Hash e (λ r. refl) w, (λ e. stops Quote e (λ r. refl) w, (λ e. stops Other e (λ r. refl) w, tt)))))
     (sym c.class_of.ensures)

@@ -64,11 +64,11 @@ upright b h k = go (eqb b 11) refl
 pub returns-in-11-to-12 : goal.returns-in-11-to-12
 returns-in-11-to-12 c =
     let b = c.args.b in
-    let n : b ≡ 9 → ⊥ = λ e. c.in-9.rest.0.0.0.0.0.1 (inl e) in
+    let n : b ≡ 9 → ⊥ = λ e. c.in-11-to-12.in_default-own.rest.0.0.0.0.0.1 (inl e) in
     sym (upright b (omega arith) (omega arith))
 
 pub returns-in_default : goal.returns-in_default
-returns-in_default c = other c.args.b (λ e. omega (arith, e)) (λ e. omega (arith, e)) c.in-9.rest
+returns-in_default c = other c.args.b (λ e. omega (arith, e)) (λ e. omega (arith, e)) c.in_default.in_default-own.rest
 
 pub returns-in_default-2 : goal.returns-in_default-2
-returns-in_default-2 c = other c.args.b (λ e. omega (arith, e)) (λ e. omega (arith, e)) c.in-9.rest
+returns-in_default-2 c = other c.args.b (λ e. omega (arith, e)) (λ e. omega (arith, e)) c.in_default.in_default-own.rest

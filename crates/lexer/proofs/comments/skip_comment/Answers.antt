@@ -1,5 +1,5 @@
 use mathlib.Core.Path.{◌≡◌, refl}
-use mathlib.Core.List.{List}
+use mathlib.Core.List.{List, []}
 use Prim.Native.Nat.{ℕ, ◌-◌}
 use borrow.Author.Tests.{ne_eqb}
 use Rattle.lexer.specs.Runs.{closes, takes}

@@ -5,10 +5,10 @@ use lib.ListN.{get_or}
 use Rattle.lexer.specs.Spans.{PlainByte}
 use Rattle.lexer.proofs.QuoteSpanLaws.{copying_none, copying_one, copying_room, copied}
 use Rattle.lexer.proofs.quotes.copy_plain.Goals as goal
-use Rattle.lexer.proofs.quotes.copy_plain.Goals.{Else-b-eq92, Joined-q-lt10}
+use Rattle.lexer.proofs.quotes.copy_plain.Goals.{Else-b-eq92}
 
 -- neither the mark nor a line feed stands above `top`
-topped : (c : Joined-q-lt10) → (c.args.q ≤ c.if-q-lt10.top) × (10 ≤ c.if-q-lt10.top)
+topped : (c : Else-b-eq92) → (c.args.q ≤ c.if-q-lt10.top) × (10 ≤ c.if-q-lt10.top)
 topped c = ⊎_elim (λ w. omega arith) (λ w. omega arith) c.if-q-lt10.branch-raw
 
 -- a byte that passed the tests
@@ -16,8 +16,8 @@ plain : (c : Else-b-eq92) → PlainByte c.args.q (get_or c.args.s.now c.loop-at.
 plain c =
     let h = topped c in
     ⊎_elim
-    (λ w. record { no_mark = w.1.false; no_slash = c.if-b-eq92.false; no_feed = w.2.false })
-    (λ w. record { no_mark = λ e. omega (arith, w.false); no_slash = c.if-b-eq92.false; no_feed = λ e. omega (arith, w.false) })
+    (λ w. record { no_mark = w.if-b-q.false; no_slash = c.if-b-eq92.false; no_feed = w.if-b-eq10.false })
+    (λ w. record { no_mark = λ e. omega (arith, w.if-b-top.false); no_slash = c.if-b-eq92.false; no_feed = λ e. omega (arith, w.if-b-top.false) })
     c.if-b-top.branch-raw
 
 pub loop-at-init : goal.loop-at-init

@@ -32,7 +32,7 @@ pub returns-in_default : goal.returns-in_default
 unfolding quoted unescaped
 returns-in_default c =
     let b = c.args.b in
-    let r = c.in-10.rest in
+    let r = c.in_default.in_default-own.rest in
     simp (
       ne_eqb b 10 r.0.0.0.0.0.1,
       ne_eqb b 13 r.0.0.0.0.1,

@@ -12,5 +12,5 @@ pub returns-in_default : goal.returns-in_default
 unfolding quoted_margin
 returns-in_default c =
     let b = c.args.b in
-    let n = c.in-9.rest.1 in
+    let n = c.in_default.in_default-own.rest.1 in
     simp (ne_eqb b 32 (λ e. n (inr e)), ne_eqb b 9 (λ e. n (inl e))) c.plain_act.ensures

@@ -19,7 +19,7 @@ pub loop-at-preserved : goal.loop-at-preserved
 loop-at-preserved c = every_more c.loop-at.invariant c.loop-at-test.true c.in-9.is
 
 pub returns-in_default : goal.returns-in_default
-returns-in_default c = record { every = c.loop-at.invariant; over = λ k. c.in-9.rest.1 }
+returns-in_default c = record { every = c.loop-at.invariant; over = λ k. c.in_default.in_default-own.rest.1 }
 
 pub returns : goal.returns
 returns c = record { every = c.loop-at.invariant; over = λ k. absurd (omega (arith, c.loop-at-test.false)) }

@@ -14,12 +14,12 @@ pub returns-in-AfterCr : goal.returns-in-AfterCr
 returns-in-AfterCr c = rw c.in-AfterCr.is (refl, refl)
 
 -- the plain bytes start no further back, and inside the text
-begun : (c : Joined-mode) → (c.args.reach.at ≤ c.in-Plain.first) × (c.in-Plain.first ≤ length c.args.s.now)
+begun : (c : Joined-mode) → (c.args.reach.at ≤ c.match-mode.first) × (c.match-mode.first ≤ length c.args.s.now)
 begun c =
     ⊎_elim
-    (λ w. rw w.2 (omega arith, c.requires.at_in_bounds))
-    (λ w. rw w.3 (w.2.ensures.every.forward, w.2.ensures.every.inside))
-    c.in-Plain.branch-raw
+    (λ w. rw w.first-is (omega arith, c.requires.at_in_bounds))
+    (λ w. rw w.first-is (w.margin_end-first.ensures.every.forward, w.margin_end-first.ensures.every.inside))
+    c.match-mode.branch-raw
 
 pub copy_plain-end-requires : goal.copy_plain-end-requires
 copy_plain-end-requires c =
@@ -31,6 +31,6 @@ pub returns : goal.returns
 returns c =
     let p = c.copy_plain-end.ensures in
     ⊎_elim
-    (λ w. rw (w.1.given.1, ← w.2) (record { every = p.every; len_is = refl; mode_is = refl; text_is = p.text_after }))
-    (λ w. rw w.1.given.1 (c.in-Plain.first, rw w.3 w.2.ensures, record { every = p.every; len_is = refl; mode_is = refl; text_is = p.text_after }))
-    c.in-Plain.branch-raw
+    (λ w. rw (w.in-Plain.is, ← w.first-is) (record { every = p.every; len_is = refl; mode_is = refl; text_is = p.text_after }))
+    (λ w. rw w.in-Margin.is (c.match-mode.first, rw w.first-is w.margin_end-first.ensures, record { every = p.every; len_is = refl; mode_is = refl; text_is = p.text_after }))
+    c.match-mode.branch-raw

@@ -2,6 +2,7 @@ use mathlib.Core.Path.{◌∙◌}
 use mathlib.Core.Logic.{⊎_elim}
 use Prim.Native.Nat.{◌+◌, ◌-◌, ◌≤◌}
 use native.Mathlib.Omega.{arith}
+use borrow.Enum.Refused.{opened}
 use Rattle.lexer.proofs.LoopLaws.{counted_few, Counted, counted_flat, counted_feed}
 use Rattle.lexer.proofs.QuoteLaws.{Quoting, quoting_none, quoting_end}
 use Rattle.lexer.proofs.QuoteSpanLaws.{quoting_span}
@@ -11,15 +12,15 @@ use Rattle.lexer.proofs.quotes.read_quoted.Goals.{After-pass_span-reach, Joined-
 
 -- past the span
 spanned : (c : After-pass_span-reach) →
-    let a = c.args in let l = c.loop-at in let r = c.pass_span-reach.result in (l.reach.at ≤ r.at) × Quoting a.q a.s.now a.from a.text.now r.at r.len l.feeds l.last r.mode c.pass_span-reach.new.1.1.1.0
+    let a = c.args in let l = c.loop-at in let r = c.pass_span-reach.result in (l.reach.at ≤ r.at) × Quoting a.q a.s.now a.from a.text.now r.at r.len l.feeds l.last r.mode c.pass_span-reach.new.text
 spanned c = quoting_span c.requires.s_len_bound c.pass_span-reach.result c.loop-at.reach.mode c.loop-at.invariant c.pass_span-reach.ensures
 
 -- the byte behind it is counted
-counted_on : (c : Joined-b-eq10) → let a = c.args in Counted a.s.now a.from (c.pass_span-reach.result.at + 1) c.if-b-eq10.feeds c.if-b-eq10.new
-counted_on c =
-    let x = (spanned c).1.counted in
+counted_on : (c : Joined-b-eq10) → let a = c.args in let r = c.pass_span-reach.result in
+    Counted a.s.now a.from r.at c.loop-at.feeds c.loop-at.last → Counted a.s.now a.from (r.at + 1) c.if-b-eq10.feeds c.if-b-eq10.last
+counted_on c x =
     let k = c.if-s-at.false in
-    ⊎_elim (λ w. rw (w.1, w.2) (counted_feed x k w.0.true)) (λ w. rw (w.1, w.2) (counted_flat x k w.0.false)) c.if-b-eq10.branch-raw
+    ⊎_elim (λ w. rw (w.feeds-is, w.last-is) (counted_feed x k w.if-b-eq10.true)) (λ w. rw (w.feeds-is, w.last-is) (counted_flat x k w.if-b-eq10.false)) c.if-b-eq10.branch-raw
 
 pub loop-at-init : goal.loop-at-init
 loop-at-init c = quoting_none _ _ _ _ c.requires.from_in_bounds
@@ -40,13 +41,13 @@ pub overflow_add-at : goal.overflow_add-at
 overflow_add-at c = omega (arith, c.if-s-at.false)
 
 pub write_act-reach-requires : goal.write_act-reach-requires
-write_act-reach-requires c = acted_room (spanned (goal.at.write_act-reach-requires c).After-pass_span-reach).1 c.if-s-at.false c.requires.s_len_bound (counted_on (goal.at.write_act-reach-requires c).Joined-b-eq10) c.act_of-act.result c.act_of-act.ensures
+write_act-reach-requires c = acted_room (spanned (goal.at.write_act-reach-requires c).After-pass_span-reach).1 c.if-s-at.false c.requires.s_len_bound (counted_on (goal.at.write_act-reach-requires c).Joined-b-eq10 (spanned (goal.at.write_act-reach-requires c).After-pass_span-reach).1.counted) c.act_of-act.result c.act_of-act.ensures
 
 pub loop-at-smaller : goal.loop-at-smaller
-loop-at-smaller c = omega (arith, c.if-s-at.false, (spanned (goal.at.loop-at-smaller c).After-pass_span-reach).0, (acted_on (spanned (goal.at.loop-at-smaller c).After-pass_span-reach).1 c.if-s-at.false c.requires.s_len_bound (counted_on (goal.at.loop-at-smaller c).Joined-b-eq10) c.act_of-act.result c.act_of-act.ensures c.write_act-reach.result c.in-Closes.keys2 c.write_act-reach.ensures).0)
+loop-at-smaller c = omega (arith, c.if-s-at.false, (spanned (goal.at.loop-at-smaller c).After-pass_span-reach).0, (acted_on (spanned (goal.at.loop-at-smaller c).After-pass_span-reach).1 c.if-s-at.false c.requires.s_len_bound (counted_on (goal.at.loop-at-smaller c).Joined-b-eq10 (spanned (goal.at.loop-at-smaller c).After-pass_span-reach).1.counted) c.act_of-act.result c.act_of-act.ensures c.write_act-reach.result (opened c.in_default.in_default-own.keys2) c.write_act-reach.ensures).0)
 
 pub loop-at-preserved : goal.loop-at-preserved
-loop-at-preserved c = (acted_on (spanned (goal.at.loop-at-preserved c).After-pass_span-reach).1 c.if-s-at.false c.requires.s_len_bound (counted_on (goal.at.loop-at-preserved c).Joined-b-eq10) c.act_of-act.result c.act_of-act.ensures c.write_act-reach.result c.in-Closes.keys2 c.write_act-reach.ensures).1
+loop-at-preserved c = (acted_on (spanned (goal.at.loop-at-preserved c).After-pass_span-reach).1 c.if-s-at.false c.requires.s_len_bound (counted_on (goal.at.loop-at-preserved c).Joined-b-eq10 (spanned (goal.at.loop-at-preserved c).After-pass_span-reach).1.counted) c.act_of-act.result c.act_of-act.ensures c.write_act-reach.result (opened c.in_default.in_default-own.keys2) c.write_act-reach.ensures).1
 
 pub shape_of-text-then-s-at : goal.shape_of-text-then-s-at
 shape_of-text-then-s-at c = (spanned (goal.at.shape_of-text-then-s-at c).After-pass_span-reach).1.writing.written.long
@@ -55,7 +56,7 @@ pub returns-then-s-at : goal.returns-then-s-at
 returns-then-s-at c = let whole = quoting_end (spanned (goal.at.returns-then-s-at c).After-pass_span-reach).1 c.if-s-at.true in record { ran = whole.0; wrote = whole.1 }
 
 pub shape_of-text-in-Closes : goal.shape_of-text-in-Closes
-shape_of-text-in-Closes c = c.write_act-reach.auto.1.1.0 ∙ (spanned (goal.at.shape_of-text-in-Closes c).After-pass_span-reach).1.writing.written.long
+shape_of-text-in-Closes c = c.write_act-reach.auto.text ∙ (spanned (goal.at.shape_of-text-in-Closes c).After-pass_span-reach).1.writing.written.long
 
 pub returns-in-Closes : goal.returns-in-Closes
-returns-in-Closes c = let whole = acted_end (spanned (goal.at.returns-in-Closes c).After-pass_span-reach).1 c.if-s-at.false c.requires.s_len_bound (counted_on (goal.at.returns-in-Closes c).Joined-b-eq10) c.act_of-act.result c.act_of-act.ensures c.write_act-reach.result c.in-Closes.is c.write_act-reach.ensures in record { ran = whole.0; wrote = whole.1 }
+returns-in-Closes c = let whole = acted_end (spanned (goal.at.returns-in-Closes c).After-pass_span-reach).1 c.if-s-at.false c.requires.s_len_bound (counted_on (goal.at.returns-in-Closes c).Joined-b-eq10 (spanned (goal.at.returns-in-Closes c).After-pass_span-reach).1.counted) c.act_of-act.result c.act_of-act.ensures c.write_act-reach.result c.in-Closes.is c.write_act-reach.ensures in record { ran = whole.0; wrote = whole.1 }

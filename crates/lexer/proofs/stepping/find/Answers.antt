@@ -1,6 +1,6 @@
 -- By the class of the byte that the token starts with; each arm is one law of FindLaws.
 use mathlib.Core.Path.{◌≡◌, ◌∙◌, sym, refl, ap}
-use mathlib.Core.List.{◌∷◌}
+use mathlib.Core.List.{[], ◌∷◌}
 use lib.Seq.{length-take-le}
 use Prim.Native.Nat.{◌+◌}
 use Rattle.lexer.specs.Bytes.{Class, Return, Gap, Upright, Slash}
@@ -107,4 +107,4 @@ returns-in_default c =
     let e = c.class_of.ensures in
     let b = get_or s d.place 0 in
     found_stop s c.args.c d x k h _ e _ _
-    (arm (λ (q : Class). token_by q b (drop (d.place + 1) s) d ≡ nothing d) (Return ∷ Gap ∷ Upright ∷ Slash ∷ []) c.class_of.result c.in-Feed.keys5 (refl, (refl, (refl, (refl, tt))))) refl
+    (arm (λ (q : Class). token_by q b (drop (d.place + 1) s) d ≡ nothing d) (Return ∷ Gap ∷ Upright ∷ Slash ∷ []) c.class_of.result c.in_default.in_default-own.keys5 (refl, (refl, (refl, (refl, tt))))) refl

@@ -33,10 +33,10 @@ find-requires c = record { within = inside (goal.at.find-requires c).Else-refuse
 
 pub returns-in-Token : goal.returns-in-Token
 returns-in-Token c =
-    subst (λ (r : Found). StepIn c.args.input.now c.args.from c.args.text.now c.find.new.1.1.0 (step_of r)) c.in-Token.is
+    subst (λ (r : Found). StepIn c.args.input.now c.args.from c.args.text.now c.find.new.text (step_of r)) c.in-Token.is
     (step_found c.args.input.now c.args.from c.args.text.now c.if-input-gt-LIMIT.false (fits (goal.at.returns-in-Token c).Else-refuses_cursor) c.if-text-input.false _ _ c.find.ensures)
 
 pub returns-in-Nothing : goal.returns-in-Nothing
 returns-in-Nothing c =
-    subst (λ (r : Found). StepIn c.args.input.now c.args.from c.args.text.now c.find.new.1.1.0 (step_of r)) c.in-Nothing.is
+    subst (λ (r : Found). StepIn c.args.input.now c.args.from c.args.text.now c.find.new.text (step_of r)) c.in-Nothing.is
     (step_found c.args.input.now c.args.from c.args.text.now c.if-input-gt-LIMIT.false (fits (goal.at.returns-in-Nothing c).Else-refuses_cursor) c.if-text-input.false _ _ c.find.ensures)

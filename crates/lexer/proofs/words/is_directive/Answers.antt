@@ -2,7 +2,7 @@
 use mathlib.Core.Path.{◌≡◌, ◌∙◌, refl, sym, ap}
 use mathlib.Core.Logic.{⊎_elim}
 use mathlib.Core.Bool.{true, false}
-use mathlib.Core.List.{List, ◌∷◌}
+use mathlib.Core.List.{List, [], ◌∷◌}
 use Prim.Native.Nat.{ℕ, zero, suc, ◌<◌}
 use native.Mathlib.Omega.{arith}
 use lib.ListN.{length, take}
@@ -42,5 +42,5 @@ pub returns : goal.returns
 unfolding bytes
 returns c =
     let w = c.args.w.now in
-    let e : same_lowered (take 3 w) (bytes "sec") ≡ false = ⊎_elim (λ h. sym h.3.ensures ∙ h.4.false) (λ h. short_word w h.false) c.if-w-ge3.branch-raw in
+    let e : same_lowered (take 3 w) (bytes "sec") ≡ false = ⊎_elim (λ h. sym h.same_lowered.ensures ∙ h.if-same_lowered.false) (λ h. short_word w h.if-w-ge3.false) c.if-w-ge3.branch-raw in
     c.same_lowered-2.ensures ∙ sym (directive_other w e)

@@ -3,6 +3,7 @@
 use Prim.Native.Nat.{◌-◌}
 use lib.ListN.{length}
 use Rattle.lexer.specs.Runs.{text}
+use Rattle.lexer.proofs.WordLaws.{Inv}
 use Rattle.lexer.proofs.words.read_word.Given as goal
 
 abbrev pub invariant-loop-at : goal.invariant-loop-at
