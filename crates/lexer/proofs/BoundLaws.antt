@@ -6,7 +6,7 @@ use native.Mathlib.Omega.{arith}
 use lib.ListN.{length}
 use Rattle.lent.specs.Sizes.{token_words}
 use Rattle.lexer.specs.Cursors.{fresh}
-use Rattle.lexer.specs.Tokens.{tokens, reading}
+use Rattle.lexer.specs.Tokens.{reading}
 use Rattle.lexer.specs.Promises.{answer_given, Tokens}
 use Rattle.lexer.specs.declared.writing.Answer.{Answer}
 use Rattle.lexer.proofs.NextLaws.{shorter}

@@ -14,11 +14,10 @@ use Rattle.lexer.specs.Cursors.{Cursor, cursor}
 use Rattle.lexer.specs.Runs.{Does, takes, Spot, spot, run, text, took}
 use Rattle.lexer.specs.Rules.{before, comment, word, quoted, plain}
 use Rattle.lexer.specs.Places.{feeds, since}
-use Rattle.lexer.specs.Tokens.{Kind, Token, next, token_at, token_by, nothing, made, word_kind, QuotedString, Comment, Newline}
+use Rattle.lexer.specs.Tokens.{Kind, next, token_at, token_by, nothing, made, word_kind, QuotedString, Comment, Newline}
 use Rattle.lexer.specs.Steps.{Within, part, past_bytes, Skipped, Ran, Wrote, Passes, Stepped, Ahead, lexeme_at}
 use Rattle.lexer.specs.declared.moving.Run.{Run}
 use Rattle.lexer.specs.declared.stepping.Found.{Found}
-use Rattle.lexer.specs.declared.stepping.Found.TheVariants as Found
 use Rattle.lexer.proofs.MoveLaws.{moved_at, feed_at, dark_flat}
 use Rattle.lexer.proofs.RunLaws.{run_took, run_place, text_by_lem, took_by}
 use Rattle.lexer.proofs.WithinLaws.{within_past, past_place}

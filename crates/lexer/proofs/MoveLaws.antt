@@ -13,7 +13,7 @@ use borrow.Author.Tests.{ne_eqb}
 use store.Seg.{eqb→≡}
 use Rattle.ascii.specs.Choice.{pick, and}
 use Rattle.ascii.specs.Classes.{white}
-use Rattle.lexer.specs.Cursors.{Cursor, line, column, cursor, fresh, moved, moves}
+use Rattle.lexer.specs.Cursors.{Cursor, cursor, fresh, moved, moves}
 use Rattle.lexer.specs.Places.{feeds, since}
 use Rattle.lexer.specs.Parts.{EndsLf, raise}
 

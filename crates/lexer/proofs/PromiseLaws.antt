@@ -25,7 +25,6 @@ use Rattle.lexer.specs.Tokens as T
 use Rattle.lexer.specs.Promises.{counted, cursor_refused, step_given, step_values, step_text, step_outcome, next_outcome, next_given_by, next_text_by, StepIn, NextToken}
 use Rattle.lexer.specs.Calls.{Counted, Uncounted, nought, above, Fit, Astray, far, off_line, off_column}
 use Rattle.lexer.specs.declared.stepping.Step.{Step}
-use Rattle.lexer.specs.declared.stepping.Step.TheVariants as Step
 use Rattle.lexer.proofs.TestLaws.{either, told_is}
 use Rattle.lexer.proofs.GivenLaws.{step_told}
 

@@ -9,7 +9,6 @@ use Rattle.lexer.specs.Layout.{texts}
 use Rattle.lexer.specs.Promises.{Tokens}
 use Rattle.lexer.specs.Decoding.{decoded}
 use Rattle.lexer.specs.declared.writing.Answer.{Answer}
-use Rattle.lexer.specs.declared.writing.Answer.TheVariants as Answer
 
 -- A line or a column that a cursor may have.
 pub record Counted (n : ℕ) : Type 0 where

@@ -4,7 +4,6 @@ use Rattle.ascii.specs.Choice.{pick, and, bit}
 use Rattle.lent.specs.Sizes.{limit, cursor_most, token_words, room_for, span_word}
 use Rattle.lent.specs.Gates.{gate_of}
 use Rattle.lent.specs.declared.gating.Gate.{Gate}
-use Rattle.lent.specs.declared.gating.Gate.TheVariants as Gate
 use Rattle.lent.specs.Buffers.{stored}
 use Rattle.lent.specs.Endings.{overfull, Finished}
 use Rattle.lent.specs.Table.{Given, given, too_long, not_ascii, short_buffer, no_room, bad_cursor, refused, refused_text, Outcome, refuses, reads, past_gate, Filled, given_by, text_by, records_by}
@@ -14,12 +13,9 @@ use Rattle.lexer.specs.Tokens as T
 use Rattle.lexer.specs.Layout.{kind_code, words_from, texts}
 use Rattle.lexer.specs.declared.stepping.Lexeme.{Lexeme}
 use Rattle.lexer.specs.declared.stepping.Step.{Step}
-use Rattle.lexer.specs.declared.stepping.Step.TheVariants as Step
 use Rattle.lexer.specs.declared.writing.Passed.{Passed}
-use Rattle.lexer.specs.declared.writing.Passed.TheVariants as Passed
 use Rattle.lexer.specs.declared.writing.Tally.{Tally}
 use Rattle.lexer.specs.declared.writing.Answer.{Answer}
-use Rattle.lexer.specs.declared.writing.Answer.TheVariants as Answer
 
 -- ---- one token
 

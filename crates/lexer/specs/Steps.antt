@@ -13,7 +13,6 @@ use Rattle.lexer.specs.Promises.{lexeme, step_text}
 use Rattle.lexer.specs.declared.moving.Run.{Run}
 use Rattle.lexer.specs.declared.stepping.Lexeme.{Lexeme}
 use Rattle.lexer.specs.declared.stepping.Found.{Found}
-use Rattle.lexer.specs.declared.stepping.Found.TheVariants as Found
 use Rattle.lexer.specs.declared.writing.Tally.{Tally}
 use Rattle.lexer.specs.declared.quotes.Mode.{Mode}
 use Rattle.lexer.specs.declared.quotes.Act.{Act}

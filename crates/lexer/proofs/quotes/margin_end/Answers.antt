@@ -1,4 +1,3 @@
-use Prim.Native.Nat.{◌-◌}
 use native.Mathlib.Omega.{arith}
 use Rattle.lexer.proofs.QuoteSpanLaws.{every_none, every_more}
 use Rattle.lexer.proofs.quotes.margin_end.Goals as goal

@@ -2,7 +2,7 @@
 use mathlib.Core.Path.{◌≡◌, ◌∙◌, refl, sym}
 use mathlib.Core.Bool.{Bool, true, false, not}
 use lib.ListN.{length}
-use borrow.Author.Tests.{lt-ltb, le-ltb, not-true, not-false}
+use borrow.Author.Tests.{lt-ltb, le-ltb}
 use Rattle.ascii.specs.Choice.{pick}
 use Rattle.lexer.specs.Promises.{counted}
 use Rattle.lexer.proofs.stepping.refuses_cursor.Goals as goal

@@ -1,18 +1,12 @@
-use mathlib.Core.Path.{◌≡◌, ◌∙◌, refl, sym}
-use mathlib.Core.List.{List, [], ◌∷◌}
-use Prim.Native.Nat.{ℕ, suc, ◌+◌, ◌-◌, ◌≤◌, ◌<◌}
+use mathlib.Core.Path.{◌∙◌, sym}
+use Prim.Native.Nat.{◌+◌, ◌≤◌}
 use native.Mathlib.Omega.{arith}
-use lib.ListN.{length, drop, get_or, set}
+use lib.ListN.{length}
 use borrow.Enum.Refused.{opened}
-use Rattle.lent.proofs.BufferLaws.{written_none}
-use Rattle.lexer.specs.Bytes.{Slash}
-use Rattle.lexer.specs.Runs.{takes, text, took}
-use Rattle.lexer.specs.Rules.{line_end, word}
-use Rattle.lexer.specs.Steps.{Ran, Wrote}
-use Rattle.lexer.specs.declared.moving.Run.{Run}
-use Rattle.lexer.proofs.ClassLaws.{class_at, slash_dark, other_dark, not_feed, word_other, word_lone, word_cut, word_stop}
-use Rattle.lexer.proofs.LineEndLaws.{line_end_fits, Ending, ending, ending_counted, ending_going, ending_writing}
-use Rattle.lexer.proofs.LoopLaws.{Counted, counted_none, counted_flat, Going, going_on, going_stop, going_end, Writing, writing_none, writing_one, text_stop, text_end_lem, ran, wrote}
+use Rattle.lexer.specs.Rules.{word}
+use Rattle.lexer.proofs.ClassLaws.{slash_dark, other_dark, not_feed, word_other, word_lone, word_stop}
+use Rattle.lexer.proofs.LineEndLaws.{line_end_fits}
+use Rattle.lexer.proofs.LoopLaws.{going_stop, going_end, text_stop, text_end_lem}
 use Rattle.lexer.proofs.WordLaws.{begun, kept, cut, ended}
 use Rattle.lexer.proofs.words.read_word.Goals as goal
 use Rattle.lexer.proofs.words.read_word.Goals.{Else-owed-eq0}

@@ -2,7 +2,6 @@
 -- is passed byte by byte, the line end's bytes being owed.
 use Prim.Native.Nat.{◌-◌}
 use lib.ListN.{length}
-use Rattle.lexer.specs.Runs.{text}
 use Rattle.lexer.proofs.WordLaws.{Inv}
 use Rattle.lexer.proofs.words.read_word.Given as goal
 

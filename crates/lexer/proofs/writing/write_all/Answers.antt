@@ -1,4 +1,3 @@
-use Prim.Native.Nat.{◌-◌}
 use native.Mathlib.Omega.{arith}
 use lib.ListN.{length-take, length-drop}
 use Rattle.lexer.proofs.WholeLaws.{begun, turned, turned_narrow, ended, ended_long}
