@@ -11,11 +11,11 @@ pub overflow_sub-len : goal.overflow_sub-len
 overflow_sub-len c = argument_ordered c.args.s.now _ c.find-f.ensures
 
 pub returns-then-not-f : goal.returns-then-not-f
-returns-then-not-f c = record { answer = answer_plain c.args.s.now _ c.find-f.ensures c.if-not-f.true }
+returns-then-not-f c = record { answer = answer_plain c.args.s.now _ c.find-f.ensures (not-true _ c.if-not-f.true) }
 
 -- a name is written
 written : (c : Else-not-f) → c.find-f.result.named ≡ true
-written c = c.if-not-f.false
+written c = not-false _ c.if-not-f.false
 
 pub slice_bounds-operator_code-count : goal.slice_bounds-operator_code-count
 slice_bounds-operator_code-count c = name_ordered c.args.s.now _ c.find-f.ensures (written (goal.at.slice_bounds-operator_code-count c).Else-not-f)
