@@ -1,4 +1,4 @@
--- A whole text, token by token. `tokens-step` hides what `tokens` owes, and `by-tokens` is the induction over a text's tokens;
+-- A whole text, token by token. `tokens_step` hides what `tokens` owes, and `by_tokens` is the induction over a text's tokens;
 -- by it, reading moves with its cursor, and a text that a Newline or a Comment closes is read the same whatever stands behind it.
 use mathlib.Core.Path.{◌≡◌, refl, sym, ap, ◌∙◌, subst}
 use Prim.Native.Nat.{ℕ, zero, suc, ◌+◌, ◌-◌, ◌≤◌, ◌<◌}

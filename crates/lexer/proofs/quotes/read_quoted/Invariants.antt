@@ -1,5 +1,5 @@
 -- The loop keeps `Quoting`: bytes passed and counted, text written, and room for what is still to come.
--- `quoting-span` says that a span keeps it, and `acted-on` and `acted-end` where the act of the byte behind it leads.
+-- `quoting_span` says that a span keeps it, and `acted_on` and `acted_end` where the act of the byte behind it leads.
 use Prim.Native.Nat.{◌-◌}
 use lib.ListN.{length}
 use Rattle.lexer.proofs.QuoteLaws.{Quoting}
