@@ -28,6 +28,7 @@ below_trans (later e p) (parted q) = parted (rw (sym e) at q)
 below_trans (later e p) (later f q) = later (e ∙ f) (below_trans p q)
 
 below_irrefl : (a : List ℕ) → Below a a → ⊥
+below_irrefl [] x = elim x [ ]
 below_irrefl (x ∷ a) (parted p) = lt_irrefl x p
 below_irrefl (x ∷ a) (later e p) = below_irrefl a p
 

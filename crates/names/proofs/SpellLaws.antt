@@ -7,7 +7,6 @@ use native.Mathlib.Nat.{add-zero, min-le_left}
 use native.Mathlib.Omega.{arith}
 use lib.ListN.{length, take, drop, length-take, length-drop, length-map, take-append-drop}
 use lib.Seq.{drop-drop, take-take, take-nil, take_all, length-take-le}
-use Rattle.ascii.specs.Fold.{same}
 use Rattle.ascii.proofs.SameLaws.{same_refl, same_false}
 use Rattle.names.specs.Tables.{casing}
 use Rattle.names.specs.declared.spelling.Words.{Words}

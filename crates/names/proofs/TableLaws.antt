@@ -10,7 +10,7 @@ use Rattle.ascii.specs.Choice.{pick}
 use Rattle.ascii.specs.Fold.{same}
 use Rattle.names.specs.declared.Lookup.{Lookup}
 use Rattle.names.specs.declared.Lookup.TheVariants.{Code, Unknown}
-use Rattle.names.specs.Tables.{Row, row, find, gave, answered, name_at}
+use Rattle.names.specs.Tables.{Row, find, gave, answered, name_at}
 use Rattle.ascii.proofs.SameLaws.{never, and_left, and_right, same_true, same_false}
 
 -- a name that no row has is not found

@@ -8,7 +8,7 @@ use lib.ListN.{length, get_or, take, drop, length-drop, length-map}
 use lib.Seq.{length-take-le}
 use lib.Dec.{eqb, leb}
 use borrow.Author.Tests.{eqb-true, leb-true, ne_eqb}
-use Rattle.ascii.specs.Choice.{pick, and, or}
+use Rattle.ascii.specs.Choice.{pick, or}
 use Rattle.ascii.specs.Text.{bytes}
 use Rattle.ascii.specs.Fold.{same, upper, uppered}
 use Rattle.names.specs.Tables.{Row, find, answered}

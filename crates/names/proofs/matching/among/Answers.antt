@@ -1,5 +1,4 @@
 use mathlib.Core.Path.{◌≡◌, ◌∙◌, refl, sym, ap}
-use Prim.Native.Nat.{◌-◌}
 use native.Mathlib.Omega.{arith}
 use lib.ListN.{length, get_or, take, drop, length-map}
 use Rattle.ascii.specs.Fold.{same, upper, uppered}
@@ -28,12 +27,14 @@ here c =
     part_at s.n s.run.now s.places.now s.codes.now c.requires.fits.fit c.loop-k.k (omega arith)
 
 pub bounds-places-k : goal.bounds-places-k
-bounds-places-k c = (here (goal.at.bounds-places-k c).After-shared_slice_known-in-loop-k-1).placed
+bounds-places-k c =
+    let s = c.args in
+    (part_at s.n s.run.now s.places.now s.codes.now c.requires.fits.fit c.loop-k.k (omega arith)).placed
 
 pub spells-requires : goal.spells-requires
 spells-requires c =
     let s = c.args in
-    record { here = (here (goal.at.spells-requires c).After-shared_slice_known-in-loop-k-1).ranges; some = parts_width s.n (length s.run.now) s.places.now s.codes.now c.requires.fits.fit }
+    record { here = (here (goal.at.spells-requires c).After-shared_slice_known-in-loop-k-1).fits; some = parts_width s.n (length s.run.now) s.places.now s.codes.now c.requires.fits.fit }
 
 -- what it found
 told : (c : After-spells) → c.spells.result ≡ same (take c.args.n (drop (get_or c.args.places.now c.loop-k.k 0) c.args.run.now)) (uppered c.args.name.now)

@@ -1,5 +1,6 @@
+use mathlib.Core.List.{[]}
 use mathlib.Core.Path.{◌≡◌, ◌∙◌, refl, sym, ap}
-use Prim.Native.Nat.{◌-◌, ◌<◌}
+use Prim.Native.Nat.{◌<◌}
 use native.Mathlib.Omega.{arith}
 use lib.ListN.{length, get_or, take, length-map}
 use Rattle.ascii.specs.Fold.{same, lower, lowered}
@@ -41,7 +42,7 @@ pub spells-requires : goal.spells-requires
 spells-requires c =
     let s = c.args in
     let w = fronts_width s.n (length s.rows.now) s.listed.now c.requires.fits.fit in
-    record { here = omega (arith, c.spells-arg2.given, w.1); some = (w.0, omega (arith, w.1)) }
+    record { here = omega (arith, c.spells-arg-1.given, w.1); some = (w.0, omega (arith, w.1)) }
 
 -- what it found
 told : (c : After-spells) → c.spells.result ≡ same (take c.args.n (get_or c.args.rows.now (get_or c.args.listed.now c.loop-k.k 0) [])) (lowered c.args.name.now)
