@@ -19,8 +19,8 @@ pub loop-at-preserved : goal.loop-at-preserved
 loop-at-preserved c =
     let f = sym c.is_fine.ensures ∙ c.if-not-is_fine.false in
     ⊎_elim
-    (λ w. rw w.2 (turned_id c.loop-at.invariant c.loop-at-test.true f w.0.true w.1.false))
-    (λ w. rw w.1 (turned_other c.loop-at.invariant c.loop-at-test.true f w.0.false))
+    (λ w. rw w.named-is (turned_id c.loop-at.invariant c.loop-at-test.true f w.if-code-eq-ID.true w.if-named.false))
+    (λ w. rw w.named-is (turned_other c.loop-at.invariant c.loop-at-test.true f w.if-code-eq-ID.false))
     c.if-code-eq-ID.branch-raw
 
 pub returns : goal.returns
