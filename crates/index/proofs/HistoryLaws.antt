@@ -141,10 +141,10 @@ unfolding standing entered
 ran_kept {n} {rs} x e done = let w = without_none (removed_in []) gone_none rs in record { slice = rw w e; held = rw w x }
 ran_kept {n} {rs} x e (added {actions} {line} {old} {new} {r = r} a q) =
     let s = by_name x (rw e at a) (name_of (entries actions)) refl in
-    further s (ran_kept s.held s.left q)
+    further s (ran_kept {rs = s.next} s.held s.left q)
 ran_kept {n} {rs} x e (took {selector} {old} {new} {r = r} a q) =
     let s = removing x (rw e at a) in
-    further s (ran_kept s.held s.left q)
+    further s (ran_kept {rs = s.next} s.held s.left q)
 
 -- ---- from an index of zeros
 

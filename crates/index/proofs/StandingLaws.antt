@@ -144,7 +144,7 @@ same_lists m n (x ∷ xs) (y ∷ ys) f g e =
         let a = ltb-false x.id y.id k in
         let b = ltb-false y.id x.id l in
         let q : x.id ≡ y.id = omega arith in
-        let p : Number x.line ≡ Number y.line = sym (line_here x xs) ∙ e x.id ∙ rw q (line_here y ys) in
+        let p : Number x.line ≡ Number y.line = sym (line_here x xs) ∙ e x.id ∙ ap (λ (i : ℕ). line_of i (y ∷ ys)) q ∙ line_here y ys in
         let r : x.line ≡ y.line = cc in
         let s : x ≡ y = ap₂ (λ (i j : ℕ). record { id = i; line = j }) q r in
         ap₂ (λ (z : Rule) (zs : List Rule). z ∷ zs) s (ih (λ id. tails q id (eqb x.id id) refl))
