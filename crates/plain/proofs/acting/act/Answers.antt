@@ -12,7 +12,7 @@ pub feed-fed-requires : goal.feed-fed-requires
 feed-fed-requires c = can_feed c.requires _ _ c.keep-kept.ensures _ _ _ _ c.end-ended.ensures
 
 pub shape_of-text : goal.shape_of-text
-shape_of-text c = c.keep-kept.auto.1.1.0
+shape_of-text c = c.keep-kept.auto.text
 
 pub returns : goal.returns
 returns c =

@@ -19,4 +19,4 @@ pub returns : goal.returns
 returns c = rw c.copy.ensures (record { text₁ = _; begun = _; acted = c.act-begun.ensures; joined_is = c.join.ensures })
 
 pub shape_of-text : goal.shape_of-text
-shape_of-text c = c.join.auto.1.1.1.0 ∙ c.act-begun.auto.1.1.1.1.0
+shape_of-text c = c.join.auto.text ∙ c.act-begun.auto.text

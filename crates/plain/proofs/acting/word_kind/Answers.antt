@@ -1,16 +1,15 @@
 -- By the mark, and by whether the word names a directive.
-use borrow.Author.Tests.{not-true, not-false}
 use Rattle.lexer.specs.Tokens.{word_kind}
 use Rattle.plain.proofs.acting.word_kind.Goals as goal
 
 pub returns-then-not-mark : goal.returns-then-not-mark
 unfolding word_kind
-returns-then-not-mark c = rw (not-true c.args.mark c.if-not-mark.true)
+returns-then-not-mark c = rw c.if-not-mark.true
 
 pub returns-then-is_directive : goal.returns-then-is_directive
 unfolding word_kind
-returns-then-is_directive c = rw (not-false c.args.mark c.if-not-mark.false, ← c.is_directive.ensures, c.if-is_directive.true)
+returns-then-is_directive c = rw (c.if-not-mark.false, ← c.is_directive.ensures, c.if-is_directive.true)
 
 pub returns : goal.returns
 unfolding word_kind
-returns c = rw (not-false c.args.mark c.if-not-mark.false, ← c.is_directive.ensures, c.if-is_directive.false)
+returns c = rw (c.if-not-mark.false, ← c.is_directive.ensures, c.if-is_directive.false)

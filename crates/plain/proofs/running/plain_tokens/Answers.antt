@@ -9,4 +9,4 @@ pub returns-in-Refused : goal.returns-in-Refused
 returns-in-Refused c = all_refused c.args.input.now c.args.text.now c.args.records.now c.pass_gate.ensures _ c.in-Refused.is
 
 pub returns-in-Open : goal.returns-in-Open
-returns-in-Open c = all_ended c.args.input.now c.args.text.now c.args.records.now c.pass_gate.ensures c.in-Open.is c.run-read.ensures c.run-read.auto.1.0 c.end_reading.ensures
+returns-in-Open c = all_ended c.args.input.now c.args.text.now c.args.records.now c.pass_gate.ensures c.in-Open.is c.run-read.ensures c.run-read.auto.text c.end_reading.ensures

@@ -20,10 +20,10 @@ pub step-held-requires : goal.step-held-requires
 step-held-requires c = ready c.loop-here.invariant c.loop-here-test.true _ _ refl (λ q e. c.cell_of-x.ensures q _ e c.column_of-class.ensures)
 
 pub shape_of-text-then-x-ge-HALT : goal.shape_of-text-then-x-ge-HALT
-shape_of-text-then-x-ge-HALT c = c.step-held.auto.1.1.1.1.1.0 ∙ c.loop-here.invariant.stored.written.long
+shape_of-text-then-x-ge-HALT c = c.step-held.auto.text ∙ c.loop-here.invariant.stored.written.long
 
 pub shape_of-records-then-x-ge-HALT : goal.shape_of-records-then-x-ge-HALT
-shape_of-records-then-x-ge-HALT c = c.step-held.auto.1.1.1.1.1.1.0 ∙ c.loop-here.invariant.stored.long
+shape_of-records-then-x-ge-HALT c = c.step-held.auto.records ∙ c.loop-here.invariant.stored.long
 
 pub returns-then-x-ge-HALT : goal.returns-then-x-ge-HALT
 returns-then-x-ge-HALT c = rw c.tally.ensures (halted c.loop-here.invariant c.loop-here-test.true _ _ refl (λ q e. c.cell_of-x.ensures q _ e c.column_of-class.ensures) c.step-held.ensures c.if-x-ge-HALT.true)
@@ -44,10 +44,10 @@ pub act-held-requires : goal.act-held-requires
 act-held-requires c = ready_over c.loop-here.invariant c.loop-here-test.false _ (λ q e. c.cell_of-x-2.ensures q over e refl)
 
 pub shape_of-text : goal.shape_of-text
-shape_of-text c = c.act-held.auto.1.1.1.1.0 ∙ c.loop-here.invariant.stored.written.long
+shape_of-text c = c.act-held.auto.text ∙ c.loop-here.invariant.stored.written.long
 
 pub shape_of-records : goal.shape_of-records
-shape_of-records c = c.act-held.auto.1.1.1.1.1.0 ∙ c.loop-here.invariant.stored.long
+shape_of-records c = c.act-held.auto.records ∙ c.loop-here.invariant.stored.long
 
 pub returns : goal.returns
 returns c = rw c.tally-2.ensures (ended c.loop-here.invariant c.loop-here-test.false _ (λ q e. c.cell_of-x-2.ensures q over e refl) c.act-held.ensures)
