@@ -92,20 +92,20 @@ module _ {M : Type 1} {𝓤 : Ura M} (𝓛 : Logic 𝓤) where
     reader_typed d is = ((LL.lawful (ReaderD κ) (ReaderL κ) 𝓛).typed d _ is).0
 
     -- a reader is Copy: what its text owns is had beside what it owns itself
-    pub text_out : (d : Reader) → ent 𝓤 (sem 𝓛 ((ReaderT κ).own d (T'.lowered d ∷ []))) (sep 𝓤 (sem 𝓛 ((TextT κ).own d.text (slice d.text ∷ []))) (sem 𝓛 ((ReaderT κ).own d (T'.lowered d ∷ []))))
+    pub text_out : (d : Reader) → ent 𝓤 (sem 𝓛 ((ReaderT κ).own_val d (T'.lowered d ∷ []))) (sep 𝓤 (sem 𝓛 ((TextT κ).own_val d.text (slice d.text ∷ []))) (sem 𝓛 ((ReaderT κ).own_val d (T'.lowered d ∷ []))))
     text_out d =
         let D : Declared = ReaderD κ in
         let L : LL.Laws D = ReaderL κ in
-        let Own : Fml = (ReaderT κ).own d (T'.lowered d ∷ []) in
+        let Own : Fml = (ReaderT κ).own_val d (T'.lowered d ∷ []) in
         let vd : Values D.parts = (d.text, (d.cursor, tt)) in
         qed 𝓛 (‵ Own ∷ []) ∵ use1 𝓛 (‵ Own ⊛ ‵ Own) ((LL.copy D (T'.the_copy (first κ)) 𝓛).twice d (T'.lowered d ∷ [])) $ split ! $
         use1 𝓛 (given (T'.lowered d ∷ [] ≡ T'.lowered d ∷ []) (‵ (all_own D.parts L vd))) (own_open 𝓛 D L vd (T'.lowered d)) $ learn ! (λ _.
         use1 𝓛 (‵ (field_own D.parts L 0 d.text) ⊛ ‵ (rest D.parts L 0 vd)) (own_out 𝓛 D.parts L 0 vd) $ split ! $ move ! (1 ∷ []) $ drop ! $ frame ! $ done !)
 
     -- what a text owns, with a cursor's facts, is what the reader of both owns
-    pub put_in : (d : Reader) → IsCursor d.cursor → ent 𝓤 (sem 𝓛 ((TextT κ).own d.text (slice d.text ∷ []))) (sem 𝓛 ((ReaderT κ).own d (T'.lowered d ∷ [])))
+    pub put_in : (d : Reader) → IsCursor d.cursor → ent 𝓤 (sem 𝓛 ((TextT κ).own_val d.text (slice d.text ∷ []))) (sem 𝓛 ((ReaderT κ).own_val d (T'.lowered d ∷ [])))
     put_in d is =
-        qed 𝓛 (‵ ((TextT κ).own d.text (slice d.text ∷ [])) ∷ []) ∵ nothing ! $ owned ! Cur.the_row (Is Cur.the_row) cursor_made d.cursor _ is $ fjoin ! $ move ! (1 ∷ 0 ∷ []) $ fjoin ! $
+        qed 𝓛 (‵ ((TextT κ).own_val d.text (slice d.text ∷ [])) ∷ []) ∵ nothing ! $ owned ! Cur.the_row (Is Cur.the_row) cursor_made d.cursor _ is $ fjoin ! $ move ! (1 ∷ 0 ∷ []) $ fjoin ! $
         by ! (own_shut 𝓛 (ReaderD κ) (ReaderL κ) (d.text, (d.cursor, tt)))
 
   -- a walk from what the types own at entry, with what the contract requires let go, meets the contract
