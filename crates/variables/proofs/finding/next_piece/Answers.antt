@@ -15,47 +15,23 @@ slice_bounds-trimmed-end c = omega (arith, bar_fits c.args.s.now c.loop-at.at _ 
 
 pub overflow_add-result : goal.overflow_add-result
 overflow_add-result c =
-    let at-trimmed = c in
-    let at-first-of = at-trimmed.before.before in
-    let at-loop-test = at-first-of.before.before in
-    let at-loop = at-loop-test.before in
-    let start = at-loop.before.before in
-    omega (arith, bar_fits start.args.s.now at-loop.loop.at _ at-loop-test.loop-test.true at-first-of.first_of_lem.ensures, trim_first start.args.s.now at-loop.loop.at _ at-loop-test.loop-test.true at-first-of.first_of_lem.ensures _ at-trimmed.trimmed.ensures)
+    omega (arith, bar_fits c.args.s.now c.loop-at.at _ c.loop-at-test.true c.first_of.ensures, trim_first c.args.s.now c.loop-at.at _ c.loop-at-test.true c.first_of.ensures _ c.trimmed-part.ensures)
 
 pub overflow_add-result-then-part : goal.overflow_add-result-then-part
 overflow_add-result-then-part c =
-    let at-trimmed = c in
-    let at-first-of = at-trimmed.before.before in
-    let at-loop-test = at-first-of.before.before in
-    let at-loop = at-loop-test.before in
-    let start = at-loop.before.before in
-    omega (arith, bar_fits start.args.s.now at-loop.loop.at _ at-loop-test.loop-test.true at-first-of.first_of_lem.ensures, trim_fits start.args.s.now at-loop.loop.at _ at-loop-test.loop-test.true at-first-of.first_of_lem.ensures _ at-trimmed.trimmed.ensures)
+    omega (arith, bar_fits c.args.s.now c.loop-at.at _ c.loop-at-test.true c.first_of.ensures, trim_fits c.args.s.now c.loop-at.at _ c.loop-at-test.true c.first_of.ensures _ c.trimmed-part.ensures)
 
 pub overflow_add-result-then-part-2 : goal.overflow_add-result-then-part-2
 overflow_add-result-then-part-2 c =
-    let at-first-of = c in
-    let at-loop-test = at-first-of.before.before in
-    let at-loop = at-loop-test.before in
-    let start = at-loop.before.before in
-    omega (arith, bar_fits start.args.s.now at-loop.loop.at _ at-loop-test.loop-test.true at-first-of.first_of_lem.ensures)
+    omega (arith, bar_fits c.args.s.now c.loop-at.at _ c.loop-at-test.true c.first_of.ensures)
 
 pub returns-then-part : goal.returns-then-part
 returns-then-part c =
-    let at-if1 = c in
-    let at-trimmed = at-if1.before.before in
-    let at-first-of = at-trimmed.before.before in
-    let at-loop-test = at-first-of.before.before in
-    let at-loop = at-loop-test.before in
-    let start = at-loop.before.before in
-    next_from at-loop.loop.invariant.0 at-loop.loop.invariant.1 (piece_found start.args.s.now at-loop.loop.at _ at-loop-test.loop-test.true at-first-of.first_of_lem.ensures _ at-trimmed.trimmed.ensures at-if1.if1.true)
+    next_from c.loop-at.invariant.0 c.loop-at.invariant.1 (piece_found c.args.s.now c.loop-at.at _ c.loop-at-test.true c.first_of.ensures _ c.trimmed-part.ensures c.if-part.true)
 
 pub overflow_add-at : goal.overflow_add-at
 overflow_add-at c =
-    let at-first-of = c in
-    let at-loop-test = at-first-of.before.before in
-    let at-loop = at-loop-test.before in
-    let start = at-loop.before.before in
-    omega (arith, bar_fits start.args.s.now at-loop.loop.at _ at-loop-test.loop-test.true at-first-of.first_of_lem.ensures)
+    omega (arith, bar_fits c.args.s.now c.loop-at.at _ c.loop-at-test.true c.first_of.ensures)
 
 pub loop-at-preserved : goal.loop-at-preserved
 loop-at-preserved c = (omega arith, part_empty c.args.s.now c.loop-at.at _ c.loop-at-test.true c.first_of.ensures _ c.trimmed-part.ensures c.if-part.false ∙ c.loop-at.invariant.1)

@@ -5,6 +5,4 @@ use Rattle.variables.proofs.parsing.parse_variables.Goals as goal
 
 pub returns : goal.returns
 returns c =
-    let at-parse = c in
-    let start = at-parse.before.before.before.before.before.before in
-    rw (as_variables start.args.input.now (length start.args.text.now) (length start.args.records.now)) at-parse.parse.ensures
+    rw (as_variables c.args.input.now (length c.args.text.now) (length c.args.records.now)) c.parse.ensures

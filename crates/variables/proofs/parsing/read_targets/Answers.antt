@@ -29,8 +29,7 @@ overflow_sub-result c = let x = (rw c.in-Unknown.is at c.scan.ensures) in x.orde
 pub returns-in-Unknown : goal.returns-in-Unknown
 returns-in-Unknown c =
     let a = c.args in
-    let at-scan = c in
-    core_unknown a.exclusions a.s.now a.offset a.place a.text.now a.records.now (sym c.starts.ensures ∙ c.if-starts.true) (rw c.in-Unknown.is at at-scan.scan.ensures) at-scan.scan.new.1.1.0 at-scan.scan.new.1.1.1.1.0 at-scan.scan.auto.1.1.0 at-scan.scan.auto.1.1.1.1.0 c.refuse_piece.ensures.0 c.refuse_piece.ensures.1
+    core_unknown a.exclusions a.s.now a.offset a.place a.text.now a.records.now (sym c.starts.ensures ∙ c.if-starts.true) (rw c.in-Unknown.is at c.scan.ensures) c.scan.new.text c.scan.new.records c.scan.auto.text c.scan.auto.records c.refuse_piece.ensures.0 c.refuse_piece.ensures.1
 
 pub overflow_add-place : goal.overflow_add-place
 overflow_add-place c =
@@ -43,7 +42,12 @@ pub add_exclusions-past-requires : goal.add_exclusions-past-requires
 add_exclusions-past-requires c =
     let a = c.args in
     let b = (starts_is (length a.s.now) (length a.text.now) a.offset a.place).0 (sym c.starts.ensures ∙ c.if-starts.true) in
-    let x = (rw c.in-Targets.is at c.scan.ensures) in let whole = (b.within, ((omega (arith, used_fits x, b.offset_low, b.within), omega (arith, x.few, b.count_low)), all_or_none a.exclusions _ _ _ (excluded_of (pieces a.s.now)) c.kept-kept.ensures x.excluded_are)) in record { s_len_bound = whole.0; offset_bound = whole.1.0; all_or_none = whole.1.1 }
+    let x = (rw c.in-Targets.is at c.scan.ensures) in
+    record {
+      s_len_bound = b.within;
+      offset_bound = (omega (arith, used_fits x, b.offset_low, b.within), omega (arith, x.few, b.count_low));
+      all_or_none = all_or_none a.exclusions _ _ _ (excluded_of (pieces a.s.now)) c.kept-kept.ensures x.excluded_are;
+    }
 
 pub overflow_add-result : goal.overflow_add-result
 overflow_add-result c =

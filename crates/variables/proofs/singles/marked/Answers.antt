@@ -15,16 +15,8 @@ returns-in-AsWritten c = rw c.in-AsWritten.is (marked_written c.args.p.now c.req
 
 pub returns-in-Code : goal.returns-in-Code
 returns-in-Code c =
-    let at-variable-code = c in
-    let at-first-of = at-variable-code.before.before in
-    let at-enum-told2 = at-first-of.before.before in
-    let start = at-enum-told2.before.before.before in
-    rw at-enum-told2.enum-told2.given.1 (marked_known start.args.p.now start.requires.0 start.requires.1 _ at-first-of.first_of_lem.ensures _ at-variable-code.variable_code_lem.ensures _ c.in-Code.is)
+    rw c.in-LookedUp.is (marked_known c.args.p.now c.requires.p_nonzero c.requires.p_value _ c.first_of-end.ensures _ c.variable_code.ensures _ c.in-Code.is)
 
 pub returns-in-Unknown : goal.returns-in-Unknown
 returns-in-Unknown c =
-    let at-variable-code = c in
-    let at-first-of = at-variable-code.before.before in
-    let at-enum-told2 = at-first-of.before.before in
-    let start = at-enum-told2.before.before.before in
-    rw at-enum-told2.enum-told2.given.1 (marked_unknown start.args.p.now start.requires.0 start.requires.1 _ at-first-of.first_of_lem.ensures _ at-variable-code.variable_code_lem.ensures c.in-Unknown.is)
+    rw c.in-LookedUp.is (marked_unknown c.args.p.now c.requires.p_nonzero c.requires.p_value _ c.first_of-end.ensures _ c.variable_code.ensures c.in-Unknown.is)

@@ -11,21 +11,12 @@ slice_bounds-variable_code-end c = colon_fits c.args.p.now c.args.first _ c.args
 
 pub selection_at-c-requires : goal.selection_at-c-requires
 selection_at-c-requires c =
-    let at-first-of = c in
-    let start = at-first-of.before.before.before in
-    record { p_nonzero = start.requires.0; colon_in_bounds = colon_fits start.args.p.now start.args.first _ start.args.counts start.requires.1 at-first-of.first_of_lem.ensures }
+    record { p_nonzero = c.requires.p_nonzero; colon_in_bounds = colon_fits c.args.p.now c.args.first _ c.args.counts c.requires.first_in_bounds c.first_of.ensures }
 
 pub returns-in-Unknown : goal.returns-in-Unknown
 returns-in-Unknown c =
-    let at-variable-code = c in
-    let at-first-of = at-variable-code.before.before in
-    let start = at-first-of.before.before.before in
-    named_unknown start.args.p.now start.args.first _ start.args.counts start.requires.1 at-first-of.first_of_lem.ensures _ at-variable-code.variable_code_lem.ensures c.in-Unknown.is
+    named_unknown c.args.p.now c.args.first _ c.args.counts c.requires.first_in_bounds c.first_of.ensures _ c.variable_code.ensures c.in-Unknown.is
 
 pub returns-in-Code : goal.returns-in-Code
 returns-in-Code c =
-    let at_code = c in
-    let at-variable-code = at_code in
-    let at-first-of = at-variable-code.before.before in
-    let start = at-first-of.before.before.before in
-    named_code start.args.p.now start.args.first _ start.args.counts start.requires.1 at-first-of.first_of_lem.ensures _ at-variable-code.variable_code_lem.ensures _ at_code.in-Code.is _ c.selection_at-c.ensures
+    named_code c.args.p.now c.args.first _ c.args.counts c.requires.first_in_bounds c.first_of.ensures _ c.variable_code.ensures _ c.in-Code.is _ c.selection_at-c.ensures

@@ -11,14 +11,8 @@ returns-then-b-eq33 c = c.marked.ensures
 
 pub returns-then-b-eq38 : goal.returns-then-b-eq38
 returns-then-b-eq38 c =
-    let at-if2 = c in
-    let at-if1 = at-if2.before in
-    let start = at-if1.before.before.before in
-    pieced_counts (excluding_of start.args.exclusions) start.args.p.now start.requires at-if1.if1.false at-if2.if2.true c.named.result c.named.ensures
+    pieced_counts (excluding_of c.args.exclusions) c.args.p.now c.requires c.if-b-eq33.false c.if-b-eq38.true c.named.result c.named.ensures
 
 pub returns : goal.returns
 returns c =
-    let at-if2 = c in
-    let at-if1 = at-if2.before in
-    let start = at-if1.before.before.before in
-    pieced_plain (excluding_of start.args.exclusions) start.args.p.now start.requires at-if1.if1.false at-if2.if2.false c.named-2.result c.named-2.ensures
+    pieced_plain (excluding_of c.args.exclusions) c.args.p.now c.requires c.if-b-eq33.false c.if-b-eq38.false c.named-2.result c.named-2.ensures

@@ -43,56 +43,38 @@ slice_bounds-put-end c = let p = (rw c.in-Piece.is at c.next_piece.ensures) in o
 
 pub put-requires : goal.put-requires
 put-requires c =
-    let at_first = c in
-    let at-next-piece = at_first in
-    let at-loop = at-next-piece.before.before in
-    let start = at-loop.before.before.before.before in
-    let p = (rw at_first.in-Piece.is at at-next-piece.next-piece.ensures) in let whole = (add_narrow at-loop.loop.invariant.0 _ _ _ p start.requires.0 start.requires.1.0.0, ((omega (arith, piece_long at-loop.loop.invariant.0 _ _ _ p), omega (arith, at-loop.loop.invariant.0.count_low, p.begun, p.some, p.before, p.inside, start.requires.0, start.requires.1.0)), (omega (arith, start.requires.0, p.begun, p.some, p.before, p.inside), omega (arith, start.requires.0, piece_long at-loop.loop.invariant.0 _ _ _ p, p.before, p.inside)))) in record { narrow = whole.0; past_in_bounds = whole.1.0; at_le_limit = whole.1.1 }
+    let p = (rw c.in-Piece.is at c.next_piece.ensures) in
+    record {
+      narrow = add_narrow c.loop-count.invariant.0 _ _ _ p c.requires.s_len_bound c.requires.offset_bound.0;
+      past_in_bounds = (omega (arith, piece_long c.loop-count.invariant.0 _ _ _ p), omega (arith, c.loop-count.invariant.0.count_low, p.begun, p.some, p.before, p.inside, c.requires.s_len_bound, c.requires.offset_bound));
+      at_le_limit = (omega (arith, c.requires.s_len_bound, p.begun, p.some, p.before, p.inside), omega (arith, c.requires.s_len_bound, piece_long c.loop-count.invariant.0 _ _ _ p, p.before, p.inside));
+    }
 
 pub overflow_sub-used : goal.overflow_sub-used
 overflow_sub-used c =
-    let at_first = c in
-    let at-next-piece = at_first in
-    let p = (rw at_first.in-Piece.is at at-next-piece.next-piece.ensures) in omega (arith, p.some)
+    let p = (rw c.in-Piece.is at c.next_piece.ensures) in omega (arith, p.some)
 
 pub overflow_sub-used-then-s-first-eq33 : goal.overflow_sub-used-then-s-first-eq33
 overflow_sub-used-then-s-first-eq33 c =
-    let at_first = c in
-    let at-next-piece = at_first in
-    let p = (rw at_first.in-Piece.is at at-next-piece.next-piece.ensures) in omega (arith, p.some)
+    let p = (rw c.in-Piece.is at c.next_piece.ensures) in omega (arith, p.some)
 
 pub overflow_add-used : goal.overflow_add-used
 overflow_add-used c =
-    let at_first = c in
-    let at-next-piece = at_first in
-    let at-loop = at-next-piece.before.before in
-    let start = at-loop.before.before.before.before in
-    let p = (rw at_first.in-Piece.is at at-next-piece.next-piece.ensures) in omega (arith, at-loop.loop.invariant.0.used_Low, p.begun, p.some, p.before, p.inside, start.requires.0, start.requires.1.0)
+    let p = (rw c.in-Piece.is at c.next_piece.ensures) in omega (arith, c.loop-count.invariant.0.used_low, p.begun, p.some, p.before, p.inside, c.requires.s_len_bound, c.requires.offset_bound)
 
 pub overflow_add-count : goal.overflow_add-count
 overflow_add-count c =
-    let at_first = c in
-    let at-next-piece = at_first in
-    let at-loop = at-next-piece.before.before in
-    let start = at-loop.before.before.before.before in
-    let p = (rw at_first.in-Piece.is at at-next-piece.next-piece.ensures) in omega (arith, at-loop.loop.invariant.0.count_low, p.begun, p.some, p.before, p.inside, start.requires.0, start.requires.1.0)
+    let p = (rw c.in-Piece.is at c.next_piece.ensures) in omega (arith, c.loop-count.invariant.0.count_low, p.begun, p.some, p.before, p.inside, c.requires.s_len_bound, c.requires.offset_bound)
 
 pub loop-count-smaller-then-s-first-eq33 : goal.loop-count-smaller-then-s-first-eq33
 loop-count-smaller-then-s-first-eq33 c =
-    let at_first = c in
-    let at-next-piece = at_first in
-    let p = (rw at_first.in-Piece.is at at-next-piece.next-piece.ensures) in omega (arith, p.begun, p.some, p.before, p.inside)
+    let p = (rw c.in-Piece.is at c.next_piece.ensures) in omega (arith, p.begun, p.some, p.before, p.inside)
 
 pub loop-count-preserved-then-s-first-eq33 : goal.loop-count-preserved-then-s-first-eq33
-loop-count-preserved-then-s-first-eq33 c =
-    let at-put = c in
-    let at-if1 = at-put.before.before.before.before in
-    let at_first = at-if1.before.before.before in
-    let at-next-piece = at_first.before.before in
-    let at-loop = at-next-piece.before.before in (
-      add_turned at-loop.loop.invariant.0 _ _ _ (rw at_first.first.given.1 at at-next-piece.next-piece.ensures) at-if1.if1.true _ _ at-put.put.ensures.0 at-put.put.ensures.1,
-      omega (arith, at-next-piece.before.loop-test.true),
-    )
+loop-count-preserved-then-s-first-eq33 c = (
+  add_turned c.loop-count.invariant.0 _ _ _ (rw c.in-Piece.is at c.next_piece.ensures) c.if-s-first-eq33.true _ _ c.put.ensures.text_after c.put.ensures.records_after,
+  omega (arith, c.before.loop-count-test.true),
+)
 
 pub loop-count-smaller : goal.loop-count-smaller
 loop-count-smaller c = let p = (rw c.in-Piece.is at c.next_piece.ensures) in omega (arith, p.begun, p.some, p.before, p.inside)
@@ -111,5 +93,4 @@ shape_of-records c = records_long c.loop-count.invariant.0.wrote
 pub returns : goal.returns
 returns c =
     let l = c.loop-count in
-    let start = c in
-    add_done l.invariant.0 _ start.requires.all_or_none (omega (arith, c.loop-count-test.false, l.invariant.1, l.invariant.0.wrote.count_is))
+    add_done l.invariant.0 _ c.requires.all_or_none (omega (arith, c.loop-count-test.false, l.invariant.1, l.invariant.0.wrote.count_is))

@@ -47,13 +47,7 @@ shape_of-records-in-Unknown c = records_long c.loop-first.invariant.wrote
 
 pub returns-in-Unknown : goal.returns-in-Unknown
 returns-in-Unknown c =
-    let at-begin = c in
-    let at-read-piece = at-begin.before.before in
-    let at_first = at-read-piece.before.before.before in
-    let at-next-piece = at_first.before.before in
-    let at-loop = at-next-piece.before in
-    let start = at-loop.before.before.before.before in
-    stopped at-loop.loop.invariant start.requires.0 start.requires.1 _ _ _ (rw at_first.first.given.1 at at-next-piece.next-piece.ensures) _ _ (rw at-begin.begin.given.1 at at-read-piece.read-piece.ensures)
+    stopped c.loop-first.invariant c.requires.s_len_bound c.requires.offset_le_limit _ _ _ (rw c.in-Piece.is at c.next_piece.ensures) _ _ (rw c.in-Unknown.is at c.read_piece.ensures)
 
 pub overflow_add-excluded : goal.overflow_add-excluded
 overflow_add-excluded c = omega (arith, some_low c.loop-first.invariant c.requires.s_len_bound c.requires.offset_le_limit)
@@ -63,72 +57,37 @@ loop-first-smaller-in-Exclusion c = let p = (rw c.in-Piece.is at c.next_piece.en
 
 pub loop-first-preserved-in-Exclusion : goal.loop-first-preserved-in-Exclusion
 loop-first-preserved-in-Exclusion c =
-    let at-read-piece = c in
-    let at_first = at-read-piece.before.before.before in
-    let at-next-piece = at_first.before.before in
-    let at-loop = at-next-piece.before in
-    let start = at-loop.before.before.before.before in
-    passed at-loop.loop.invariant start.requires.0 start.requires.1 _ _ _ (rw at_first.first.given.1 at at-next-piece.next-piece.ensures) (rw c.in-Exclusion.is at at-read-piece.read-piece.ensures)
+    passed c.loop-first.invariant c.requires.s_len_bound c.requires.offset_le_limit _ _ _ (rw c.in-Piece.is at c.next_piece.ensures) (rw c.in-Exclusion.is at c.read_piece.ensures)
 
 pub overflow_add-place : goal.overflow_add-place
 overflow_add-place c =
-    let at-e = c in
-    let at-read-piece = at-e.before.before in
-    let at_first = at-read-piece.before.before.before in
-    let at-next-piece = at_first.before.before in
-    let at-loop = at-next-piece.before in
-    let start = at-loop.before.before.before.before in
-    omega (arith, some_low at-loop.loop.invariant start.requires.0 start.requires.1, start.requires.1)
+    omega (arith, some_low c.loop-first.invariant c.requires.s_len_bound c.requires.offset_le_limit, c.requires.offset_le_limit)
 
 pub put-requires : goal.put-requires
 put-requires c =
-    let at-e = c in
-    let at-read-piece = at-e.before.before in
-    let at_first = at-read-piece.before.before.before in
-    let at-next-piece = at_first.before.before in
-    let at-loop = at-next-piece.before in
-    let start = at-loop.before.before.before.before in
-    let p = (rw at_first.first.given.1 at at-next-piece.next-piece.ensures) in let whole = (entry_narrow at-loop.loop.invariant start.requires.0 start.requires.1 _ _ _ p _ (rw at-e.e.given.1 at at-read-piece.read-piece.ensures), ((entry_inside at-loop.loop.invariant start.requires.0 start.requires.1 _ _ _ p _ (rw at-e.e.given.1 at at-read-piece.read-piece.ensures), omega (arith, some_low at-loop.loop.invariant start.requires.0 start.requires.1)), (omega (arith, start.requires.0, p.begun, p.some, p.before, p.inside), omega (arith, start.requires.0, this_long at-loop.loop.invariant start.requires.0 start.requires.1 _ _ _ p, p.before, p.inside)))) in record { narrow = whole.0; past_in_bounds = whole.1.0; at_le_limit = whole.1.1 }
+    let p = (rw c.in-Piece.is at c.next_piece.ensures) in
+    record {
+      narrow = entry_narrow c.loop-first.invariant c.requires.s_len_bound c.requires.offset_le_limit _ _ _ p _ (rw c.in-Variable.is at c.read_piece.ensures);
+      past_in_bounds = (entry_inside c.loop-first.invariant c.requires.s_len_bound c.requires.offset_le_limit _ _ _ p _ (rw c.in-Variable.is at c.read_piece.ensures), omega (arith, some_low c.loop-first.invariant c.requires.s_len_bound c.requires.offset_le_limit));
+      at_le_limit = (omega (arith, c.requires.s_len_bound, p.begun, p.some, p.before, p.inside), omega (arith, c.requires.s_len_bound, this_long c.loop-first.invariant c.requires.s_len_bound c.requires.offset_le_limit _ _ _ p, p.before, p.inside));
+    }
 
 pub overflow_sub-used : goal.overflow_sub-used
 overflow_sub-used c =
-    let at-e = c in
-    let at-read-piece = at-e.before.before in
-    let at_first = at-read-piece.before.before.before in
-    let at-next-piece = at_first.before.before in
-    let at-loop = at-next-piece.before in
-    let start = at-loop.before.before.before.before in
-    (entry_narrow at-loop.loop.invariant start.requires.0 start.requires.1 _ _ _ (rw at_first.first.given.1 at at-next-piece.next-piece.ensures) _ (rw at-e.e.given.1 at at-read-piece.read-piece.ensures)).ordered
+    (entry_narrow c.loop-first.invariant c.requires.s_len_bound c.requires.offset_le_limit _ _ _ (rw c.in-Piece.is at c.next_piece.ensures) _ (rw c.in-Variable.is at c.read_piece.ensures)).ordered
 
 pub overflow_add-used : goal.overflow_add-used
 overflow_add-used c =
-    let at-e = c in
-    let at-read-piece = at-e.before.before in
-    let at_first = at-read-piece.before.before.before in
-    let at-next-piece = at_first.before.before in
-    let at-loop = at-next-piece.before in
-    let start = at-loop.before.before.before.before in
-    omega (arith, entry_narrow at-loop.loop.invariant start.requires.0 start.requires.1 _ _ _ (rw at_first.first.given.1 at at-next-piece.next-piece.ensures) _ (rw at-e.e.given.1 at at-read-piece.read-piece.ensures))
+    omega (arith, entry_narrow c.loop-first.invariant c.requires.s_len_bound c.requires.offset_le_limit _ _ _ (rw c.in-Piece.is at c.next_piece.ensures) _ (rw c.in-Variable.is at c.read_piece.ensures))
 
 pub overflow_add-variables : goal.overflow_add-variables
 overflow_add-variables c =
-    let at-loop = c in
-    let start = at-loop.before.before.before.before in
-    omega (arith, some_low at-loop.loop.invariant start.requires.0 start.requires.1)
+    omega (arith, some_low c.loop-first.invariant c.requires.s_len_bound c.requires.offset_le_limit)
 
 pub loop-first-smaller : goal.loop-first-smaller
 loop-first-smaller c =
-    let at_first = c in
-    let at-next-piece = at_first in
-    let p = (rw at_first.in-Piece.is at at-next-piece.next-piece.ensures) in omega (arith, p.begun, p.some, p.before, p.inside)
+    let p = (rw c.in-Piece.is at c.next_piece.ensures) in omega (arith, p.begun, p.some, p.before, p.inside)
 
 pub loop-first-preserved : goal.loop-first-preserved
 loop-first-preserved c =
-    let at-put = c in
-    let at-e = at-put.before.before.before.before in
-    let at-read-piece = at-e.before.before in
-    let at_first = at-read-piece.before.before.before in
-    let at-next-piece = at_first.before.before in
-    let at-loop = at-next-piece.before in
-    let start = at-loop.before.before.before.before in
-    turned at-loop.loop.invariant start.requires.0 start.requires.1 _ _ _ (rw at_first.first.given.1 at at-next-piece.next-piece.ensures) _ (rw at-e.e.given.1 at at-read-piece.read-piece.ensures) _ _ at-put.put.ensures.0 at-put.put.ensures.1
+    turned c.loop-first.invariant c.requires.s_len_bound c.requires.offset_le_limit _ _ _ (rw c.in-Piece.is at c.next_piece.ensures) _ (rw c.in-Variable.is at c.read_piece.ensures) _ _ c.put.ensures.text_after c.put.ensures.records_after
