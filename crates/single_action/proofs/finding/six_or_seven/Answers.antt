@@ -1,12 +1,48 @@
--- One name after another: each is the name, or is not. The first ones stand too far back for a search from the end.
-use mathlib.Core.List.{◌∷◌}
+-- One name after another: each is the name, or is not.
+use mathlib.Core.Path.{refl}
+use native.Mathlib.Omega.{arith}
 use Rattle.ascii.specs.Text.{bytes}
 use Rattle.ascii.specs.Fold.{lower}
-use Rattle.single_action.specs.Table.{rows, NoneOf}
-use Rattle.single_action.proofs.RowLaws.{other}
+use Rattle.single_action.specs.Table.{rows}
+use Rattle.single_action.proofs.RowLaws.{hit, other, none_among}
 use Rattle.single_action.proofs.finding.six_or_seven.Goals as goal
-use Rattle.single_action.proofs.finding.six_or_seven.Goals.{After-same_lowered-6}
 
-none_first : (c : After-same_lowered-6) → NoneOf (20 ∷ 21 ∷ 18 ∷ 19 ∷ 29 ∷ []) c.args.name.now
+pub returns-then-same_lowered : goal.returns-then-same_lowered
 unfolding rows bytes lower
-none_first c = (search other, (search other, (search other, (search other, (search other, tt)))))
+returns-then-same_lowered c = hit c.if-same_lowered.true c.same_lowered.ensures refl (omega arith)
+
+pub returns-then-same_lowered-2 : goal.returns-then-same_lowered-2
+unfolding rows bytes lower
+returns-then-same_lowered-2 c = hit c.if-same_lowered-2.true c.same_lowered-2.ensures refl (omega arith)
+
+pub returns-then-same_lowered-3 : goal.returns-then-same_lowered-3
+unfolding rows bytes lower
+returns-then-same_lowered-3 c = hit c.if-same_lowered-3.true c.same_lowered-3.ensures refl (omega arith)
+
+pub returns-then-same_lowered-4 : goal.returns-then-same_lowered-4
+unfolding rows bytes lower
+returns-then-same_lowered-4 c = hit c.if-same_lowered-4.true c.same_lowered-4.ensures refl (omega arith)
+
+pub returns-then-same_lowered-5 : goal.returns-then-same_lowered-5
+unfolding rows bytes lower
+returns-then-same_lowered-5 c = hit c.if-same_lowered-5.true c.same_lowered-5.ensures refl (omega arith)
+
+pub returns-then-same_lowered-6 : goal.returns-then-same_lowered-6
+unfolding rows bytes lower
+returns-then-same_lowered-6 c = hit c.if-same_lowered-6.true c.same_lowered-6.ensures refl (omega arith)
+
+pub returns-then-same_lowered-7 : goal.returns-then-same_lowered-7
+unfolding rows bytes lower
+returns-then-same_lowered-7 c = hit c.if-same_lowered-7.true c.same_lowered-7.ensures refl (omega arith)
+
+pub returns-then-same_lowered-8 : goal.returns-then-same_lowered-8
+unfolding rows bytes lower
+returns-then-same_lowered-8 c = hit c.if-same_lowered-8.true c.same_lowered-8.ensures refl (omega arith)
+
+pub returns-then-same_lowered-9 : goal.returns-then-same_lowered-9
+unfolding rows bytes lower
+returns-then-same_lowered-9 c = hit c.if-same_lowered-9.true c.same_lowered-9.ensures refl (omega arith)
+
+pub returns : goal.returns
+unfolding rows bytes lower
+returns c = none_among (other c.args.name.now 20 c.same_lowered.ensures c.if-same_lowered.false, (other c.args.name.now 21 c.same_lowered-2.ensures c.if-same_lowered-2.false, (other c.args.name.now 18 c.same_lowered-3.ensures c.if-same_lowered-3.false, (other c.args.name.now 19 c.same_lowered-4.ensures c.if-same_lowered-4.false, (other c.args.name.now 29 c.same_lowered-5.ensures c.if-same_lowered-5.false, (other c.args.name.now 36 c.same_lowered-6.ensures c.if-same_lowered-6.false, (other c.args.name.now 37 c.same_lowered-7.ensures c.if-same_lowered-7.false, (other c.args.name.now 30 c.same_lowered-8.ensures c.if-same_lowered-8.false, (other c.args.name.now 31 c.same_lowered-9.ensures c.if-same_lowered-9.false, tt)))))))))

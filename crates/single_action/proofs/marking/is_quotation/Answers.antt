@@ -1,4 +1,5 @@
 -- Each arm of the match is the test that it stands for.
+use native.Mathlib.Omega.{arith}
 use borrow.Author.Tests.{ne_eqb}
 use Rattle.single_action.specs.Marks.{quotation}
 use Rattle.single_action.proofs.marking.is_quotation.Goals as goal
@@ -15,5 +16,4 @@ pub returns-in_default : goal.returns-in_default
 unfolding quotation
 returns-in_default c =
     let b = c.args.b in
-    let r = c.in-34.rest in
-    simp (ne_eqb b 34 r.0.1, ne_eqb b 39 r.1)
+    simp (ne_eqb b 34 (omega arith), ne_eqb b 39 (omega arith))

@@ -35,16 +35,16 @@ len_is c =
     let d = c in
     let a = d.args in
     c.unmarked_len-len.ensures ∙ ap (λ (t : List ℕ). length (strip_end quotation t)) (rest_is a.s.now (a.from + d.leading_marks.result))
-    ∙ ap length (end_is a.s.now a.from d.requires _ (first_is d))
+    ∙ ap length (end_is a.s.now a.from d.requires _ (ap (λ (n : ℕ). a.from + n) (d.leading_marks.ensures ∙ ap (leading quotation) (rest_is a.s.now a.from))))
 
 pub overflow_add-result : goal.overflow_add-result
 overflow_add-result c =
     let d = c in
     let a = d.args in
-    omega (arith, past_fits a.s.now a.from d.requires _ (first_is d) _ (len_is (goal.at.overflow_add-result c).After-unmarked_len-len))
+    omega (arith, past_fits a.s.now a.from d.requires _ (first_is (goal.at.overflow_add-result c).After-leading_marks) _ (len_is (goal.at.overflow_add-result c).After-unmarked_len-len))
 
 pub returns : goal.returns
 returns c =
     let d = c in
     let a = d.args in
-    marks_off a.s.now a.from d.requires _ (first_is d) _ (len_is (goal.at.returns c).After-unmarked_len-len)
+    marks_off a.s.now a.from d.requires _ (first_is (goal.at.returns c).After-leading_marks) _ (len_is (goal.at.returns c).After-unmarked_len-len)

@@ -1,4 +1,5 @@
 -- Each number's arm is the definition's; any other is below or above them all.
+use native.Mathlib.Omega.{arith}
 use borrow.Author.Tests.{ne_eqb}
 use Rattle.single_action.specs.Table.{rule_of}
 use Rattle.single_action.proofs.naming.numbered_rule.Goals as goal
@@ -47,6 +48,5 @@ pub returns-in_default : goal.returns-in_default
 unfolding rule_of
 returns-in_default c =
     let n = c.args.number in
-    let r = c.in-1.rest in
     simp
-    (ne_eqb n 1 r.0.0.0.0.0.0.0.0.0.1, ne_eqb n 2 r.0.0.0.0.0.0.0.0.1, ne_eqb n 3 r.0.0.0.0.0.0.0.1, ne_eqb n 4 r.0.0.0.0.0.0.1, ne_eqb n 5 r.0.0.0.0.0.1, ne_eqb n 6 r.0.0.0.0.1, ne_eqb n 7 r.0.0.0.1, ne_eqb n 8 r.0.0.1, ne_eqb n 9 r.0.1, ne_eqb n 10 r.1)
+    (ne_eqb n 1 (omega arith), ne_eqb n 2 (omega arith), ne_eqb n 3 (omega arith), ne_eqb n 4 (omega arith), ne_eqb n 5 (omega arith), ne_eqb n 6 (omega arith), ne_eqb n 7 (omega arith), ne_eqb n 8 (omega arith), ne_eqb n 9 (omega arith), ne_eqb n 10 (omega arith))

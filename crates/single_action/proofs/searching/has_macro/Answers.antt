@@ -19,7 +19,7 @@ loop-i-preserved c =
     let k = c.loop-i-test.true in
     let e : l.i + 1 - 1 ≡ l.i = omega arith in
     let on : has_macro (drop (l.i - 1) s) ≡ has_macro (drop l.i s) =
-    ⊎_elim (λ w. macro_alone s l.i l.invariant.0 k w.2.false) (λ w. macro_other s l.i l.invariant.0 k w.false) c.if-s-i-eq123.branch-raw in
+    ⊎_elim (λ w. macro_alone s l.i l.invariant.0 k w.if-s-i-eq37.false) (λ w. macro_other s l.i l.invariant.0 k w.if-s-i-eq123.false) c.if-s-i-eq123.branch-raw in
     (omega arith, ap (λ (n : ℕ). has_macro (drop n s)) e ∙ sym on ∙ l.invariant.1)
 
 pub returns : goal.returns

@@ -32,8 +32,8 @@ no_bang c =
     let f = s.args.first in
     let p = s.args.past in
     ⊎_elim
-    (λ w. leads_cut t f p s.requires.past_in_bounds 33 w.0.true ∙ ne_eqb (get_or t f 0) 33 w.2.false)
-    (λ w. leads_none t 33 f p w.false)
+    (λ w. leads_cut t f p s.requires.past_in_bounds 33 w.if-first-past.true ∙ ne_eqb (get_or t f 0) 33 w.if-s-first-eq33.false)
+    (λ w. leads_none t 33 f p w.if-first-past.false)
     c.if-first-past.branch-raw
 
 pub returns-then-past-equals : goal.returns-then-past-equals

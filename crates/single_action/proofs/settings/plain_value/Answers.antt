@@ -1,7 +1,9 @@
 -- A sign first, else a number or the text.
 use mathlib.Core.Path.{◌≡◌, ◌∙◌, sym}
 use mathlib.Core.Logic.{⊎_elim}
+use native.Mathlib.Omega.{arith}
 use lib.ListN.{get_or}
+use borrow.Enum.Refused.{opened}
 use borrow.Author.Tests.{ne_eqb}
 use Rattle.ascii.specs.Numbers.{signed_word}
 use Rattle.single_action.specs.Setvar.{number_or, plain_value}
@@ -32,9 +34,9 @@ no_sign c =
     let p = s.args.past in
     ⊎_elim
     (λ w. unsigned_value t f p s.requires.first_le_past s.requires.past_in_bounds
-    (leads_cut t f p s.requires.past_in_bounds 43 w.0.true ∙ ne_eqb (get_or t f 0) 43 w.2.rest.0.1)
-    (leads_cut t f p s.requires.past_in_bounds 45 w.0.true ∙ ne_eqb (get_or t f 0) 45 w.2.rest.1))
-    (λ w. unsigned_value t f p s.requires.first_le_past s.requires.past_in_bounds (leads_none t 43 f p w.false) (leads_none t 45 f p w.false))
+    (leads_cut t f p s.requires.past_in_bounds 43 w.if-first-past.true ∙ ne_eqb (get_or t f 0) 43 (omega arith))
+    (leads_cut t f p s.requires.past_in_bounds 45 w.if-first-past.true ∙ ne_eqb (get_or t f 0) 45 (omega arith)))
+    (λ w. unsigned_value t f p s.requires.first_le_past s.requires.past_in_bounds (leads_none t 43 f p w.if-first-past.false) (leads_none t 45 f p w.if-first-past.false))
     c.if-first-past.branch-raw
 
 pub returns-in-Value : goal.returns-in-Value
@@ -46,4 +48,4 @@ returns-in-Value c =
 pub returns-in_default-signed : goal.returns-in_default-signed
 returns-in_default-signed c =
     let s = c in
-    value_text s.args.s.now s.args.first s.args.past s.requires.first_le_past s.requires.past_in_bounds (no_sign (goal.at.returns-in_default-signed c).Joined-first-past) (rw c.signed-2.ensures at c.in-Value.keys2)
+    value_text s.args.s.now s.args.first s.args.past s.requires.first_le_past s.requires.past_in_bounds (no_sign (goal.at.returns-in_default-signed c).Joined-first-past) (rw c.signed-2.ensures at (opened c.in_default-signed.in_default-signed-own.keys2))

@@ -27,7 +27,7 @@ slice_bounds-is_paired-end c = (part_held (goal.at.slice_bounds-is_paired-end c)
 marked : (c : Then-is_paired) → Room c.args.from c.trimmed-part.result
 marked c =
     let s = c in
-    held_long s.args.s.now s.args.from c.trimmed-part.result (part_held c) (sym c.is_paired.ensures ∙ c.if-is_paired.true)
+    held_long s.args.s.now s.args.from c.trimmed-part.result (held s.args.s.now s.args.from c.trimmed-part.result s.requires c.trimmed-part.ensures) (sym c.is_paired.ensures ∙ c.if-is_paired.true)
 
 pub overflow_add-first-then-is_paired : goal.overflow_add-first-then-is_paired
 overflow_add-first-then-is_paired c = let h = part_held (goal.at.overflow_add-first-then-is_paired c).After-trimmed-part in omega (arith, marked (goal.at.overflow_add-first-then-is_paired c).Then-is_paired, h.inside)

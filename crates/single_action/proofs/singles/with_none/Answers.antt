@@ -1,4 +1,5 @@
 -- Each rule by its own law.
+use borrow.Enum.Refused.{opened}
 use Rattle.lent.specs.declared.refusing.Flaw.TheVariants as Flaw
 use Rattle.single_action.specs.Table.{row_at}
 use Rattle.single_action.proofs.JudgedLaws.{none_plain, none_unmarked, none_expiry, none_bad, bad_row}
@@ -17,4 +18,4 @@ pub returns-in_default : goal.returns-in_default
 returns-in_default c =
     λ s.
     let r = c.args.row in
-    rw (none_bad (row_at r).rule (row_at r) (rw c.rule_of.ensures at c.in-Plain.keys4)) (bad_row s Flaw.Absent r c.requires)
+    rw (none_bad (row_at r).rule (row_at r) (rw c.rule_of.ensures at (opened c.in_default.in_default-own.keys4))) (bad_row s Flaw.Absent r c.requires)
