@@ -10,7 +10,7 @@ use borrow.Author.Tests.{eqb-true}
 use Rattle.ascii.specs.Choice.{pick, and, or}
 use Rattle.lexer.specs.Rules.{feed_next, line_end, unescaped}
 use Rattle.places.specs.Scans.{Mode, plain, escaped, stayed, after_cr, margin, Act, pass, keep, turn}
-use Rattle.places.specs.Tables.{Rule, Joined, Word, Quoted, skipped, line_next, plain_join, margin_join, joining, slash_in_word, plain_word, wording, two, head_of, stays, stays_next, slash_in_quotes, plain_quote, margin_quote, quoting_by, act, alone}
+use Rattle.places.specs.Tables.{Rule, Joined, Word, Quoted, skipped, line_next, plain_join, margin_join, joining, slash_in_word, plain_word, wording, head_of, stays, stays_next, slash_in_quotes, plain_quote, margin_quote, quoting_by, act, alone}
 use Rattle.places.proofs.TokenLaws.{none_taken}
 use Rattle.places.proofs.SourceLaws.{Again, upto, Same, Steady, Ahead, steady_ahead}
 

@@ -1,5 +1,5 @@
 -- Each arm of the match is the test that it stands for.
-use mathlib.Core.Logic.{⊎_elim, inl, inr}
+use mathlib.Core.Logic.{⊎_elim}
 use native.Mathlib.Omega.{arith}
 use borrow.Author.Tests.{ne_eqb}
 use Rattle.lexer.specs.Rules.{unescaped}

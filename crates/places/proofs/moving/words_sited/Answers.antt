@@ -1,5 +1,4 @@
 use mathlib.Core.Path.{refl, sym, subst}
-use Prim.Native.Nat.{◌-◌}
 use native.Mathlib.Omega.{arith}
 use Rattle.places.specs.Steps.{Stand, Stands, Paid}
 use Rattle.places.proofs.WalkLaws.{begun_stands}

@@ -1,4 +1,3 @@
-use Prim.Native.Nat.{◌-◌}
 use native.Mathlib.Omega.{arith}
 use Rattle.places.proofs.RunLaws.{no_space, one_space}
 use Rattle.places.proofs.running.spaces.Goals as goal

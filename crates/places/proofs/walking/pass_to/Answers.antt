@@ -1,4 +1,3 @@
-use Prim.Native.Nat.{◌-◌}
 use native.Mathlib.Omega.{arith}
 use Rattle.places.proofs.WalkLaws.{reaching_from, reaching_on, reached}
 use Rattle.places.proofs.walking.pass_to.Goals as goal
