@@ -8,7 +8,7 @@ use Rattle.lent.specs.Buffers.{stored, stored_each, joined}
 use Rattle.lent.proofs.BufferLaws.{each_more}
 use Rattle.lent.proofs.LayoutLaws as Lent
 use Rattle.lent.specs.Sources.{Sourced}
-use Rattle.records.specs.Actions.{Action, action_text}
+use Rattle.records.specs.Actions.{Action}
 use Rattle.records.specs.Layout.{action_record, full_record, full_text, records_from, words_from, texts}
 
 pub texts_more : (xs : List (Sourced Action)) (x : Sourced Action) → texts (xs ++ (x ∷ [])) ≡ texts xs ++ full_text x
