@@ -1,5 +1,4 @@
 use mathlib.Core.Path.{refl}
-use Prim.Native.Nat.{◌-◌}
 use native.Mathlib.Omega.{arith}
 use Rattle.rules.proofs.FindLaws.{number_found, number_passed, number_none}
 use Rattle.rules.proofs.finding.first_number.Goals as goal

@@ -1,7 +1,5 @@
 use mathlib.Core.Path.{◌∙◌, sym}
 use mathlib.Core.Logic.{⊎_elim}
-use borrow.Author.Tests.{not-true, not-false}
-use Prim.Native.Nat.{◌-◌}
 use native.Mathlib.Omega.{arith}
 use Rattle.rules.proofs.GradeLaws.{begun, unfit, second, turned_id, turned_other, ended}
 use Rattle.rules.proofs.grading.grade.Goals as goal
