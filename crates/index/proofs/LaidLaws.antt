@@ -8,7 +8,6 @@ use Rattle.rules.specs.Selectors.{matched}
 use Rattle.rules.specs.declared.selecting.RuleIdSelector.{RuleIdSelector}
 use Rattle.index.specs.Standing.{Rule, name_of, without, verdict}
 use Rattle.index.specs.Words.{laid, places_in}
-use Rattle.index.specs.declared.removing.Removed.TheVariants as Removed
 use Rattle.index.specs.Promises.{Added, Removed, Adds, Removes, added_by, left_by, judged, add_answer, add_leaves, remove_answer, remove_leaves}
 use Rattle.index.proofs.WordLaws.{Holds, laid_length, laid_count, laid_rules, laid_sound}
 

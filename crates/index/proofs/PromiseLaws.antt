@@ -16,8 +16,6 @@ use Rattle.rules.specs.declared.selecting.RuleIdSelector.{RuleIdSelector}
 use Rattle.index.specs.Standing.{Rule, Found, Number, Nothing, name_of, line_of, insert, Verdict, passes, taken, full, enters}
 use Rattle.index.specs.Words.{pairs, laid, places_in, rules_of, count_of, rules_in, sound}
 use Rattle.index.specs.Steps.{Sorted, OnLine, Missing, below, seen_at, seen, Enterable, Entered, AddsNamed, Compacted, kept_of}
-use Rattle.index.specs.declared.adding.Added.TheVariants as Added
-use Rattle.index.specs.declared.removing.Removed.TheVariants as Removed
 use Rattle.index.specs.Promises.{Added, Removed, Adds, Removes, added_given, removed_given, added_by, left_by, judged, kept, add_answer, add_leaves, remove_answer, remove_leaves}
 use Rattle.index.proofs.RuleLaws.{length_insert}
 use Rattle.index.proofs.WordLaws.{length_pairs, pairs_append, length_rules, pairs_rules, take_rules, drop_rules, sound_some, sound_room, sound_order, sound_zeros, sound_beyond}

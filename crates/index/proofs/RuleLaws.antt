@@ -8,7 +8,7 @@ use lib.ListN.{length}
 use lib.Dec.{eqb, leb, ltb}
 use borrow.Author.Tests.{eqb-false, eq-eqb, ne_eqb, le-leb, leb-true, lt-ltb, ltb-true, ltb-false}
 use Rattle.ascii.specs.Choice.{pick, and, or}
-use Rattle.index.specs.Standing.{Rule, Number, Nothing, line_of, Distinct, none, more, from, insert, entered, without}
+use Rattle.index.specs.Standing.{Rule, Number, Nothing, line_of, Distinct, none, more, from, insert, without}
 
 pub and_both : (a b : Bool) → and a b ≡ true → (a ≡ true) × (b ≡ true)
 and_both true b e = (refl, e)

@@ -17,9 +17,8 @@ use Rattle.rules.specs.Selectors.{matched}
 use Rattle.rules.specs.declared.selecting.RuleIdSelector.{RuleIdSelector}
 use Rattle.index.specs.Standing.{Rule, Found, Number, Nothing, name_of, line_of, Distinct, none, more, from, insert, entered, afresh, without, Verdict, verdict, placing, passes, taken, full, enters}
 use Rattle.index.specs.Words.{pairs, laid, places_in, sound}
-use Rattle.index.specs.declared.adding.Added.TheVariants as Added
 use Rattle.index.specs.Promises.{Added, Removed, Adds, Removes, added_given, removed_given, added_by, add_answer, add_leaves, remove_answer, remove_leaves}
-use Rattle.index.specs.Histories.{Event, removed, refused, removed_in, standing, accepting, added_told, removed_told}
+use Rattle.index.specs.Histories.{Event, removed_in, standing, accepting, added_told, removed_told}
 use Rattle.index.specs.Runs.{Ran, done, added, took}
 use Rattle.index.proofs.RuleLaws.{from_cons, from_tail, line_past, line_low, line_insert, line_inserted, insert_new, length_insert}
 use Rattle.index.proofs.WordLaws.{Holds, room, laid_length, laid_count, laid_rules, laid_sound}

@@ -9,7 +9,6 @@ use lib.ListN.{length, take, drop, get_or, length-drop}
 use lib.Seq.{get_or-drop, drop_at, drop-drop}
 use lib.Dec.{eqb, leb}
 use borrow.Author.Tests.{eqb-true, le-leb, lt-leb, leb-true}
-use Rattle.ascii.specs.Choice.{and}
 use Rattle.lent.specs.Buffers.{zeros}
 use Rattle.lent.proofs.BufferLaws.{padded_length}
 use Rattle.index.specs.Standing.{Rule, from}

@@ -8,9 +8,7 @@ use Rattle.rules.specs.declared.selecting.RuleIdSelector.{RuleIdSelector}
 use Rattle.index.specs.Standing.{Rule, Verdict, passes, taken, full, enters, name_of, verdict, insert, without}
 use Rattle.index.specs.Words.{laid, places_in, count_of, rules_in, sound}
 pub use Rattle.index.specs.declared.adding.Added.{Added}
-use Rattle.index.specs.declared.adding.Added.TheVariants as Added
 pub use Rattle.index.specs.declared.removing.Removed.{Removed}
-use Rattle.index.specs.declared.removing.Removed.TheVariants as Removed
 
 -- The number and values for each answer.
 abbrev pub added_given : Added → Given

@@ -1,6 +1,5 @@
 -- Each way out is a law of PromiseLaws.
 use mathlib.Core.Path.{◌∙◌, sym}
-use borrow.Author.Tests.{not-true, not-false}
 use Rattle.index.proofs.WordLaws.{sound_some}
 use Rattle.index.proofs.PromiseLaws.{add_broken, add_passed, add_named}
 use Rattle.index.proofs.adding.add.Goals as goal

@@ -1,4 +1,3 @@
-use Prim.Native.Nat.{◌-◌}
 use Rattle.index.proofs.ChangeLaws.{fall_begun, fall_next, fall_end}
 use borrow.Author.Rules.{rules}
 use Rattle.index.proofs.changing.close.Goals as goal

@@ -1,4 +1,3 @@
-use Prim.Native.Nat.{◌-◌}
 use Rattle.index.proofs.CheckLaws.{zero_begun, zero_next, zero_end}
 use borrow.Author.Rules.{rules}
 use Rattle.index.proofs.checking.are_zero.Goals as goal

@@ -1,7 +1,6 @@
 -- The definition's four tests, in its order.
 use mathlib.Core.Path.{◌∙◌, sym}
 use native.Mathlib.Omega.{arith}
-use borrow.Author.Tests.{not-true, not-false}
 use lib.ListN.{length, get_or}
 use Rattle.index.proofs.WordLaws.{places_room, unsound_empty, unsound_count, unsound_order, sound_rest}
 use borrow.Author.Rules.{rules}

@@ -1,6 +1,5 @@
 -- Each way out is a law of PromiseLaws.
 use mathlib.Core.Path.{◌∙◌, sym}
-use borrow.Author.Tests.{not-true, not-false}
 use lib.ListN.{length-set}
 use Rattle.index.proofs.WordLaws.{sound_some}
 use Rattle.index.proofs.PromiseLaws.{add_sorted, remove_broken, remove_first, remove_last, remove_length, remove_done}

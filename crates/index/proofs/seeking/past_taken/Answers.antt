@@ -1,6 +1,4 @@
 use mathlib.Core.Path.{◌∙◌, sym}
-use Prim.Native.Nat.{◌-◌}
-use borrow.Author.Tests.{not-true, not-false}
 use Rattle.index.proofs.TakenLaws.{pass_begun, pass_next, pass_found, pass_end}
 use borrow.Author.Rules.{rules}
 use Rattle.index.proofs.seeking.past_taken.Goals as goal

@@ -1,4 +1,3 @@
-use Prim.Native.Nat.{◌-◌}
 use Rattle.index.proofs.SeekLaws.{halve_begun, halve_inside, halve_up, halve_down, halve_end}
 use borrow.Author.Rules.{rules}
 use Rattle.index.proofs.seeking.smaller.Goals as goal
