@@ -16,17 +16,14 @@ use Rattle.ascii.proofs.TrimLaws.{ends_fit}
 use Rattle.lent.specs.Gates.{gate_of}
 use Rattle.lent.specs.Table.{Given, given, Outcome, refuses, reads, past_gate}
 use Rattle.lent.specs.declared.gating.Gate.{Gate}
-use Rattle.lent.specs.declared.gating.Gate.TheVariants as Gate
 use Rattle.lent.specs.contracts.gating.Gate as gates
 use Rattle.lent.proofs.GateLaws.{short_is}
 use Rattle.names.specs.Operators.{operator_code}
 use Rattle.names.specs.declared.Lookup.{Lookup}
-use Rattle.names.specs.declared.Lookup.TheVariants as Lookup
 use Rattle.operators.specs.Operators.{Spec, Reading, name_of, operator}
 use Rattle.operators.specs.Places.{after_at, is_named, argument_place}
 use Rattle.operators.specs.Promises.{answer_given, outcome_of, operator_outcome, given_by, argument_of, OperatorIn, ParseOperator, OperatorArgument}
 use Rattle.operators.specs.declared.Answer.{Answer}
-use Rattle.operators.specs.declared.Answer.TheVariants as Answer
 use Rattle.operators.specs.contracts.Answer.{the_type}
 use Rattle.operators.proofs.PlaceLaws.{argument_text, argument_ends, argument_at}
 use Rattle.operators.proofs.FoundLaws.{plain, known, missed}

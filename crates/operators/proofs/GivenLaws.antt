@@ -11,7 +11,6 @@ use Rattle.ascii.proofs.OneAnswer.{one_answer, bit_back}
 use Rattle.lent.specs.Table.{Given}
 use Rattle.operators.specs.Promises.{answer_given, OperatorIn, ParseOperator, OperatorArgument}
 use Rattle.operators.specs.declared.Answer.{Answer}
-use Rattle.operators.specs.declared.Answer.TheVariants as Answer
 
 answer_from : Given → Answer
 answer_from g =

@@ -15,7 +15,6 @@ use Rattle.lent.specs.Sizes.{limit, span_word}
 use Rattle.lent.specs.Gates.{gate_of}
 use Rattle.lent.specs.Table.{Given, Outcome, refuses, reads, past_gate}
 use Rattle.lent.specs.declared.gating.Gate.{Gate}
-use Rattle.lent.specs.declared.gating.Gate.TheVariants as Gate
 use Rattle.lent.specs.Admission.{FirstAt, Opened}
 use Rattle.lent.proofs.GateLaws.{Row}
 use Rattle.lent.proofs.OutcomeLaws.{number_of, past_row}
@@ -23,14 +22,12 @@ use Rattle.lent.proofs.RowLaws as Rows
 use Rattle.lent.proofs.RowLaws.{row, OneOf, Numbered, Exactly, absent, differ, exactly, behind, gated, exactly_gated}
 use Rattle.names.specs.Operators.{operator_code}
 use Rattle.names.specs.declared.Lookup.{Lookup}
-use Rattle.names.specs.declared.Lookup.TheVariants as Lookup
 use Rattle.ascii.proofs.TrimLaws.{ends_fit, leading_fits}
 use Rattle.operators.specs.Operators.{Spec, Reading, accepted, unknown, starts, name_length, name_of, after_name, unsigned, operator, in_name}
 use Rattle.operators.specs.Places.{after_at, name_place, is_named, argument_place}
 use Rattle.operators.specs.Promises.{answer_given, outcome_of, operator_outcome, given_by, argument_by, part_place, argument_of, OperatorIn, ParseOperator, OperatorArgument}
 use Rattle.operators.specs.Calls.{Missing, Meant, unwritten, written}
 use Rattle.operators.specs.declared.Answer.{Answer}
-use Rattle.operators.specs.declared.Answer.TheVariants as Answer
 use Rattle.operators.proofs.PlaceLaws.{past_fits, name_stands, argument_at}
 use Rattle.operators.proofs.FoundLaws.{plain, known, missed}
 use Rattle.operators.proofs.AnswerLaws.{Argued, gate_argued}

@@ -5,7 +5,6 @@ use Rattle.ascii.specs.Classes.{operator_name_end}
 use Rattle.ascii.specs.Trim.{trim_start, trim_ends, leading}
 use Rattle.names.specs.Operators.{operator_code}
 use Rattle.names.specs.declared.Lookup.{Lookup}
-use Rattle.names.specs.declared.Lookup.TheVariants as Lookup
 
 -- OperatorSpec: the name is its place in the enum OperatorName, from 0
 pub record Spec : Type 0 where

@@ -8,7 +8,6 @@ use Rattle.lent.specs.Table.{Given, given, refused, too_long, not_ascii, unknown
 use Rattle.operators.specs.Operators.{Spec, Reading, accepted, unknown, operator}
 use Rattle.operators.specs.Places.{name_place, argument_place}
 use Rattle.operators.specs.declared.Answer.{Answer}
-use Rattle.operators.specs.declared.Answer.TheVariants as Answer
 
 -- The paper's number and values for each answer: with 0, whether it is negated, the name's code, and the argument's place in the input and its length.
 -- What stands behind 8 to be underlined is the name itself, so its place and length tell the source too.

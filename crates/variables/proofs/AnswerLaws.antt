@@ -16,7 +16,6 @@ use Rattle.lent.specs.Endings.{starts, Finished}
 use Rattle.lent.specs.Layout.{texts_of, records_of, words_of}
 use Rattle.lent.specs.Table.{Given, given, refused as refused_by, no_room, unknown_variable, refuses, reads, given_by}
 use Rattle.lent.specs.declared.gating.Gate.{Gate}
-use Rattle.lent.specs.declared.gating.Gate.TheVariants as Gate
 use Rattle.lent.proofs.BufferLaws.{stored_length, taken_first, each_length, each_fits, joined_append}
 use Rattle.lent.specs.Admission.{Opened}
 use Rattle.lent.proofs.GateLaws.{open_is}
@@ -30,9 +29,7 @@ use Rattle.variables.specs.Promises.{answer_given, laid_out, roomed, updated, hu
 use Rattle.variables.specs.Steps.{excluding_of, hanging, targets_of, read_outcome, outcome_of}
 use Rattle.variables.specs.Cores.{records_from, reached_by, reached_text, reached_records, ReadTargets}
 use Rattle.variables.specs.declared.Answer.{Answer}
-use Rattle.variables.specs.declared.Answer.TheVariants as Answer
 use Rattle.variables.specs.declared.Reached.{Reached}
-use Rattle.variables.specs.declared.Reached.TheVariants as Reached
 use Rattle.variables.specs.declared.singles.Exclusions.{Exclusions}
 use Rattle.variables.specs.declared.singles.Exclusions.TheVariants.{AsWritten, LookedUp}
 use Rattle.variables.proofs.FitLaws.{Within, targets_within}

@@ -21,7 +21,7 @@ use Rattle.names.specs.declared.Lookup.{Lookup}
 use Rattle.names.specs.declared.Lookup.TheVariants.{Code, Unknown}
 use Rattle.variables.specs.Parts.{onto, cut, Piece, piece_texts, place_of, kept, filled_from, pieces_from, pieces}
 use Rattle.variables.specs.Variables.{at_colon, front_of, Selection, none, key, regex, is_regex, selection, Single, variable, unknown, named, split_single, single, Targets, targets, refused, with_variable, with_exclusion, if_known, piece, read_all}
-use Rattle.variables.specs.Layout.{selection_text, exclusion_text, selection_texts, texts}
+use Rattle.variables.specs.Layout.{selection_text, exclusion_text, selection_texts}
 use Rattle.variables.specs.Steps.{excluding_of, hanging, targets_of}
 use Rattle.variables.specs.declared.singles.Exclusions.{Exclusions}
 use Rattle.variables.specs.declared.singles.Exclusions.TheVariants.{AsWritten, LookedUp}

@@ -10,7 +10,6 @@ use Rattle.ascii.proofs.OneAnswer.{one_answer}
 use Rattle.lent.specs.Table.{Given, Outcome, Filled}
 use Rattle.variables.specs.Promises.{answer_given, Meets, ParseVariables, ParseUpdateTargets}
 use Rattle.variables.specs.declared.Answer.{Answer}
-use Rattle.variables.specs.declared.Answer.TheVariants as Answer
 
 answer_from : Given → Answer
 answer_from g =

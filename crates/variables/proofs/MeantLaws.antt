@@ -11,9 +11,8 @@ use Rattle.ascii.specs.Splits.{Split, whole, halves}
 use Rattle.lent.specs.Sources.{Part, Sourced, sourced}
 use Rattle.names.specs.Variables.{variable_code}
 use Rattle.names.specs.declared.Lookup.{Lookup}
-use Rattle.names.specs.declared.Lookup.TheVariants as Lookup
 use Rattle.variables.specs.Parts.{Piece}
-use Rattle.variables.specs.Variables.{at_colon, front_of, Selection, none, selection, Variable, Single, variable, unknown, named, split_single, single, Targets, targets, refused, with_variable, with_exclusion, if_known, piece, read_all}
+use Rattle.variables.specs.Variables.{at_colon, front_of, Selection, none, selection, Variable, Single, variable, named, split_single, single, Targets, targets, refused, with_variable, with_exclusion, if_known, piece, read_all}
 use Rattle.variables.specs.Steps.{excluding_of, behind_mark, excluded_of}
 use Rattle.variables.specs.Calls.{name, asked, Meant, unasked, found, AllMeant, none as none_meant, also, Missing, unmarked, unmarked_of}
 use Rattle.variables.specs.declared.singles.Exclusions.{Exclusions}

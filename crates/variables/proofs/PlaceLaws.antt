@@ -16,7 +16,7 @@ use Rattle.lent.specs.Sources.{Part, part as placed}
 use Rattle.ascii.proofs.ListLaws.{rest_is}
 use Rattle.ascii.proofs.TrimLaws.{ends_are, ends_fit}
 use Rattle.ascii.proofs.SplitLaws.{first_fits}
-use Rattle.variables.specs.Parts.{onto, cut, Piece, piece_at, place_of, kept, filled_from, pieces_from}
+use Rattle.variables.specs.Parts.{onto, cut, Piece, place_of, kept, filled_from, pieces_from}
 use Rattle.variables.specs.Steps.{part, NextPiece}
 
 -- ---- the first part of a list, and the pieces after it

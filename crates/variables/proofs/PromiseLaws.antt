@@ -15,7 +15,6 @@ use Rattle.lent.specs.Buffers.{zeros, padded}
 use Rattle.lent.specs.Gates.{gate_of}
 use Rattle.lent.specs.Table.{Given, no_room, unknown_variable, Outcome, refuses, reads, past_gate, Filled, given_by, text_by, records_by}
 use Rattle.lent.specs.declared.gating.Gate.{Gate}
-use Rattle.lent.specs.declared.gating.Gate.TheVariants as Gate
 use Rattle.lent.specs.Admission.{FirstAt, Opened, Shortened}
 use Rattle.lent.proofs.GateLaws.{Row}
 use Rattle.lent.proofs.OutcomeLaws.{number_of, given_number, past_row}
@@ -28,7 +27,6 @@ use Rattle.variables.specs.Promises.{answer_given, laid_out, roomed, updated, Me
 use Rattle.variables.specs.Steps.{excluded_of, kept_count, kept_of, read_outcome, outcome_of}
 use Rattle.variables.specs.Calls.{AllMeant, Missing, unmarked_of, needed}
 use Rattle.variables.specs.declared.Answer.{Answer}
-use Rattle.variables.specs.declared.Answer.TheVariants as Answer
 use Rattle.variables.specs.declared.singles.Exclusions.{Exclusions}
 use Rattle.variables.specs.declared.singles.Exclusions.TheVariants.{AsWritten, LookedUp}
 use Rattle.variables.proofs.AnswerLaws.{refused_is, as_variables, as_update}

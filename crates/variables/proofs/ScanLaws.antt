@@ -16,7 +16,7 @@ use Rattle.lent.specs.Sources.{Part, part as placed, Sourced, sourced}
 use Rattle.lent.specs.Buffers.{stored}
 use Rattle.lent.specs.Layout.{texts_of}
 use Rattle.lent.proofs.LayoutLaws.{texts_more, count_more}
-use Rattle.variables.specs.Parts.{Piece, piece_at, pieces_from, pieces}
+use Rattle.variables.specs.Parts.{Piece, pieces_from, pieces}
 use Rattle.variables.specs.Variables.{Variable, variable, Targets, targets, refused, with_variable, with_exclusion, piece, read_all}
 use Rattle.variables.specs.Layout.{variable_text, exclusion_text, selection_texts, variable_whole, exclusion_whole}
 use Rattle.variables.specs.Steps.{part, NextPiece, excluding_of, whole_words, behind_mark, excluded_of, IsVariable, IsExclusion, IsUnknown, Narrow, WroteVariables, WroteExclusions, AllRead, Stopped, Added, AllOrNone, kept_of}

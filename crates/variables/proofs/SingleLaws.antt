@@ -16,12 +16,10 @@ use Rattle.lent.specs.Sizes.{span_word}
 use Rattle.lent.specs.Sources.{Part, Sourced, sourced}
 use Rattle.names.specs.Variables.{variable_code}
 use Rattle.names.specs.declared.Lookup.{Lookup}
-use Rattle.names.specs.declared.Lookup.TheVariants as Lookup
-use Rattle.variables.specs.Variables.{at_colon, is_regex, selection, Variable, Single, unknown, named, split_single, single, Targets, targets, refused, with_variable, front_of, if_known, with_exclusion, Excluding, as_written, looked_up, piece}
+use Rattle.variables.specs.Variables.{at_colon, is_regex, selection, Single, unknown, named, split_single, single, Targets, targets, refused, with_variable, front_of, if_known, with_exclusion, Excluding, as_written, looked_up, piece}
 use Rattle.variables.specs.Steps.{part, selection_after, Chose, Found, Missed, Singles, behind_mark, IsExclusion, IsUnknown, Pieced}
 use Rattle.variables.specs.declared.singles.Chosen.{Chosen}
 use Rattle.variables.specs.declared.singles.Reading.{Reading}
-use Rattle.variables.specs.declared.singles.Reading.TheVariants as Reading
 use Rattle.variables.proofs.PlaceLaws.{part_length}
 
 -- ---- at the colon

@@ -11,7 +11,6 @@ use Rattle.variables.specs.Layout.{variable_whole, exclusion_whole, variable_tex
 use Rattle.variables.specs.Steps.{targets_of}
 use Rattle.variables.specs.declared.singles.Exclusions.{Exclusions}
 use Rattle.variables.specs.declared.Reached.{Reached}
-use Rattle.variables.specs.declared.Reached.TheVariants as Reached
 
 -- its records one by one, the first text at the offset o
 abbrev pub records_from : ℕ → List (Sourced Variable) → List (Sourced (List ℕ)) → List (List ℕ)

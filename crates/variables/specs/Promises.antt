@@ -9,7 +9,6 @@ use Rattle.variables.specs.Parts.{pieces}
 use Rattle.variables.specs.Variables.{Variable, Targets, targets, refused, as_written, looked_up, read_all}
 use Rattle.variables.specs.Layout.{words_from, texts}
 use Rattle.variables.specs.declared.Answer.{Answer}
-use Rattle.variables.specs.declared.Answer.TheVariants as Answer
 
 -- The paper's number and values for each answer.
 abbrev pub answer_given : Answer → Given

@@ -12,15 +12,12 @@ use Rattle.variables.specs.Variables.{Selection, none, selection, Variable, Sing
 use Rattle.variables.specs.Layout.{selection_code, selection_text, selection_span, variable_record, variable_text, exclusion_text, variable_whole, exclusion_whole, texts}
 use Rattle.variables.specs.Promises.{updated}
 use Rattle.variables.specs.declared.finding.Next.{Next}
-use Rattle.variables.specs.declared.finding.Next.TheVariants as Next
 use Rattle.variables.specs.declared.singles.Exclusions.{Exclusions}
 use Rattle.variables.specs.declared.singles.Exclusions.TheVariants.{AsWritten, LookedUp}
 use Rattle.variables.specs.declared.singles.Entry.{Entry}
 use Rattle.variables.specs.declared.singles.Chosen.{Chosen}
 use Rattle.variables.specs.declared.singles.Reading.{Reading}
-use Rattle.variables.specs.declared.singles.Reading.TheVariants as Reading
 use Rattle.variables.specs.declared.writing.Tally.{Tally}
-use Rattle.variables.specs.declared.writing.Tally.TheVariants as Tally
 
 -- ---- places
 

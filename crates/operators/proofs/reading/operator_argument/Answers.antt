@@ -7,7 +7,6 @@ use Prim.Native.Nat.{ℕ}
 use types.Run.{OneOf}
 use denote.Enum.Declared.{tag_of}
 use Rattle.operators.specs.declared.Answer.{Answer}
-use Rattle.operators.specs.declared.Answer.TheVariants as Answer
 use Rattle.operators.specs.contracts.Answer.{the_type}
 use native.Mathlib.Omega.{arith}
 use Rattle.ascii.specs.Handed.{standing}

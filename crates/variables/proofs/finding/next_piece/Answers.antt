@@ -1,5 +1,4 @@
 use mathlib.Core.Path.{◌∙◌, refl}
-use Prim.Native.Nat.{◌-◌}
 use native.Mathlib.Omega.{arith}
 use Rattle.variables.proofs.PlaceLaws.{bar_fits, trim_fits, trim_first, piece_found, part_empty, next_from, pieces_end}
 use Rattle.variables.proofs.finding.next_piece.Goals as goal

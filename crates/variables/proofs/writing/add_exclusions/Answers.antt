@@ -1,5 +1,4 @@
 use mathlib.Core.Path.{◌≡◌}
-use Prim.Native.Nat.{◌-◌}
 use native.Mathlib.Omega.{arith}
 use Rattle.variables.proofs.ScanLaws.{add_begun, add_ended_kept, add_done, add_passed, add_narrow, add_turned, piece_long}
 use Rattle.variables.proofs.LayoutLaws.{text_long, records_long}

@@ -1,4 +1,3 @@
-use Prim.Native.Nat.{◌-◌}
 use native.Mathlib.Omega.{arith}
 use Rattle.variables.proofs.ScanLaws.{begun, ended, some_low, this_long, this_some, stopped, passed, entry_narrow, entry_inside, turned}
 use Rattle.variables.proofs.LayoutLaws.{text_long, records_long}
