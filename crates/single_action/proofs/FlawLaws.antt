@@ -7,7 +7,7 @@ use mathlib.Core.Logic.{◌↔◌}
 use Prim.Native.Nat.{ℕ, ◌+◌, ◌≤◌, ◌<◌}
 use native.Mathlib.Omega.{arith}
 use denote.Enum.Declared.{tag_of}
-use lib.ListN.{length, take, drop}
+use lib.ListN.{length, drop}
 use lib.Dec.{eqb}
 use borrow.Author.Tests.{eqb-true, ne_eqb}
 use Rattle.ascii.specs.Choice.{pick, and, bit}
@@ -25,7 +25,6 @@ use Rattle.ascii.proofs.NumberLaws.{digit_bounds}
 use Rattle.ascii.proofs.NumeralLaws.{denotes}
 use Rattle.ascii.proofs.SignedLaws.{unsigned_too_large, unsigned_unreadable}
 use Rattle.lent.specs.declared.refusing.Flaw.{Flaw}
-use Rattle.lent.specs.declared.refusing.Flaw.TheVariants as Flaw
 use Rattle.names.specs.declared.Lookup.{Lookup}
 use Rattle.names.specs.declared.Lookup.TheVariants.{Code, Unknown}
 use Rattle.names.specs.Tables as N
@@ -33,7 +32,7 @@ use Rattle.names.specs.Severities.{severities, severity_code}
 use Rattle.records.specs.Codes.{transformation_code}
 use Rattle.single_action.specs.Marks.{stripped}
 use Rattle.single_action.specs.Table.{Rule, plain, wanted, unmarked, up_to, severity, equation, expiry, setting, Row, largest, rows, Found, found, missing, find}
-use Rattle.single_action.specs.Actions.{Slot, absent, present, worded, Single, done, bad, unknown, number_by, word_number, or_word, severity_number, with_text, with_none, found_by, named, split_by, transforms, single}
+use Rattle.single_action.specs.Actions.{Slot, absent, present, worded, Single, done, bad, unknown, number_by, or_word, severity_number, with_text, with_none, found_by, named, split_by, transforms, single}
 use Rattle.single_action.specs.Flaws.{Wants, a_text, a_number, a_severity, an_equation, a_setting, Numeral, itself, bared, Amiss, none_there, no_number, past_width, name_in, argument_in, Flawed, parsed, severity_by, severity_parsed, severity_ours, severity_theirs}
 use Rattle.single_action.specs.contracts.naming.Rule.{the_type as rule_type}
 use Rattle.single_action.proofs.WidthLaws.{no_name}

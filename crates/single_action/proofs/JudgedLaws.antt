@@ -18,12 +18,9 @@ use Rattle.ascii.specs.Fold.{lowered, same}
 use Rattle.ascii.specs.Numbers.{unsigned_by}
 use Rattle.ascii.specs.Splits.{whole, halves, split, first_of}
 use Rattle.ascii.specs.declared.numbers.Number.{Number}
-use Rattle.ascii.specs.declared.numbers.Number.TheVariants.{Value, Unreadable, TooLarge}
 use Rattle.ascii.specs.declared.trimming.Part.{Part}
-use Rattle.ascii.specs.contracts.numbers.Number.{the_type as number_type}
 use Rattle.ascii.proofs.SplitLaws.{first_fits, split_halves, split_whole}
 use Rattle.lent.specs.declared.refusing.Flaw.{Flaw}
-use Rattle.lent.specs.declared.refusing.Flaw.TheVariants as Flaw
 use Rattle.ascii.proofs.SameLaws.{never}
 use Rattle.records.specs.Codes.{transformation_code}
 use Rattle.single_action.specs.Marks.{stripped}

@@ -10,15 +10,12 @@ use Rattle.ascii.specs.Numbers.{unsigned_by}
 use Rattle.ascii.specs.Splits.{Split, whole, halves, split}
 use Rattle.ascii.specs.declared.numbers.Number.{Number}
 use Rattle.ascii.specs.declared.numbers.Number.TheVariants.{Value, Unreadable, TooLarge}
-use Rattle.names.specs.declared.Lookup.{Lookup}
-use Rattle.names.specs.declared.Lookup.TheVariants.{Code, Unknown}
-use Rattle.names.specs.Severities.{severity_code}
 use Rattle.records.specs.Codes as K
 use Rattle.records.specs.Codes.{Shape, shapes, shape_of}
 use Rattle.records.specs.Decoding.{formed}
 use Rattle.single_action.specs.Marks.{stripped}
 use Rattle.single_action.specs.Setvar.{SetValue, text, int, increment, decrement, delete, macro, Setvar, setvar}
-use Rattle.single_action.specs.Table.{Rule, plain, wanted, unmarked, up_to, severity, equation, expiry, setting, Row, largest, rows, found, find}
+use Rattle.single_action.specs.Table.{Rule, plain, wanted, unmarked, up_to, severity, equation, expiry, setting, Row, rows, found, find}
 use Rattle.single_action.specs.Actions.{Slot, absent, present, Action, worded, Single, done, bad, unknown, setvar_action, number_by, severity_number, both_by, expiry_by, with_text, with_none, ruled, found_by, named, split_by, transforms, single}
 
 -- what a rule makes

@@ -16,14 +16,11 @@ use Rattle.ascii.specs.Splits.{Split, whole, halves, split}
 use Rattle.ascii.proofs.SplitLaws.{spread, split_spread}
 use Rattle.ascii.specs.declared.numbers.Number.{Number}
 use Rattle.ascii.specs.declared.numbers.Number.TheVariants.{Value, Unreadable, TooLarge}
-use Rattle.names.specs.declared.Lookup.{Lookup}
-use Rattle.names.specs.declared.Lookup.TheVariants.{Code, Unknown}
-use Rattle.names.specs.Severities.{severity_code}
 use Rattle.ascii.proofs.SameLaws.{and_left, and_right, same_true}
 use Rattle.records.specs.Codes.{transformation_code}
 use Rattle.single_action.specs.Marks.{stripped}
 use Rattle.single_action.specs.Setvar.{setvar}
-use Rattle.single_action.specs.Table.{Rule, plain, wanted, unmarked, up_to, severity, equation, expiry, setting, Row, largest, rows, Found, found, missing, find}
+use Rattle.single_action.specs.Table.{Rule, plain, wanted, unmarked, up_to, severity, equation, expiry, setting, Row, rows, Found, found, missing, find}
 use Rattle.single_action.specs.Actions.{absent, present, slot_text, action_text, worded, Single, done, bad, unknown, text_of, setvar_action, number_by, severity_number, both_by, expiry_by, with_text, with_none, found_by, named, split_by, single}
 use Rattle.single_action.proofs.MarkLaws.{stripped_short}
 use Rattle.single_action.proofs.SetvarLaws.{setvar_short}

@@ -8,7 +8,6 @@ use Rattle.ascii.specs.Splits.{Split, whole, halves, split}
 use Rattle.ascii.specs.declared.numbers.Number.{Number}
 use Rattle.ascii.specs.declared.numbers.Number.TheVariants.{Value, Unreadable, TooLarge}
 use Rattle.lent.specs.declared.refusing.Flaw.{Flaw}
-use Rattle.lent.specs.declared.refusing.Flaw.TheVariants as Flaw
 use Rattle.names.specs.declared.Lookup.{Lookup}
 use Rattle.names.specs.declared.Lookup.TheVariants.{Code, Unknown}
 use Rattle.names.specs.Severities.{severity_code}

@@ -8,12 +8,11 @@ use Rattle.ascii.specs.Splits.{Split, whole, halves, split}
 use Rattle.ascii.specs.declared.numbers.Number.{Number}
 use Rattle.ascii.specs.declared.numbers.Number.TheVariants.{Value, Unreadable, TooLarge}
 use Rattle.lent.specs.declared.refusing.Flaw.{Flaw}
-use Rattle.lent.specs.declared.refusing.Flaw.TheVariants as Flaw
 use Rattle.names.specs.declared.Lookup.{Lookup}
 use Rattle.names.specs.declared.Lookup.TheVariants.{Code, Unknown}
 use Rattle.names.specs.Severities.{severity_code}
 use Rattle.single_action.specs.Marks.{stripped}
-use Rattle.single_action.specs.Table.{Rule, plain, wanted, unmarked, up_to, severity, equation, expiry, setting, Row, largest, rows, found, find}
+use Rattle.single_action.specs.Table.{Rule, wanted, up_to, severity, equation, setting, Row, largest, rows, found, find}
 use Rattle.single_action.specs.Actions.{Slot, absent, present, Action, numbered, Single, done, bad, unknown, with_text}
 
 -- ---- exactly when

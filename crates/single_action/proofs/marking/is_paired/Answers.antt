@@ -1,6 +1,6 @@
 -- Each way out is the test that it stands for.
 use mathlib.Core.Path.{◌∙◌, sym}
-use borrow.Author.Tests.{lt-leb, le-leb, not-true, not-false}
+use borrow.Author.Tests.{lt-leb, le-leb}
 use lib.ListN.{length}
 use Rattle.single_action.specs.Marks.{paired}
 use Rattle.single_action.proofs.marking.is_paired.Goals as goal

@@ -1,7 +1,5 @@
 use mathlib.Core.Path.{◌∙◌, sym}
-use Prim.Native.Nat.{◌-◌}
 use native.Mathlib.Omega.{arith}
-use borrow.Author.Tests.{not-true, not-false}
 use Rattle.single_action.specs.Marks.{quotation}
 use Rattle.ascii.proofs.TrimLaws.{leading_more, leading_stop, leading_end}
 use Rattle.single_action.proofs.marking.leading_marks.Goals as goal

@@ -1,6 +1,5 @@
 use mathlib.Core.Path.{◌∙◌, sym}
 use native.Mathlib.Omega.{arith}
-use borrow.Author.Tests.{not-true, not-false}
 use lib.Seq.{take-length}
 use Rattle.single_action.specs.Marks.{quotation}
 use Rattle.ascii.proofs.TrimLaws.{end_passing, end_other, end_none, end_found}
