@@ -13,11 +13,11 @@ returns-then-s-at c = rw (drop_of_length-le c.args.s.now c.if-s-at.true)
 
 pub returns-in-10 : goal.returns-in-10
 unfolding line_next
-returns-in-10 c = let a = c.args in let b = get_or a.s.now a.at 0 in rw (next_byte a.s.now a.at c.if-s-at.false, c.in-10.is)
+returns-in-10 c = let a = c.args in rw (next_byte a.s.now a.at c.if-s-at.false, c.in-10.is)
 
 pub returns-in-13 : goal.returns-in-13
 unfolding line_next
-returns-in-13 c = let a = c.args in let b = get_or a.s.now a.at 0 in rw (next_byte a.s.now a.at c.if-s-at.false, c.in-13.is)
+returns-in-13 c = let a = c.args in rw (next_byte a.s.now a.at c.if-s-at.false, c.in-13.is)
 
 pub returns-in_default : goal.returns-in_default
 unfolding line_next
