@@ -71,13 +71,13 @@ module _ (s : List ℕ) (p : Plan) where
       unfolding action_text
       put_texts =
           let f : b + length (origin_text s p.b) + length (origin_text s p.c) ≤ length t1 =
-          rw (e1, stored_length) (omega (arith, h, plan_length, b-is)) in
+          rw (e1, stored_length) (omega (arith, h, plan_length, b_is)) in
           e3
           ∙ ap (λ (l : List ℕ). stored l c (origin_text s p.c)) e2
-          ∙ ap (λ (n : ℕ). stored (stored t1 b (origin_text s p.b)) n (origin_text s p.c)) c-is
+          ∙ ap (λ (n : ℕ). stored (stored t1 b (origin_text s p.b)) n (origin_text s p.c)) c_is
           ∙ stored_more t1 b (origin_text s p.b) (origin_text s p.c) f
           ∙ ap (λ (l : List ℕ). stored l b (origin_text s p.b ++ origin_text s p.c)) e1
-          ∙ ap (λ (n : ℕ). stored (stored text used (origin_text s p.a)) n (origin_text s p.b ++ origin_text s p.c)) b-is
+          ∙ ap (λ (n : ℕ). stored (stored text used (origin_text s p.a)) n (origin_text s p.b ++ origin_text s p.c)) b_is
           ∙ stored_more text used (origin_text s p.a) (origin_text s p.b ++ origin_text s p.c) (rw length-append (omega (arith, h, plan_length)))
 
       pub put_all : (records : List ℕ) (at span : ℕ) {records' : List ℕ} {wa wb wc : ℕ}
@@ -88,6 +88,6 @@ module _ (s : List ℕ) (p : Plan) where
       put_all records at span fa fb fc r = record {
         texts = put_texts;
         words =
-            r ∙ rw (fa, fb, fc, word_is s p.a used b b-is, word_is s p.b b c c-is, word_is s p.c c end end_is, c-is, b-is);
-        end = omega (arith, plan_length, end_is, c-is, b-is);
+            r ∙ rw (fa, fb, fc, word_is s p.a used b b_is, word_is s p.b b c c_is, word_is s p.c c end end_is, c_is, b_is);
+        end = omega (arith, plan_length, end_is, c_is, b_is);
       }

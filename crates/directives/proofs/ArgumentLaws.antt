@@ -23,7 +23,7 @@ use Rattle.lexer.specs.Layout.{text_of, texts}
 use Rattle.lexer.specs.Calls.{Reached}
 use Rattle.directives.specs.Groups.{argument_by, arguments_of, item_by, items, joined, stray}
 use Rattle.directives.specs.Directives.{last_past, standing}
-use Rattle.directives.specs.Steps.{Laid, role_of, onward, Token_is, None_is, ends_at, place_of, arguments_as, one_more, taken_from, Took}
+use Rattle.directives.specs.Steps.{Laid, role_of, onward, Token-is, None-is, ends_at, place_of, arguments_as, one_more, taken_from, Took}
 use Rattle.directives.specs.declared.tokens.Role.TheVariants.{Opens, Argues, Closes}
 use Rattle.directives.specs.declared.arguments.Arguments.{Arguments}
 use Rattle.directives.specs.contracts.tokens.Role.{the_type}
@@ -186,13 +186,13 @@ module _ (s : List ℕ) (from : Cursor) (past held : ℕ) (scratch₀ : List ℕ
         }
 
     -- nothing is left
-    pub none_left : {scratch' : List ℕ} {stop : Cursor} → None_is s here scratch scratch' stop → Took s from past held scratch₀ scratch' (record { arguments = a; next = here })
+    pub none_left : {scratch' : List ℕ} {stop : Cursor} → None-is s here scratch scratch' stop → Took s from past held scratch₀ scratch' (record { arguments = a; next = here })
     unfolding arguments_of items
     none_left x =
         ended here (subst (λ (l : List ℕ). Laid scratch₀ l held (texts g.done)) (sym x.same) g.laid) (ap (λ (r : Reading). arguments_of r.tokens) x.none)
         (ap (λ (r : Reading). items true r.tokens) x.none ∙ sym (ap (λ (r : Reading). items false r.tokens) x.none)) refl g.arrived (omega arith)
 
-    module _ {scratch' : List ℕ} {l : Lexeme} (x : Token_is s here a.end scratch scratch' l) where
+    module _ {scratch' : List ℕ} {l : Lexeme} (x : Token-is s here a.end scratch scratch' l) where
       abbrev u : Token
       u = x.t
 
@@ -248,7 +248,7 @@ module _ (s : List ℕ) (from : Cursor) (past held : ℕ) (scratch₀ : List ℕ
             taken_are = g.taken_are ∙ ap (λ (m : List Token). g.done ++ m) (ap arguments_of tokens_are ∙ c.0) ∙ sym (append_assoc g.done (u ∷ []) (taken_from s l.next));
             rest = g.rest ∙ ap (items true) tokens_are ∙ c.1;
             stop = g.stop ∙ stop_is;
-            arguments_are = b-is;
+            arguments_are = b_is;
             laid = subst (λ (m : List ℕ). Laid scratch₀ scratch' held m) (sym (texts_more text_of g.done u)) laid_more';
             arrived = x.arrived;
             short = omega (arith, g.short, x.short, ap length (texts_more text_of g.done u), length-append (texts g.done) u.text);

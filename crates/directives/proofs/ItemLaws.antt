@@ -147,6 +147,8 @@ module _ (s : List ℕ) (l : ℕ) (name : List ℕ) where
   refused_body of_rule _ (actions v o a f y z p q e) = rw (p, q, e) (as_told _ _ (action_there s of_rule (v ∷ o ∷ a ∷ []) f (only_so OfAction e (action_only a.text))))
   refused_body of_action _ (alone a f e) = rw e (as_told _ _ (action_there s of_action (a ∷ []) f (only_so OfAction e (action_only a.text))))
   refused_body of_defaults _ (preset a f e) = rw e (as_told _ _ (action_there s of_defaults (a ∷ []) f (only_so OfAction e (action_only a.text))))
+  refused_body of_marker args x = elim x [ ]
+  refused_body of_other args x = elim x [ ]
 
 refused_right : {s : List ℕ} {f : Refusal} (k : Shape) (args : List Token) → FirstRefused s k args f → RightCount k (length args)
 refused_right of_rule _ (variables v o third f n e) = (omega arith, omega arith)
@@ -154,6 +156,8 @@ refused_right of_rule _ (operator v o third f y n p e) = (omega arith, omega ari
 refused_right of_rule _ (actions v o a f y z p q e) = (omega arith, omega arith)
 refused_right of_action _ (alone a f e) = refl
 refused_right of_defaults _ (preset a f e) = refl
+refused_right of_marker args x = elim x [ ]
+refused_right of_other args x = elim x [ ]
 
 -- ---- an item
 

@@ -191,18 +191,18 @@ module _ (s : List ℕ) (from : Cursor) (arrived : Arrived s from) (short : leng
   args = taken_from s from
 
   count_is : a.count ≡ length args
-  count_is = ap (λ (b : Arguments). b.count) a-is
+  count_is = ap (λ (b : Arguments). b.count) a_is
 
   -- a span of the first two arguments, and of the list of actions
   variable_moved : (x : Part) → Narrow x → span_moved s from a name UnknownVariable (part_word x) ≡ part_word (argument_site s 0 args x)
-  variable_moved x n = rw (count_is, ap (λ (b : Arguments). b.first) a-is) (span_settled s 0 args x n)
+  variable_moved x n = rw (count_is, ap (λ (b : Arguments). b.first) a_is) (span_settled s 0 args x n)
 
   operator_moved : (x : Part) → Narrow x → span_moved s from a name UnknownOperator (part_word x) ≡ part_word (argument_site s 1 args x)
-  operator_moved x n = rw (count_is, ap (λ (b : Arguments). b.second) a-is) (span_settled s 1 args x n)
+  operator_moved x n = rw (count_is, ap (λ (b : Arguments). b.second) a_is) (span_settled s 1 args x n)
 
   list_moved_lem : (k : Shape) (x : Part) → ListWhere k args x → pick (list_there a.count) (list_word s from (list_in a name).token (part_word x)) (part_word x) ≡ part_word (list_site s (list_number k) args x)
   list_moved_lem k x w =
-      rw (a-is, list_token name from.place args, w.number) (list_span_settled s from (list_within s from arrived short) x w.inside)
+      rw (a_is, list_token name from.place args, w.number) (list_span_settled s from (list_within s from arrived short) x w.inside)
 
   of_list : (why : ArgumentFault) (w : ℕ) → OfList why → span_moved s from a name why w ≡ pick (list_there a.count) (list_word s from (list_in a name).token w) w
   of_list UnknownVariable w h = absurd h
@@ -301,7 +301,7 @@ module _ (s : List ℕ) (from : Cursor) (arrived : Arrived s from) (short : leng
   targets_put : (x : Listed) (o n : ℕ) → TargetsWhere x → n ≡ length x.variables + length x.exclusions
       → token_moved s (ltb 0 a.count) a.first variable_words n (t.variables * variable_words) (stored_each variables (t.variables * variable_words) (Cores.records_from o x.variables x.exclusions))
       ≡ stored_each variables (t.variables * variable_words) (Cores.records_from o (sited_all (argument_site s 0 there) x.variables) (sited_all (argument_site s 0 there) x.exclusions))
-  targets_put x o n w c = rw (c, a-is) (variables_settled s there variables (t.variables * variable_words) o x.variables x.exclusions w.variables w.exclusions)
+  targets_put x o n w c = rw (c, a_is) (variables_settled s there variables (t.variables * variable_words) o x.variables x.exclusions w.variables w.exclusions)
 
   -- actions of the list with this number
   actions_put : (k o n : ℕ) (xs : List (Sourced Action)) → ListsWhere k there xs → n ≡ length xs
@@ -309,7 +309,7 @@ module _ (s : List ℕ) (from : Cursor) (arrived : Arrived s from) (short : leng
       (stored_each actions (t.actions * action_words) (Acts.records_from o xs))
       ≡ stored_each actions (t.actions * action_words) (Acts.records_from o (sited_all (list_site s k there) xs))
   actions_put k o n xs w c =
-      rw (c, a-is, list_token name from.place there)
+      rw (c, a_is, list_token name from.place there)
       (actions_settled s from (list_within s from arrived short) actions (t.actions * action_words) o xs (subst (λ (j : ℕ). EachInside (length (normalised (text_number j there))) xs) (sym w.number) w.inside)
       ∙ ap (λ (j : ℕ). stored_each actions (t.actions * action_words) (Acts.records_from o (sited_all (list_site s j there) xs))) w.number)
 

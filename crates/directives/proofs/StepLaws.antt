@@ -29,7 +29,7 @@ use Rattle.lexer.proofs.GivenLaws.{step_told}
 use types.Run.{OneOf}
 use denote.Enum.Declared.{tag_of}
 use Rattle.lexer.specs.contracts.stepping.Step.{the_type}
-use Rattle.directives.specs.Steps.{Token_is, None_is, Nexts}
+use Rattle.directives.specs.Steps.{Token-is, None-is, Nexts}
 use Rattle.directives.specs.declared.tokens.Next.{Next}
 use Rattle.directives.specs.declared.tokens.Next.TheVariants as Next
 
@@ -89,7 +89,7 @@ module _ (s : List ℕ) (here : Cursor) (held : ℕ) (scratch got : List ℕ) (r
   after_is : after ≡ placed scratch held (step_text step)
   after_is = lent_part scratch held (step_text step) read.1
 
-  token_is : (t : Token) (e : Spot) → step ≡ token t e → Token_is s here held scratch after (lexeme t e.here)
+  token_is : (t : Token) (e : Spot) → step ≡ token t e → Token-is s here held scratch after (lexeme t e.here)
   token_is t e q =
       let k : Taken (drop here.place s) here t e = subst (Of (Taken (drop here.place s) here)) q (next_taken (drop here.place s) here) in
       let m = k.made in
@@ -105,7 +105,7 @@ module _ (s : List ℕ) (here : Cursor) (held : ℕ) (scratch got : List ℕ) (r
         short = omega (arith, taken_place k, m.short, passed_length k.blanks);
       }
 
-  none_is : (stop : Cursor) → step ≡ nothing stop → None_is s here scratch after stop
+  none_is : (stop : Cursor) → step ≡ nothing stop → None-is s here scratch after stop
   none_is stop q = record {
     none = tokens_step (drop here.place s) here ∙ ap follow q;
     same = after_is ∙ ap (λ (n : T.Step). placed scratch held (step_text n)) q ∙ rw add-zero (take-append-drop held scratch);
@@ -115,18 +115,18 @@ module _ (s : List ℕ) (here : Cursor) (held : ℕ) (scratch got : List ℕ) (r
   next_is (nothing stop) q = none_is stop q
   next_is (token t e) q = token_is t e q
 
-  pub stepped_token : (l : Lexeme) → r ≡ Step.Token l → Token_is s here held scratch after l
+  pub stepped_token : (l : Lexeme) → r ≡ Step.Token l → Token-is s here held scratch after l
   stepped_token l e = go step refl (sym e ∙ step_is)
     where
-      go : (n : T.Step) → step ≡ n → Step.Token l ≡ step_of n → Token_is s here held scratch after l
+      go : (n : T.Step) → step ≡ n → Step.Token l ≡ step_of n → Token-is s here held scratch after l
       go (nothing c) q p = absurd (tag_apart p)
-      go (token t f) q p = subst (Token_is s here held scratch after) (ap (lexeme_of (lexeme t f.here)) (sym p)) (token_is t f q)
+      go (token t f) q p = subst (Token-is s here held scratch after) (ap (lexeme_of (lexeme t f.here)) (sym p)) (token_is t f q)
 
-  pub stepped_nothing : (stop : Cursor) → r ≡ Step.Nothing stop → None_is s here scratch after stop
+  pub stepped_nothing : (stop : Cursor) → r ≡ Step.Nothing stop → None-is s here scratch after stop
   stepped_nothing stop e = go step refl (sym e ∙ step_is)
     where
-      go : (n : T.Step) → step ≡ n → Step.Nothing stop ≡ step_of n → None_is s here scratch after stop
-      go (nothing c) q p = subst (None_is s here scratch after) (ap (stop_of c) (sym p)) (none_is c q)
+      go : (n : T.Step) → step ≡ n → Step.Nothing stop ≡ step_of n → None-is s here scratch after stop
+      go (nothing c) q p = subst (None-is s here scratch after) (ap (stop_of c) (sym p)) (none_is c q)
       go (token t f) q p = absurd (tag_apart (sym p))
 
   -- no other answer comes

@@ -28,7 +28,7 @@ use Rattle.directives.specs.Groups.{Item, joined, stray, items}
 use Rattle.directives.specs.Directives.{Body, Directive, Fault, untaken, stopped, id_missing, Result, bad, good, Shape, shape_of, body_by, sited, sited_body, sited_fault, last_past, placed as placed_at, directive_of, item_read, before, over, ending, end_of, directives}
 use Rattle.directives.specs.Versions.{Version, chained_on, asked_for, lead_by, leading, directives_for}
 use Rattle.directives.specs.Layout.{Reached, reached, body_text, directive_record, texts, listed_count, action_count, listed_counts, action_counts}
-use Rattle.directives.specs.Steps.{Laid, role_of, onward, Token_is, None_is, arguments_as, ends_at, taken_from, Took, reached_by, entry_of, listed_each, acted_each, Faulted, Wrote, Bodied, held_arguments, held_list, shrunk_by, Ready, entry_record, chain_behind, lacks_by, chained_by, tally_of, counted_on, directive_each, each_from, Written, AllRead, FirstFault, Ends, ended_at, ended_in}
+use Rattle.directives.specs.Steps.{Laid, role_of, onward, Token-is, None-is, arguments_as, ends_at, taken_from, Took, reached_by, entry_of, listed_each, acted_each, Faulted, Wrote, Bodied, held_arguments, held_list, shrunk_by, Ready, entry_record, chain_behind, lacks_by, chained_by, tally_of, counted_on, directive_each, each_from, Written, AllRead, FirstFault, Ends, ended_at, ended_in}
 use Rattle.directives.specs.Settling.{list_text, Heard, Stand, Settled, fault_moved}
 use Rattle.directives.specs.declared.Fault.{Fault as Told}
 use Rattle.directives.specs.declared.LineFault.TheVariants.{Stopped, Untaken, IdMissing}
@@ -125,7 +125,7 @@ module _ (version : Version) (s text₀ records₀ variables₀ actions₀ : Lis
 
     -- ---- the end of the text
 
-    module _ {scratch scratch' : List ℕ} {stop : Cursor} (x : None_is s here scratch scratch' stop) where
+    module _ {scratch scratch' : List ℕ} {stop : Cursor} (x : None-is s here scratch scratch' stop) where
       ends_in_lem : directives_for version s ≡ onto g.ds (end_of (length s) stop)
       unfolding over items
       ends_in_lem =
@@ -160,7 +160,7 @@ module _ (version : Version) (s text₀ records₀ variables₀ actions₀ : Lis
 
     -- ---- a token
 
-    module _ {scratch scratch₁ : List ℕ} {l : Lexeme} (x : Token_is s here 0 scratch scratch₁ l) where
+    module _ {scratch scratch₁ : List ℕ} {l : Lexeme} (x : Token-is s here 0 scratch scratch₁ l) where
       abbrev u : Token
       u = x.t
 

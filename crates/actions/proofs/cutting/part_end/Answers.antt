@@ -36,8 +36,7 @@ overflow_add-at-in-34-2 c = omega (arith, run_ends (goal.at.overflow_add-at-in-3
 
 pub returns-then-s-at : goal.returns-then-s-at
 returns-then-s-at c =
-    let d = c in
-    cutting_open d.loop-at.invariant d.loop-at-test.true (mark_is _ d.in-34.is) _ (run_is d) c.if-s-at.true
+    cutting_open c.loop-at.invariant c.loop-at-test.true (mark_is _ c.in-34.is) _ (run_is (goal.at.returns-then-s-at c).After-first_of) c.if-s-at.true
 
 pub overflow_add-depth : goal.overflow_add-depth
 overflow_add-depth c = omega (arith, c.loop-at.invariant.shallow)
@@ -46,27 +45,24 @@ pub returns-then-depth-eq0 : goal.returns-then-depth-eq0
 returns-then-depth-eq0 c = cutting_stop c.loop-at.invariant c.loop-at-test.true c.in-44.is c.if-depth-eq0.true
 
 -- by the arm that the byte took
-turned : (c : Joined-b) → let a = c.args in (c.loop-at.at ≤ c.in-34.at) × Cutting a.s.now a.from (c.in-34.at + 1) c.in-34.depth
+turned : (c : Joined-b) → let a = c.args in (c.loop-at.at ≤ c.match-b.at) × Cutting a.s.now a.from (c.match-b.at + 1) c.match-b.depth
 turned c =
     let x = c.loop-at.invariant in
     let h = c.loop-at-test.true in
-    let before = c in
+    let s = c.args.s.now in
+    let at = c.loop-at.at in
     ⊎_elim
-    (λ w.
-    let d : tie.After-first-of invariant-loop decreases-loop = record { before = record { before = record { before = before; match = w.0 }; first-of-arg = w.1 }; first_of_lem = w.2 } in
-    rw (w.4, w.5) (omega arith, cutting_closed x h (mark_is _ w.0.keys1) _ (run_is d) w.3.false))
+    (λ w. rw (w.at-is, w.depth-is) (omega arith, cutting_closed x h (mark_is _ w.in-34.is) _ (w.first_of.ensures ∙ ap (first_of (get_or s at 0)) (rest_is s (at + 1))) w.if-s-at.false))
     (⊎_elim
-    (λ w. rw (w.1, w.2) (omega arith, cutting_opened x h w.0.keys2))
+    (λ w. rw (w.at-is, w.depth-is) (omega arith, cutting_opened x h w.in-40.is))
     (⊎_elim
-    (λ w. rw (w.2, w.3) (omega arith, cutting_shut x h w.0.keys3))
+    (λ w. rw (w.at-is, w.depth-is) (omega arith, cutting_shut x h w.in-41.is))
     (⊎_elim
-    (λ w. let e : c.loop-at.depth - 1 ≡ c.loop-at.depth = omega (arith, w.1.false) in rw (w.2, w.3) (omega arith, rw e at (cutting_shut x h w.0.keys3)))
+    (λ w. let e : c.loop-at.depth - 1 ≡ c.loop-at.depth = omega (arith, w.if-depth-gt0.false) in rw (w.at-is, w.depth-is) (omega arith, rw e at (cutting_shut x h w.in-41.is)))
     (⊎_elim
-    (λ w. rw (w.2, w.3) (omega arith, cutting_deep x h w.0.keys4 w.1.false))
-    (λ w.
-    let r = w.0.rest in
-    rw (w.1, w.2) (omega arith, cutting_other x h (λ e. r.0.0.0.1 (inl e)) (λ e. r.0.0.0.1 (inr e)) r.0.0.1 r.0.1 r.1))))))
-    c.in-34.branch-raw
+    (λ w. rw (w.at-is, w.depth-is) (omega arith, cutting_deep x h w.in-44.is w.if-depth-eq0.false))
+    (λ w. rw (w.at-is, w.depth-is) (omega arith, cutting_other x h (grind arith) (grind arith) (omega arith) (omega arith) (omega arith)))))))
+    c.match-b.branch-raw
 
 pub overflow_add-at-in-loop-at : goal.overflow_add-at-in-loop-at
 overflow_add-at-in-loop-at c = omega (arith, (turned (goal.at.overflow_add-at-in-loop-at c).Joined-b).1.inside)

@@ -20,7 +20,8 @@ span_of-span-requires c = rw c.trimmed-part.ensures (alone_narrow c.args.input.n
 pub put_plan-used-requires : goal.put_plan-used-requires
 put_plan-used-requires c =
     let p = c.read_setvar-plan.ensures in
-    let r = alone_room c.args.input.now c.args.text.now c.args.records.now c.admit.ensures c.in-Open.is _ p in let whole = (p.inside, (omega (arith, r), omega (arith, r))) in record { inside = whole.0; plan_in_bounds = whole.1.0; plan_bound = whole.1.1 }
+    let r = alone_room c.args.input.now c.args.text.now c.args.records.now c.admit.ensures c.in-Open.is _ p in
+    record { inside = p.inside; plan_in_bounds = omega (arith, r); plan_bound = omega (arith, r) }
 
 pub returns : goal.returns
 returns c =

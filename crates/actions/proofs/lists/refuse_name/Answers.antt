@@ -12,4 +12,5 @@ use Rattle.actions.proofs.lists.refuse_name.Goals as goal
 pub returns : goal.returns
 returns c =
     let name = lowered c.args.name.now in
-    let e = c.store_lowered.ensures ∙ ap (λ (l : List ℕ). stored l 0 name) c.clear_bytes.ensures in let whole = (refused_text_lem c.args.text.now name e (omega (arith, c.requires, length-map c.args.name.now lower)), (c.clear_words.ensures, refl)) in record { text_after = whole.0; records_after = whole.1.0; value = whole.1.1 }
+    let e = c.store_lowered.ensures ∙ ap (λ (l : List ℕ). stored l 0 name) c.clear_bytes.ensures in
+    record { text_after = refused_text_lem c.args.text.now name e (omega (arith, c.requires, length-map c.args.name.now lower)); records_after = c.clear_words.ensures; value = refl }

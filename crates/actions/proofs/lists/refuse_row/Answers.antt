@@ -11,4 +11,5 @@ use Rattle.actions.proofs.lists.refuse_row.Goals as goal
 pub returns : goal.returns
 returns c =
     let name = (row_at c.args.row).name in
-    let e = c.put_name-name.ensures in let whole = (refused_text_lem c.args.text.now name (e.0 ∙ ap (λ (l : List ℕ). stored l 0 name) c.clear_bytes.ensures) c.requires, (c.clear_words.ensures, ap (λ (n : ℕ). badly c.args.flaw c.args.piece n c.args.span) e.1)) in record { text_after = whole.0; records_after = whole.1.0; value = whole.1.1 }
+    let e = c.put_name-name.ensures in
+    record { text_after = refused_text_lem c.args.text.now name (e.0 ∙ ap (λ (l : List ℕ). stored l 0 name) c.clear_bytes.ensures) c.requires; records_after = c.clear_words.ensures; value = ap (λ (n : ℕ). badly c.args.flaw c.args.piece n c.args.span) e.1 }

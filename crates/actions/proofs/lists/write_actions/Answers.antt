@@ -52,7 +52,9 @@ span_of-span-requires c = part_narrow c.loop-piece.invariant c.requires c.part_e
 
 pub put_plan-used-requires : goal.put_plan-used-requires
 put_plan-used-requires c =
-    let j = rw c.in-Done.is at c.read_single.ensures in let whole = (j.sound, room_for c.loop-piece.invariant c.requires c.part_end-end.result c.part_end-end.ensures c.trimmed-part.result c.trimmed-part.ensures c.if-first-past.true c.in-Done.plan j) in record { inside = whole.0; plan_in_bounds = whole.1.0; plan_bound = whole.1.1 }
+    let j = rw c.in-Done.is at c.read_single.ensures in
+    let room = room_for c.loop-piece.invariant c.requires c.part_end-end.result c.part_end-end.ensures c.trimmed-part.result c.trimmed-part.ensures c.if-first-past.true c.in-Done.plan j in
+    record { inside = j.sound; plan_in_bounds = room.0; plan_bound = room.1 }
 
 pub overflow_add-at : goal.overflow_add-at
 overflow_add-at c = let x = c.loop-piece.invariant in omega (arith, x.at_is, x.count_low, x.inside, started (goal.at.overflow_add-at c).Start)
@@ -103,8 +105,8 @@ returns-in-Unknown c =
 behind_part : (c : Joined-first-past) → Going c.args.s.now c.args.offset c.args.place c.args.text.now c.args.records.now c.if-first-past.text c.if-first-past.records (behind c.args.s.now c.part_end-end.result) c.part_end-end.result c.if-first-past.used c.if-first-past.count c.if-first-past.at c.if-first-past.id c.if-first-past.chain
 behind_part c =
     ⊎_elim
-    (λ w. rw (w.16, w.17, w.18, w.19, w.20 ∙ w.14.ensures, w.21 ∙ w.15.ensures, w.22) (acted c.loop-piece.invariant c.requires c.part_end-end.result c.part_end-end.ensures c.trimmed-part.result c.trimmed-part.ensures w.0.true w.5.given.0.0 (rw w.5.given.1 at w.3.ensures) (rw w.2.ensures at w.9.ensures)))
-    (λ w. rw (w.1, w.2, w.3, w.4, w.5, w.6, w.7) (passed c.loop-piece.invariant c.requires c.part_end-end.result c.part_end-end.ensures c.trimmed-part.result c.trimmed-part.ensures w.0.false))
+    (λ w. rw (w.text-is, w.records-is, w.used-is, w.count-is, w.id-is ∙ w.among-id.ensures, w.chain-is ∙ w.among-chain.ensures, w.at-is) (acted c.loop-piece.invariant c.requires c.part_end-end.result c.part_end-end.ensures c.trimmed-part.result c.trimmed-part.ensures w.if-first-past.true w.in-Done.plan (rw w.in-Done.is at w.read_single.ensures) (rw w.span_of-span.ensures at w.put_plan-used.ensures)))
+    (λ w. rw (w.text-is, w.records-is, w.used-is, w.count-is, w.id-is, w.chain-is, w.at-is) (passed c.loop-piece.invariant c.requires c.part_end-end.result c.part_end-end.ensures c.trimmed-part.result c.trimmed-part.ensures w.if-first-past.false))
     c.if-first-past.branch-raw
 
 pub shape_of-text-then-s-end : goal.shape_of-text-then-s-end

@@ -1,5 +1,6 @@
 -- Each arm of the match is the test that it stands for.
 use mathlib.Core.Path.{refl}
+use native.Mathlib.Omega.{arith}
 use borrow.Author.Tests.{ne_eqb}
 use Rattle.actions.specs.Normal.{text_given, mode_after}
 use Rattle.actions.proofs.normalising.held_act.Goals as goal
@@ -20,5 +21,4 @@ pub returns-in_default : goal.returns-in_default
 unfolding text_given mode_after
 returns-in_default c =
     let b = c.args.b in
-    let r = c.in-10.rest in
-    simp (ne_eqb b 10 r.0.0.1, ne_eqb b 13 r.0.1, ne_eqb b 92 r.1) (refl, refl)
+    simp (ne_eqb b 10 (omega arith), ne_eqb b 13 (omega arith), ne_eqb b 92 (omega arith)) (refl, refl)

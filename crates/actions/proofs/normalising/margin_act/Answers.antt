@@ -1,12 +1,13 @@
 -- Whitespace other than a line feed vanishes, and any other byte is as in plain text.
 use mathlib.Core.Path.{refl}
-use mathlib.Core.Logic.{◌⊎◌, inl, inr, ⊎_elim}
+use mathlib.Core.Logic.{◌⊎◌, inl, inr}
 use Prim.Native.Nat.{◌<◌}
 use native.Mathlib.Omega.{arith}
 use Rattle.ascii.specs.Classes.{white}
 use Rattle.places.proofs.ActLaws.{skipped_range, skipped_not}
 use Rattle.actions.specs.Normal.{text_given, mode_after}
 use Rattle.actions.proofs.normalising.margin_act.Goals as goal
+use Rattle.actions.proofs.normalising.margin_act.Goals.{in_default-via-then-b-lt11, in_default-via-else-b-lt11+else-b-lt14}
 
 pub returns-in-9 : goal.returns-in-9
 unfolding text_given mode_after white
@@ -23,8 +24,6 @@ returns-in-11-to-13 c = rw (skipped_range c.args.b (omega arith) (omega arith)) 
 pub returns-in_default : goal.returns-in_default
 unfolding text_given mode_after
 returns-in_default c =
-    let j = c in
-    let r = j.in-9.rest in
-    let b = j.args.b in
-    let o : (b < 11) ⊎ (13 < b) = ⊎_elim (λ w. inl w.true) (λ w. inr (omega (arith, w.1.false))) j.if-b-lt11.branch-raw in
-    rw (skipped_not b r.0.1 o r.1) c.plain_act.ensures
+    let b = c.args.b in
+    let o : (b < 11) ⊎ (13 < b) = elim c.in_default.branch [ in_default-via-then-b-lt11 w ↦ inl (omega arith) | in_default-via-else-b-lt11+else-b-lt14 w ↦ inr (omega arith) ] in
+    rw (skipped_not b (omega arith) o (omega arith)) c.plain_act.ensures

@@ -26,5 +26,4 @@ slice_bounds-store_bytes-end c = omega (arith, fits (goal.at.slice_bounds-store_
 
 pub returns : goal.returns
 returns c =
-    let d = c in
-    record { place = ap (λ (k : ℕ). d.args.i + k) (span_is d); text = c.store_bytes.ensures }
+    record { place = ap (λ (k : ℕ). c.args.i + k) (span_is (goal.at.returns c).After-first_of); text = c.store_bytes.ensures }

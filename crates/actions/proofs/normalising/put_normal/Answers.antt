@@ -3,6 +3,7 @@ use mathlib.Core.Logic.{⊎_elim}
 use Prim.Native.Nat.{◌+◌, ◌-◌, ◌≤◌}
 use native.Mathlib.Omega.{arith}
 use borrow.Author.Rules.{rules}
+use borrow.Enum.Refused.{opened}
 use lib.ListN.{length-set}
 use Rattle.actions.specs.Normal.{Mode}
 use Rattle.actions.proofs.NormalLoop.{Normalising, normalising_none}
@@ -13,7 +14,7 @@ use Rattle.actions.proofs.normalising.put_normal.Goals.{After-pass_plain-past, J
 
 -- past a plain span
 spanned : (c : After-pass_plain-past) →
-    let l = c.loop-mode in let a = c.args in let r = c.pass_plain-past.result in (l.i ≤ r) × Normalising a.s.now a.out.now c.pass_plain-past.new.1.1.0 l.mode r (l.n + (r - l.i))
+    let l = c.loop-mode in let a = c.args in let r = c.pass_plain-past.result in (l.i ≤ r) × Normalising a.s.now a.out.now c.pass_plain-past.new.out l.mode r (l.n + (r - l.i))
 spanned c =
     let l = c.loop-mode in
     let a = c.args in
@@ -23,15 +24,17 @@ spanned c =
 
 -- where the two ways meet
 passed : (c : Joined-mode) →
-    let a = c.args in (c.loop-mode.i ≤ c.in-Plain.i) × Normalising a.s.now a.out.now c.in-Plain.out c.loop-mode.mode c.in-Plain.i c.in-Plain.n
+    let a = c.args in (c.loop-mode.i ≤ c.match-mode.i) × Normalising a.s.now a.out.now c.match-mode.out c.loop-mode.mode c.match-mode.i c.match-mode.n
 passed c =
-    let before = c in
+    let a = c.args in
+    let l = c.loop-mode in
     ⊎_elim
     (λ w.
-    let d : tie.After-pass-plain invariant-loop decreases-loop = record { before = record { before = record { before = record { before = before; match = w.0 }; enum_told = w.1 }; pass-plain-arg = w.2 }; pass-plain = w.3 } in
-    rw (w.6, w.7, w.8) (spanned d))
-    (λ w. rw (w.1, w.2, w.3) (omega arith, before.loop-mode.invariant))
-    c.in-Plain.branch-raw
+    let e = w.in-Plain.is in
+    let x = subst (λ (m : Mode). Normalising a.s.now a.out.now l.out m l.i l.n) e l.invariant in
+    rw (w.out-is, w.i-is, w.n-is, e) (passed_on c.requires x w.pass_plain-past.ensures))
+    (λ w. rw (w.out-is, w.i-is, w.n-is) (omega arith, l.invariant))
+    c.match-mode.branch-raw
 
 pub loop-mode-init : goal.loop-mode-init
 loop-mode-init c = normalising_none _ _
@@ -53,39 +56,33 @@ bounds-s-i c = omega arith
 
 pub bounds-out-n : goal.bounds-out-n
 bounds-out-n c =
-    let d = c in
-    let j = d in
-    room_one j.requires (passed j).1 d.if-s-i.false d.act_of.ensures c.in-Gives.is
+    let p = passed (goal.at.bounds-out-n c).Joined-mode in
+    room_one c.requires p.1 c.if-s-i.false c.act_of.ensures c.in-Gives.is
 
 pub overflow_add-n-in-Gives : goal.overflow_add-n-in-Gives
 overflow_add-n-in-Gives c =
-    let d = c in
-    let j = d in
-    omega (arith, room_one j.requires (passed j).1 d.if-s-i.false d.act_of.ensures c.in-Gives.is, (passed j).1.paid, (passed j).1.inside)
+    let p = passed (goal.at.overflow_add-n-in-Gives c).Joined-mode in
+    omega (arith, room_one c.requires p.1 c.if-s-i.false c.act_of.ensures c.in-Gives.is, p.1.paid, p.1.inside)
 
 pub bounds-out-n-in-Keeps : goal.bounds-out-n-in-Keeps
 bounds-out-n-in-Keeps c =
-    let d = c in
-    let j = d in
-    omega (arith, room_two j.requires (passed j).1 d.if-s-i.false d.act_of.ensures c.in-Keeps.is)
+    let p = passed (goal.at.bounds-out-n-in-Keeps c).Joined-mode in
+    omega (arith, room_two c.requires p.1 c.if-s-i.false c.act_of.ensures c.in-Keeps.is)
 
 pub overflow_add-out : goal.overflow_add-out
 overflow_add-out c =
-    let d = c in
-    let j = d in
-    omega (arith, (passed j).1.paid, d.if-s-i.false)
+    let p = passed (goal.at.overflow_add-out c).Joined-mode in
+    omega (arith, p.1.paid, c.if-s-i.false)
 
 pub bounds-out-n-in-Keeps-2 : goal.bounds-out-n-in-Keeps-2
 bounds-out-n-in-Keeps-2 c =
-    let d = c in
-    let j = d in
-    simp length-set (room_two j.requires (passed j).1 d.if-s-i.false d.act_of.ensures c.in-Keeps.is)
+    let p = passed (goal.at.bounds-out-n-in-Keeps-2 c).Joined-mode in
+    simp length-set (room_two c.requires p.1 c.if-s-i.false c.act_of.ensures c.in-Keeps.is)
 
 pub overflow_add-n-in-Keeps : goal.overflow_add-n-in-Keeps
 overflow_add-n-in-Keeps c =
-    let d = c in
-    let j = d in
-    omega (arith, (acted_two j.requires (passed j).1 d.if-s-i.false d.act_of.ensures c.in-Keeps.is).written.fits)
+    let p = passed (goal.at.overflow_add-n-in-Keeps c).Joined-mode in
+    omega (arith, (acted_two c.requires p.1 c.if-s-i.false c.act_of.ensures c.in-Keeps.is).written.fits)
 
 pub overflow_add-i : goal.overflow_add-i
 overflow_add-i c = omega (arith, c.if-s-i.false)
@@ -95,43 +92,42 @@ loop-mode-smaller c = omega (arith, c.if-s-i.false, (passed (goal.at.loop-mode-s
 
 pub loop-mode-preserved : goal.loop-mode-preserved
 loop-mode-preserved c =
-    let d = c in
-    let j = d in
-    let r = j.requires in
-    let x = (passed j).1 in
-    let k = d.if-s-i.false in
-    let e = d.act_of.ensures in
+    let p = passed (goal.at.loop-mode-preserved c).Joined-mode in
+    let r = c.requires in
+    let x = p.1 in
+    let k = c.if-s-i.false in
+    let e = c.act_of.ensures in
     ⊎_elim
-    (λ w. rw (w.3, w.4, w.5) (acted_none r x k e w.1.given.1))
+    (λ w. rw (w.out-is, w.n-is, w.mode-is) (acted_none r x k e w.in-Vanishes.is))
     (⊎_elim
-    (λ w. rw (w.4, w.5, w.6) (acted_one r x k e w.1.given.1))
-    (λ w. rw (w.4, w.5, w.6) (acted_two r x k e w.1.given.1)))
-    c.in-Vanishes.branch-raw
+    (λ w. rw (w.out-is, w.n-is, w.mode-is) (acted_one r x k e w.in-Gives.is))
+    (λ w. rw (w.out-is, w.n-is, w.mode-is) (acted_two r x k e w.in-Keeps.is)))
+    c.match-act_of.branch-raw
 
 pub bounds-out-n-in-Held : goal.bounds-out-n-in-Held
 bounds-out-n-in-Held c =
-    let j = c in
-    held_room j.requires (passed j).1 c.if-s-i.true c.in-Held.is
+    let p = passed (goal.at.bounds-out-n-in-Held c).Joined-mode in
+    held_room c.requires p.1 c.if-s-i.true c.in-Held.is
 
 pub overflow_add-n-in-Held : goal.overflow_add-n-in-Held
 overflow_add-n-in-Held c =
-    let j = c in
-    omega (arith, (passed j).1.paid, (passed j).1.inside, held_room j.requires (passed j).1 c.if-s-i.true c.in-Held.is)
+    let p = passed (goal.at.overflow_add-n-in-Held c).Joined-mode in
+    omega (arith, p.1.paid, p.1.inside, held_room c.requires p.1 c.if-s-i.true c.in-Held.is)
 
 pub shape_of-out-in-Held : goal.shape_of-out-in-Held
 shape_of-out-in-Held c =
-    let j = c in
-    length-set j.in-Plain.out j.in-Plain.n 92 ∙ (passed j).1.written.long
+    let p = passed (goal.at.shape_of-out-in-Held c).Joined-mode in
+    length-set c.match-mode.out c.match-mode.n 92 ∙ p.1.written.long
 
 pub returns-in-Held : goal.returns-in-Held
 returns-in-Held c =
-    let j = c in
-    held_all j.requires (passed j).1 c.if-s-i.true c.in-Held.is
+    let p = passed (goal.at.returns-in-Held c).Joined-mode in
+    held_all c.requires p.1 c.if-s-i.true c.in-Held.is
 
 pub shape_of-out-in_default-mode : goal.shape_of-out-in_default-mode
 shape_of-out-in_default-mode c = (passed (goal.at.shape_of-out-in_default-mode c).Joined-mode).1.written.long
 
 pub returns-in_default-mode : goal.returns-in_default-mode
 returns-in_default-mode c =
-    let j = c in
-    ended_all j.requires (passed j).1 c.if-s-i.true c.in-Held.keys2
+    let p = passed (goal.at.returns-in_default-mode c).Joined-mode in
+    ended_all c.requires p.1 c.if-s-i.true (opened c.in_default-mode.in_default-mode-own.keys2)

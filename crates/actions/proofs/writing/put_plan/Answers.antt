@@ -4,13 +4,13 @@ use Rattle.actions.proofs.WritingLaws.{plan_length, put_all}
 use Rattle.actions.proofs.writing.put_plan.Goals as goal
 
 pub put_text-b-requires : goal.put_text-b-requires
-put_text-b-requires c = record { lies = c.requires.inside.a; origin_in_bounds = omega (arith, plan_length c.args.s.now c.args.plan, c.requires.1) }
+put_text-b-requires c = record { lies = c.requires.inside.a; origin_in_bounds = omega (arith, plan_length c.args.s.now c.args.plan, c.requires.plan_in_bounds) }
 
 pub put_text-c-requires : goal.put_text-c-requires
-put_text-c-requires c = record { lies = c.requires.inside.b; origin_in_bounds = omega (arith, plan_length c.args.s.now c.args.plan, c.requires.1, c.put_text-b.ensures.value, c.put_text-b.auto) }
+put_text-c-requires c = record { lies = c.requires.inside.b; origin_in_bounds = omega (arith, plan_length c.args.s.now c.args.plan, c.requires.plan_in_bounds, c.put_text-b.ensures.value, c.put_text-b.auto) }
 
 pub put_text-end-requires : goal.put_text-end-requires
-put_text-end-requires c = record { lies = c.requires.inside.c; origin_in_bounds = omega (arith, plan_length c.args.s.now c.args.plan, c.requires.1, c.put_text-b.ensures.value, c.put_text-b.auto, c.put_text-c.ensures.value, c.put_text-c.auto) }
+put_text-end-requires c = record { lies = c.requires.inside.c; origin_in_bounds = omega (arith, plan_length c.args.s.now c.args.plan, c.requires.plan_in_bounds, c.put_text-b.ensures.value, c.put_text-b.auto, c.put_text-c.ensures.value, c.put_text-c.auto) }
 
 pub word_of-requires : goal.word_of-requires
 word_of-requires c = record { at_le_end = omega (arith, plan_length c.args.s.now c.args.plan, c.requires, c.put_text-b.ensures.value); end_lt_span_base = omega (arith, plan_length c.args.s.now c.args.plan, c.requires, c.put_text-b.ensures.value) }

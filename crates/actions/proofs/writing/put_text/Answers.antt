@@ -37,7 +37,7 @@ pub overflow_add-result-in-Lowered : goal.overflow_add-result-in-Lowered
 overflow_add-result-in-Lowered c = omega (arith, lowered_long c.args.s.now _ _ _ c.requires.lies c.in-Lowered.is, c.requires.origin_in_bounds)
 
 pub returns-in-Absent : goal.returns-in-Absent
-returns-in-Absent c = rw c.in-Absent.is (sym (stored_none _ _), omega arith)
+returns-in-Absent c = record { text_after = rw c.in-Absent.is (sym (stored_none _ _)); value = rw c.in-Absent.is (omega arith) }
 
 pub returns-in-Copied : goal.returns-in-Copied
 returns-in-Copied c = let whole = copied_put c.args.s.now _ _ _ c.requires.lies c.in-Copied.is _ _ c.store_bytes.ensures in record { text_after = whole.0; value = whole.1 }
@@ -47,8 +47,8 @@ returns-in-Lowered c = let whole = lowered_put c.args.s.now _ _ _ c.requires.lie
 
 pub returns-in-Tx : goal.returns-in-Tx
 unfolding bytes
-returns-in-Tx c = rw c.in-Tx.is (c.store_bytes-in-Tx.ensures, omega arith)
+returns-in-Tx c = record { text_after = rw c.in-Tx.is c.store_bytes-in-Tx.ensures; value = rw c.in-Tx.is (omega arith) }
 
 pub returns-in-One : goal.returns-in-One
 unfolding bytes
-returns-in-One c = rw c.in-One.is (c.store_bytes-in-One.ensures, omega arith)
+returns-in-One c = record { text_after = rw c.in-One.is c.store_bytes-in-One.ensures; value = rw c.in-One.is (omega arith) }

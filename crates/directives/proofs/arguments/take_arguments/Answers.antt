@@ -8,7 +8,7 @@ pub loop-t-init : goal.loop-t-init
 loop-t-init c = let a = c.args in let p = c.requires in begun a.s.now a.from a.past a.held a.scratch.now p.s_len_bound p.s_in_bounds.0 p.s_in_bounds.1.0 p.s_in_bounds.1.1 p.reached c.none_yet-arguments.ensures
 
 pub token_from-requires : goal.token_from-requires
-token_from-requires c = let a = c.args in let p = c.requires in let whole = (p.s_len_bound, (c.loop-t.invariant.arrived, going_low a.s.now a.from a.past a.held a.scratch.now p.s_len_bound p.s_in_bounds.0 p.s_in_bounds.1.0 p.s_in_bounds.1.1 p.reached c.loop-t.invariant)) in record { s_len_bound = whole.0; reached = whole.1.0; s_in_bounds = whole.1.1 }
+token_from-requires c = let a = c.args in let p = c.requires in record { s_len_bound = p.s_len_bound; reached = c.loop-t.invariant.arrived; s_in_bounds = going_low a.s.now a.from a.past a.held a.scratch.now p.s_len_bound p.s_in_bounds.0 p.s_in_bounds.1.0 p.s_in_bounds.1.1 p.reached c.loop-t.invariant }
 
 pub returns-in-Nothing : goal.returns-in-Nothing
 returns-in-Nothing c = let a = c.args in let p = c.requires in none_left a.s.now a.from a.past a.held a.scratch.now p.s_len_bound p.s_in_bounds.0 p.s_in_bounds.1.0 p.s_in_bounds.1.1 p.reached c.loop-t.invariant (rw c.in-Nothing.is at c.token_from.ensures)

@@ -29,4 +29,4 @@ pub returns-in-Unknown : goal.returns-in-Unknown
 returns-in-Unknown c = let a = c.args in rw c.in_argument.ensures (operator_unknown a.e a.line a.s.now a.text.now _ c.operator_in.ensures _ _ c.in-Unknown.is _ c.span-span.ensures)
 
 pub returns-in_default : goal.returns-in_default
-returns-in_default c = let a = c.args in absurd (operator_never a.e a.line a.s.now a.text.now _ c.operator_in.ensures c.in-Parsed.keys3)
+returns-in_default c = let a = c.args in absurd (operator_never a.e a.line a.s.now a.text.now _ c.operator_in.ensures c.in_default.in_default-own.keys3)

@@ -28,9 +28,9 @@ pub returns-in-First : goal.returns-in-First
 returns-in-First c =
     let a = c.args in
     let k = c.read_all-ended.auto in
-    refused a.version a.input.now a.text.now a.scratch.now a.records.now a.variables.now a.actions.now refl c.admit.ensures c.in-Open.is (c.clear_bytes.ensures ∙ ap zeros k.1.1.1.0) (rw c.in-First.is at c.read_all-ended.ensures) k.1.1.0 k.1.1.1.1.0 k.1.1.1.1.1.0 k.1.1.1.1.1.1.0 c.refuse.ensures
+    refused a.version a.input.now a.text.now a.scratch.now a.records.now a.variables.now a.actions.now refl c.admit.ensures c.in-Open.is (c.clear_bytes.ensures ∙ ap zeros k.scratch) (rw c.in-First.is at c.read_all-ended.ensures) k.text k.records k.variables k.actions c.refuse.ensures
 
 pub returns-in-All : goal.returns-in-All
 returns-in-All c =
     let a = c.args in
-    finished a.version a.input.now a.text.now a.scratch.now a.records.now a.variables.now a.actions.now refl c.admit.ensures c.in-Open.is (c.clear_bytes.ensures ∙ ap zeros c.read_all-ended.auto.1.1.1.0) (rw c.in-All.is at c.read_all-ended.ensures) c.finish.ensures
+    finished a.version a.input.now a.text.now a.scratch.now a.records.now a.variables.now a.actions.now refl c.admit.ensures c.in-Open.is (c.clear_bytes.ensures ∙ ap zeros c.read_all-ended.auto.scratch) (rw c.in-All.is at c.read_all-ended.ensures) c.finish.ensures

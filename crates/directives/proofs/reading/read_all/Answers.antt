@@ -9,13 +9,13 @@ pub loop-stop-init : goal.loop-stop-init
 loop-stop-init c = (rw c.nothing_yet-t.ensures (begun c.args.version c.args.s.now c.args.text.now c.args.records.now c.args.variables.now c.args.actions.now c.requires.0 c.requires.1.0 _ c.start-here.ensures), refl)
 
 pub token_from-requires : goal.token_from-requires
-token_from-requires c = let whole = (c.requires.0, (c.loop-stop.invariant.0.arrived, (omega (arith, c.loop-stop.invariant.1, c.requires.1.1), omega arith))) in record { s_len_bound = whole.0; reached = whole.1.0; s_in_bounds = whole.1.1 }
+token_from-requires c = record { s_len_bound = c.requires.0; reached = c.loop-stop.invariant.0.arrived; s_in_bounds = (omega (arith, c.loop-stop.invariant.1, c.requires.1.1), omega arith) }
 
 pub shape_of-text-in-Nothing : goal.shape_of-text-in-Nothing
 shape_of-text-in-Nothing c = (lengths c.args.version c.args.s.now c.args.text.now c.args.records.now c.args.variables.now c.args.actions.now c.requires.0 c.requires.1.0 c.loop-stop.invariant.0).0
 
 pub shape_of-scratch-in-Nothing : goal.shape_of-scratch-in-Nothing
-shape_of-scratch-in-Nothing c = c.token_from.auto.1.1.0 ∙ c.loop-stop.invariant.1
+shape_of-scratch-in-Nothing c = c.token_from.auto.scratch ∙ c.loop-stop.invariant.1
 
 pub shape_of-records-in-Nothing : goal.shape_of-records-in-Nothing
 shape_of-records-in-Nothing c = (lengths c.args.version c.args.s.now c.args.text.now c.args.records.now c.args.variables.now c.args.actions.now c.requires.0 c.requires.1.0 c.loop-stop.invariant.0).1.0
@@ -33,7 +33,7 @@ pub shape_of-text-in-Argues : goal.shape_of-text-in-Argues
 shape_of-text-in-Argues c = (lengths c.args.version c.args.s.now c.args.text.now c.args.records.now c.args.variables.now c.args.actions.now c.requires.0 c.requires.1.0 c.loop-stop.invariant.0).0
 
 pub shape_of-scratch-in-Argues : goal.shape_of-scratch-in-Argues
-shape_of-scratch-in-Argues c = c.token_from.auto.1.1.0 ∙ c.loop-stop.invariant.1
+shape_of-scratch-in-Argues c = c.token_from.auto.scratch ∙ c.loop-stop.invariant.1
 
 pub shape_of-records-in-Argues : goal.shape_of-records-in-Argues
 shape_of-records-in-Argues c = (lengths c.args.version c.args.s.now c.args.text.now c.args.records.now c.args.variables.now c.args.actions.now c.requires.0 c.requires.1.0 c.loop-stop.invariant.0).1.0
@@ -51,52 +51,52 @@ pub loop-stop-smaller-in-Closes : goal.loop-stop-smaller-in-Closes
 loop-stop-smaller-in-Closes c = let x = (rw c.in-Token.is at c.token_from.ensures) in omega (arith, x.ahead, x.arrived.inside)
 
 pub loop-stop-preserved-in-Closes : goal.loop-stop-preserved-in-Closes
-loop-stop-preserved-in-Closes c = (passed c.args.version c.args.s.now c.args.text.now c.args.records.now c.args.variables.now c.args.actions.now c.requires.0 c.requires.1.0 c.loop-stop.invariant.0 (rw c.in-Token.is at c.token_from.ensures) (sym c.role_of.ensures ∙ c.in-Closes.is), c.token_from.auto.1.1.0 ∙ c.loop-stop.invariant.1)
+loop-stop-preserved-in-Closes c = (passed c.args.version c.args.s.now c.args.text.now c.args.records.now c.args.variables.now c.args.actions.now c.requires.0 c.requires.1.0 c.loop-stop.invariant.0 (rw c.in-Token.is at c.token_from.ensures) (sym c.role_of.ensures ∙ c.in-Closes.is), c.token_from.auto.scratch ∙ c.loop-stop.invariant.1)
 
 pub take_arguments-taken-requires : goal.take_arguments-taken-requires
-take_arguments-taken-requires c = let x = (rw c.in-Token.is at c.token_from.ensures) in let whole = (c.requires.0, (x.arrived, (omega (arith, c.token_from.auto.1.1.0, c.loop-stop.invariant.1, c.requires.1.1), (omega (arith, x.short, ap (λ (m : Lexeme). m.len) x.is), omega arith)))) in record { s_len_bound = whole.0; reached = whole.1.0; s_in_bounds = whole.1.1 }
+take_arguments-taken-requires c = let x = (rw c.in-Token.is at c.token_from.ensures) in record { s_len_bound = c.requires.0; reached = x.arrived; s_in_bounds = (omega (arith, c.token_from.auto.scratch, c.loop-stop.invariant.1, c.requires.1.1), (omega (arith, x.short, ap (λ (m : Lexeme). m.len) x.is), omega arith)) }
 
 pub read_body-requires : goal.read_body-requires
 read_body-requires c = ready c.args.version c.args.s.now c.args.text.now c.args.records.now c.args.variables.now c.args.actions.now c.requires.0 c.requires.1.0 c.loop-stop.invariant.0 (rw c.in-Token.is at c.token_from.ensures) (omega (arith, c.loop-stop.invariant.1, c.requires.1.1)) (sym c.role_of.ensures ∙ c.in-Opens.is) c.take_arguments-taken.ensures
 
 pub settle_fault-requires : goal.settle_fault-requires
-settle_fault-requires c = (heard c.args.version c.args.s.now c.args.text.now c.args.records.now c.args.variables.now c.args.actions.now c.requires.0 c.requires.1.0 c.loop-stop.invariant.0 (rw c.in-Token.is at c.token_from.ensures) (omega (arith, c.loop-stop.invariant.1, c.requires.1.1)) (sym c.role_of.ensures ∙ c.in-Opens.is) c.take_arguments-taken.ensures _ c.read_body.auto.1.0, c.take_arguments-taken.ensures.arguments_are, stand c.args.version c.args.s.now c.args.text.now c.args.records.now c.args.variables.now c.args.actions.now c.requires.0 c.requires.1.0 c.loop-stop.invariant.0 (rw c.in-Token.is at c.token_from.ensures) (omega (arith, c.loop-stop.invariant.1, c.requires.1.1)) (sym c.role_of.ensures ∙ c.in-Opens.is) c.take_arguments-taken.ensures)
+settle_fault-requires c = (heard c.args.version c.args.s.now c.args.text.now c.args.records.now c.args.variables.now c.args.actions.now c.requires.0 c.requires.1.0 c.loop-stop.invariant.0 (rw c.in-Token.is at c.token_from.ensures) (omega (arith, c.loop-stop.invariant.1, c.requires.1.1)) (sym c.role_of.ensures ∙ c.in-Opens.is) c.take_arguments-taken.ensures _ c.read_body.auto.scratch, c.take_arguments-taken.ensures.arguments_are, stand c.args.version c.args.s.now c.args.text.now c.args.records.now c.args.variables.now c.args.actions.now c.requires.0 c.requires.1.0 c.loop-stop.invariant.0 (rw c.in-Token.is at c.token_from.ensures) (omega (arith, c.loop-stop.invariant.1, c.requires.1.1)) (sym c.role_of.ensures ∙ c.in-Opens.is) c.take_arguments-taken.ensures)
 
 pub shape_of-text-in-Bad : goal.shape_of-text-in-Bad
-shape_of-text-in-Bad c = c.read_body.auto.1.1.1.1.0 ∙ (lengths c.args.version c.args.s.now c.args.text.now c.args.records.now c.args.variables.now c.args.actions.now c.requires.0 c.requires.1.0 c.loop-stop.invariant.0).0
+shape_of-text-in-Bad c = c.read_body.auto.text ∙ (lengths c.args.version c.args.s.now c.args.text.now c.args.records.now c.args.variables.now c.args.actions.now c.requires.0 c.requires.1.0 c.loop-stop.invariant.0).0
 
 pub shape_of-scratch-in-Bad : goal.shape_of-scratch-in-Bad
-shape_of-scratch-in-Bad c = c.settle_fault.auto.1.1.1.1.0 ∙ c.read_body.auto.1.0 ∙ c.take_arguments-taken.auto.1.1.1.0 ∙ c.token_from.auto.1.1.0 ∙ c.loop-stop.invariant.1
+shape_of-scratch-in-Bad c = c.settle_fault.auto.scratch ∙ c.read_body.auto.scratch ∙ c.take_arguments-taken.auto.scratch ∙ c.token_from.auto.scratch ∙ c.loop-stop.invariant.1
 
 pub shape_of-records-in-Bad : goal.shape_of-records-in-Bad
 shape_of-records-in-Bad c = (lengths c.args.version c.args.s.now c.args.text.now c.args.records.now c.args.variables.now c.args.actions.now c.requires.0 c.requires.1.0 c.loop-stop.invariant.0).1.0
 
 pub shape_of-variables-in-Bad : goal.shape_of-variables-in-Bad
-shape_of-variables-in-Bad c = c.read_body.auto.1.1.1.1.1.0 ∙ (lengths c.args.version c.args.s.now c.args.text.now c.args.records.now c.args.variables.now c.args.actions.now c.requires.0 c.requires.1.0 c.loop-stop.invariant.0).1.1.0
+shape_of-variables-in-Bad c = c.read_body.auto.variables ∙ (lengths c.args.version c.args.s.now c.args.text.now c.args.records.now c.args.variables.now c.args.actions.now c.requires.0 c.requires.1.0 c.loop-stop.invariant.0).1.1.0
 
 pub shape_of-actions-in-Bad : goal.shape_of-actions-in-Bad
-shape_of-actions-in-Bad c = c.read_body.auto.1.1.1.1.1.1.0 ∙ (lengths c.args.version c.args.s.now c.args.text.now c.args.records.now c.args.variables.now c.args.actions.now c.requires.0 c.requires.1.0 c.loop-stop.invariant.0).1.1.1
+shape_of-actions-in-Bad c = c.read_body.auto.actions ∙ (lengths c.args.version c.args.s.now c.args.text.now c.args.records.now c.args.variables.now c.args.actions.now c.requires.0 c.requires.1.0 c.loop-stop.invariant.0).1.1.1
 
 pub returns-in-Bad : goal.returns-in-Bad
 returns-in-Bad c = rw c.settle_fault.ensures (faulty c.args.version c.args.s.now c.args.text.now c.args.records.now c.args.variables.now c.args.actions.now c.requires.0 c.requires.1.0 c.loop-stop.invariant.0 (rw c.in-Token.is at c.token_from.ensures) (omega (arith, c.loop-stop.invariant.1, c.requires.1.1)) (sym c.role_of.ensures ∙ c.in-Opens.is) c.take_arguments-taken.ensures _ refl _ _ _ _ (rw c.in-Bad.is at c.read_body.ensures))
 
 pub settle-requires : goal.settle-requires
-settle-requires c = record { heard = (heard c.args.version c.args.s.now c.args.text.now c.args.records.now c.args.variables.now c.args.actions.now c.requires.0 c.requires.1.0 c.loop-stop.invariant.0 (rw c.in-Token.is at c.token_from.ensures) (omega (arith, c.loop-stop.invariant.1, c.requires.1.1)) (sym c.role_of.ensures ∙ c.in-Opens.is) c.take_arguments-taken.ensures _ c.read_body.auto.1.0, c.take_arguments-taken.ensures.arguments_are, stand c.args.version c.args.s.now c.args.text.now c.args.records.now c.args.variables.now c.args.actions.now c.requires.0 c.requires.1.0 c.loop-stop.invariant.0 (rw c.in-Token.is at c.token_from.ensures) (omega (arith, c.loop-stop.invariant.1, c.requires.1.1)) (sym c.role_of.ensures ∙ c.in-Opens.is) c.take_arguments-taken.ensures); variables_le_limit = tally_low c.args.version c.args.s.now c.args.text.now c.args.records.now c.args.variables.now c.args.actions.now c.requires.0 c.requires.1.0 c.loop-stop.invariant.0 (rw c.in-Token.is at c.token_from.ensures) (omega (arith, c.loop-stop.invariant.1, c.requires.1.1)) (sym c.role_of.ensures ∙ c.in-Opens.is) c.take_arguments-taken.ensures }
+settle-requires c = record { heard = (heard c.args.version c.args.s.now c.args.text.now c.args.records.now c.args.variables.now c.args.actions.now c.requires.0 c.requires.1.0 c.loop-stop.invariant.0 (rw c.in-Token.is at c.token_from.ensures) (omega (arith, c.loop-stop.invariant.1, c.requires.1.1)) (sym c.role_of.ensures ∙ c.in-Opens.is) c.take_arguments-taken.ensures _ c.read_body.auto.scratch, c.take_arguments-taken.ensures.arguments_are, stand c.args.version c.args.s.now c.args.text.now c.args.records.now c.args.variables.now c.args.actions.now c.requires.0 c.requires.1.0 c.loop-stop.invariant.0 (rw c.in-Token.is at c.token_from.ensures) (omega (arith, c.loop-stop.invariant.1, c.requires.1.1)) (sym c.role_of.ensures ∙ c.in-Opens.is) c.take_arguments-taken.ensures); variables_le_limit = tally_low c.args.version c.args.s.now c.args.text.now c.args.records.now c.args.variables.now c.args.actions.now c.requires.0 c.requires.1.0 c.loop-stop.invariant.0 (rw c.in-Token.is at c.token_from.ensures) (omega (arith, c.loop-stop.invariant.1, c.requires.1.1)) (sym c.role_of.ensures ∙ c.in-Opens.is) c.take_arguments-taken.ensures }
 
 pub shape_of-text-then-lacks_id : goal.shape_of-text-then-lacks_id
-shape_of-text-then-lacks_id c = c.read_body.auto.1.1.1.1.0 ∙ (lengths c.args.version c.args.s.now c.args.text.now c.args.records.now c.args.variables.now c.args.actions.now c.requires.0 c.requires.1.0 c.loop-stop.invariant.0).0
+shape_of-text-then-lacks_id c = c.read_body.auto.text ∙ (lengths c.args.version c.args.s.now c.args.text.now c.args.records.now c.args.variables.now c.args.actions.now c.requires.0 c.requires.1.0 c.loop-stop.invariant.0).0
 
 pub shape_of-scratch-then-lacks_id : goal.shape_of-scratch-then-lacks_id
-shape_of-scratch-then-lacks_id c = c.settle.auto.1.1.1.1.0 ∙ c.read_body.auto.1.0 ∙ c.take_arguments-taken.auto.1.1.1.0 ∙ c.token_from.auto.1.1.0 ∙ c.loop-stop.invariant.1
+shape_of-scratch-then-lacks_id c = c.settle.auto.scratch ∙ c.read_body.auto.scratch ∙ c.take_arguments-taken.auto.scratch ∙ c.token_from.auto.scratch ∙ c.loop-stop.invariant.1
 
 pub shape_of-records-then-lacks_id : goal.shape_of-records-then-lacks_id
 shape_of-records-then-lacks_id c = (lengths c.args.version c.args.s.now c.args.text.now c.args.records.now c.args.variables.now c.args.actions.now c.requires.0 c.requires.1.0 c.loop-stop.invariant.0).1.0
 
 pub shape_of-variables-then-lacks_id : goal.shape_of-variables-then-lacks_id
-shape_of-variables-then-lacks_id c = c.settle.auto.1.1.1.1.1.0 ∙ c.read_body.auto.1.1.1.1.1.0 ∙ (lengths c.args.version c.args.s.now c.args.text.now c.args.records.now c.args.variables.now c.args.actions.now c.requires.0 c.requires.1.0 c.loop-stop.invariant.0).1.1.0
+shape_of-variables-then-lacks_id c = c.settle.auto.variables ∙ c.read_body.auto.variables ∙ (lengths c.args.version c.args.s.now c.args.text.now c.args.records.now c.args.variables.now c.args.actions.now c.requires.0 c.requires.1.0 c.loop-stop.invariant.0).1.1.0
 
 pub shape_of-actions-then-lacks_id : goal.shape_of-actions-then-lacks_id
-shape_of-actions-then-lacks_id c = c.settle.auto.1.1.1.1.1.1.0 ∙ c.read_body.auto.1.1.1.1.1.1.0 ∙ (lengths c.args.version c.args.s.now c.args.text.now c.args.records.now c.args.variables.now c.args.actions.now c.requires.0 c.requires.1.0 c.loop-stop.invariant.0).1.1.1
+shape_of-actions-then-lacks_id c = c.settle.auto.actions ∙ c.read_body.auto.actions ∙ (lengths c.args.version c.args.s.now c.args.text.now c.args.records.now c.args.variables.now c.args.actions.now c.requires.0 c.requires.1.0 c.loop-stop.invariant.0).1.1.1
 
 pub returns-then-lacks_id : goal.returns-then-lacks_id
 returns-then-lacks_id c = rw c.ended_at-then-lacks_id.ensures (lacking c.args.version c.args.s.now c.args.text.now c.args.records.now c.args.variables.now c.args.actions.now c.requires.0 c.requires.1.0 c.loop-stop.invariant.0 (rw c.in-Token.is at c.token_from.ensures) (omega (arith, c.loop-stop.invariant.1, c.requires.1.1)) (sym c.role_of.ensures ∙ c.in-Opens.is) c.take_arguments-taken.ensures _ refl _ _ _ c.in-Good.e (rw c.in-Good.is at c.read_body.ensures) _ _ c.settle.ensures (sym c.lacks_id.ensures ∙ c.if-lacks_id.true))
@@ -111,4 +111,4 @@ pub loop-stop-smaller : goal.loop-stop-smaller
 loop-stop-smaller c = let x = (rw c.in-Token.is at c.token_from.ensures) in let y = c.take_arguments-taken.ensures in omega (arith, x.ahead, y.short, y.arrived.inside)
 
 pub loop-stop-preserved : goal.loop-stop-preserved
-loop-stop-preserved c = (turned c.args.version c.args.s.now c.args.text.now c.args.records.now c.args.variables.now c.args.actions.now c.requires.0 c.requires.1.0 c.loop-stop.invariant.0 (rw c.in-Token.is at c.token_from.ensures) (omega (arith, c.loop-stop.invariant.1, c.requires.1.1)) (sym c.role_of.ensures ∙ c.in-Opens.is) c.take_arguments-taken.ensures _ refl _ _ _ c.in-Good.e (rw c.in-Good.is at c.read_body.ensures) _ _ c.settle.ensures (sym c.lacks_id.ensures ∙ c.if-lacks_id.false) _ c.put_directive.ensures _ c.counted-t.ensures, c.settle.auto.1.1.1.1.0 ∙ c.read_body.auto.1.0 ∙ c.take_arguments-taken.auto.1.1.1.0 ∙ c.token_from.auto.1.1.0 ∙ c.loop-stop.invariant.1)
+loop-stop-preserved c = (turned c.args.version c.args.s.now c.args.text.now c.args.records.now c.args.variables.now c.args.actions.now c.requires.0 c.requires.1.0 c.loop-stop.invariant.0 (rw c.in-Token.is at c.token_from.ensures) (omega (arith, c.loop-stop.invariant.1, c.requires.1.1)) (sym c.role_of.ensures ∙ c.in-Opens.is) c.take_arguments-taken.ensures _ refl _ _ _ c.in-Good.e (rw c.in-Good.is at c.read_body.ensures) _ _ c.settle.ensures (sym c.lacks_id.ensures ∙ c.if-lacks_id.false) _ c.put_directive.ensures _ c.counted-t.ensures, c.settle.auto.scratch ∙ c.read_body.auto.scratch ∙ c.take_arguments-taken.auto.scratch ∙ c.token_from.auto.scratch ∙ c.loop-stop.invariant.1)

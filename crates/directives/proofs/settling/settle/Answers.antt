@@ -22,15 +22,15 @@ site_records-requires c = (c.requires.heard.2.first c.if-count-gt0.true, omega a
 joined : (c : Joined-count-gt0) → let a = c.args in c.if-count-gt0.variables ≡ token_moved a.s.now (ltb 0 a.a.count) a.a.first variable_words a.e.variables (a.t.variables * variable_words) a.variables.now
 joined c =
     ⊎_elim
-    (λ w. w.7 ∙ rw (lt-ltb 0 c.args.a.count w.0.true) w.4.ensures)
-    (λ w. w.1 ∙ rw (le-ltb 0 c.args.a.count w.0.false))
+    (λ w. w.variables-is ∙ rw (lt-ltb 0 c.args.a.count w.if-count-gt0.true) w.site_records.ensures)
+    (λ w. w.variables-is ∙ rw (le-ltb 0 c.args.a.count w.if-count-gt0.false))
     c.if-count-gt0.branch-raw
 
 pub settle_list-requires : goal.settle_list-requires
 settle_list-requires c = let p = c.requires in (p.heard.0, listing c.args.from c.args.name c.args.a p.heard.1 p.heard.2 c.list_of-list.result c.list_of-list.ensures (sym c.has_list.ensures ∙ c.if-has_list.true), p.variables_le_limit.1)
 
 variables_long : (c : Joined-count-gt0) → length c.if-count-gt0.variables ≡ length c.args.variables.now
-variables_long c = ⊎_elim (λ w. rw w.7 w.4.kept.1.1.0) (λ w. rw w.1) c.if-count-gt0.branch-raw
+variables_long c = ⊎_elim (λ w. rw w.variables-is w.site_records.auto.records) (λ w. rw w.variables-is) c.if-count-gt0.branch-raw
 
 pub shape_of-variables-then-has_list : goal.shape_of-variables-then-has_list
 shape_of-variables-then-has_list c = variables_long (goal.at.shape_of-variables-then-has_list c).Joined-count-gt0

@@ -5,7 +5,7 @@ use Rattle.directives.proofs.SettleLaws.{taken_again, listed_at, list_span}
 use Rattle.directives.proofs.settling.settle_span.Goals as goal
 
 pub take_arguments-requires : goal.take_arguments-requires
-take_arguments-requires c = let whole = taken_again c.requires.0 in record { s_len_bound = whole.0; reached = whole.1.0; s_in_bounds = whole.1.1 }
+take_arguments-requires c = let again = taken_again c.requires.0 in record { s_len_bound = again.0; reached = again.1.0; s_in_bounds = again.1.1 }
 
 pub slice_bounds-site_word-count : goal.slice_bounds-site_word-count
 slice_bounds-site_word-count c = (listed_at c.requires.0 c.requires.1 c.take_arguments.ensures).order

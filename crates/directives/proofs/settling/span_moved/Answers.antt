@@ -20,7 +20,7 @@ pub returns-then-count-gt1 : goal.returns-then-count-gt1
 returns-then-count-gt1 c = rw (c.in-UnknownOperator.is, lt-ltb 1 c.args.a.count c.if-count-gt1.true) c.site_span-then-count-gt1.ensures
 
 pub returns-then-has_list : goal.returns-then-has_list
-returns-then-has_list c = let a = c.args in rw (list_fault a.s.now a.from a.a a.name a.span a.why c.in-UnknownVariable.keys3, sym c.has_list.ensures ∙ c.if-has_list.true) (rw c.list_of.ensures at c.settle_span.ensures)
+returns-then-has_list c = let a = c.args in rw (list_fault a.s.now a.from a.a a.name a.span a.why c.in-UnknownAction.in-UnknownAction-own.keys3, sym c.has_list.ensures ∙ c.if-has_list.true) (rw c.list_of.ensures at c.settle_span.ensures)
 
 pub returns-else-count-gt0 : goal.returns-else-count-gt0
 returns-else-count-gt0 c = rw (c.in-UnknownVariable.is, le-ltb 0 c.args.a.count c.if-count-gt0.false)
@@ -29,4 +29,4 @@ pub returns-else-count-gt1 : goal.returns-else-count-gt1
 returns-else-count-gt1 c = rw (c.in-UnknownOperator.is, le-ltb 1 c.args.a.count c.if-count-gt1.false)
 
 pub returns-else-has_list : goal.returns-else-has_list
-returns-else-has_list c = let a = c.args in rw (list_fault a.s.now a.from a.a a.name a.span a.why c.in-UnknownVariable.keys3, sym c.has_list.ensures ∙ c.if-has_list.false)
+returns-else-has_list c = let a = c.args in rw (list_fault a.s.now a.from a.a a.name a.span a.why c.in-UnknownAction.in-UnknownAction-own.keys3, sym c.has_list.ensures ∙ c.if-has_list.false)

@@ -9,34 +9,26 @@ use Rattle.ascii.specs.Fold.{same_lowered}
 use Rattle.directives.specs.Directives.{of_rule, of_action, of_marker, of_defaults, of_other, shape_of}
 use Rattle.directives.proofs.shapes.shape_of.Goals as goal
 
--- FIXME
 module _ (t : List ℕ) where
   is_rule : same_lowered t (bytes "secrule") ≡ true → shape_of t ≡ of_rule
   unfolding shape_of
   is_rule a = rw a
 
-  -- FIXME
   is_action : same_lowered t (bytes "secrule") ≡ false → same_lowered t (bytes "secaction") ≡ true → shape_of t ≡ of_action
   unfolding shape_of
   is_action a b = rw (a, b)
 
-  -- FIXME
   is_marker : same_lowered t (bytes "secrule") ≡ false → same_lowered t (bytes "secaction") ≡ false → same_lowered t (bytes "secmarker") ≡ true → shape_of t ≡ of_marker
   unfolding shape_of
   is_marker a b c = rw (a, b, c)
 
-  -- FIXME
   is_defaults : same_lowered t (bytes "secrule") ≡ false → same_lowered t (bytes "secaction") ≡ false → same_lowered t (bytes "secmarker") ≡ false → same_lowered t (bytes "secdefaultaction") ≡ true → shape_of t ≡ of_defaults
   unfolding shape_of
   is_defaults a b c d = rw (a, b, c, d)
 
-  -- FIXME
   is_other : same_lowered t (bytes "secrule") ≡ false → same_lowered t (bytes "secaction") ≡ false → same_lowered t (bytes "secmarker") ≡ false → same_lowered t (bytes "secdefaultaction") ≡ false → shape_of t ≡ of_other
   unfolding shape_of
   is_other a b c d = rw (a, b, c, d)
-
-slice-aggregate-same-lowered : tie.Need-slice-aggregate-same-lowered
-slice-aggregate-same-lowered c = search rules
 
 pub same_lowered-requires : goal.same_lowered-requires
 same_lowered-requires c = search rules
@@ -45,9 +37,6 @@ pub returns-then-same_lowered : goal.returns-then-same_lowered
 unfolding bytes
 returns-then-same_lowered c = sym (is_rule _ (sym c.same_lowered.ensures ∙ c.if-same_lowered.true))
 
-slice-aggregate-same-lowered-2 : tie.Need-slice-aggregate-same-lowered-2
-slice-aggregate-same-lowered-2 c = search rules
-
 pub same_lowered-requires-2 : goal.same_lowered-requires-2
 same_lowered-requires-2 c = search rules
 
@@ -55,18 +44,12 @@ pub returns-then-same_lowered-2 : goal.returns-then-same_lowered-2
 unfolding bytes
 returns-then-same_lowered-2 c = sym (is_action _ (sym c.same_lowered.ensures ∙ c.if-same_lowered.false) (sym c.same_lowered-2.ensures ∙ c.if-same_lowered-2.true))
 
-slice-aggregate-same-lowered-3 : tie.Need-slice-aggregate-same-lowered-3
-slice-aggregate-same-lowered-3 c = search rules
-
 pub same_lowered-requires-3 : goal.same_lowered-requires-3
 same_lowered-requires-3 c = search rules
 
 pub returns-then-same_lowered-3 : goal.returns-then-same_lowered-3
 unfolding bytes
 returns-then-same_lowered-3 c = sym (is_marker _ (sym c.same_lowered.ensures ∙ c.if-same_lowered.false) (sym c.same_lowered-2.ensures ∙ c.if-same_lowered-2.false) (sym c.same_lowered-3.ensures ∙ c.if-same_lowered-3.true))
-
-slice-aggregate-same-lowered-4 : tie.Need-slice-aggregate-same-lowered-4
-slice-aggregate-same-lowered-4 c = search rules
 
 pub same_lowered-requires-4 : goal.same_lowered-requires-4
 same_lowered-requires-4 c = search rules
