@@ -1,8 +1,10 @@
-// All bytes of a descriptor, with a read that failed told from an input that ended.
+// All bytes of a reader, with a read that failed told from an input that ended.
 ghost use Rattle.std.specs.Prelude.{length};
-ghost use Rattle.list.specs.Reading.{Told, Within};
+ghost use Rattle.list.specs.Reading.{answered, Told, Within};
 
-// What one read came to: so many more bytes, the input's end, or a failure, of which errno says why.
+use std::io::{self, Read};
+
+// What one read came to: so many more bytes, the input's end, or a failure, of which its error says why.
 #[derive(Clone, Copy)]
 pub enum Took {
     More(usize),
@@ -10,21 +12,22 @@ pub enum Took {
     Failed,
 }
 
-#[derive(Clone, Copy)]
+#[derive(Drop)]
 pub enum Input {
     // How many bytes, up to the input's end or the buffer's.
     Read(usize),
-    Failed,
+    Failed(io::Error),
 }
 
-// What an answer of C's `read` into `room` means.
-fn meaning(got: isize, room: &[u8]) -> Took
-    ensures { Told got (length room.now) result }
+// What an answer of std's `read` into `room` means.
+fn meaning(got: &io::Result<usize>, room: &[u8]) -> Took
+    ensures { Told (answered got.now) (length room.now) result }
 {
-    if got < 0 {
+    let Ok(count) = got else {
         return Took::Failed;
-    }
-    let more = io::count(got, room);
+    };
+    let most = room.len();
+    let more = if *count < most { *count } else { most };
     if more == 0 {
         Took::End
     } else {
@@ -33,16 +36,16 @@ fn meaning(got: isize, room: &[u8]) -> Took
 }
 
 // Reads into the front of `buf`.
-pub fn read_all(fd: i32, buf: &mut [u8]) -> Input
+pub fn read_all<R: Read>(from: &mut R, buf: &mut [u8]) -> Input
     ensures { Within (length buf.new) result }
 {
     let mut n = 0;
     while n < buf.len() {
-        let got = libc::read(fd, &mut buf[n..]);
-        match meaning(got, &buf[n..]) {
+        let got = from.read(&mut buf[n..]);
+        match meaning(&got, &buf[n..]) {
             Took::More(more) => n += more,
             Took::End => return Input::Read(n),
-            Took::Failed => return Input::Failed,
+            Took::Failed => return Input::Failed(got.unwrap_err()),
         }
     }
     Input::Read(n)

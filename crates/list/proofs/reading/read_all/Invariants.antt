@@ -5,7 +5,7 @@ use lib.ListN.{length}
 use Rattle.list.proofs.reading.read_all.Given as goal
 
 abbrev pub invariant-loop-n : goal.invariant-loop-n
-invariant-loop-n l = (length l.buf ≡ length l.initial.buf) × (l.n ≤ length l.buf)
+invariant-loop-n _ l = (length l.buf ≡ length l.initial.buf) × (l.n ≤ length l.buf)
 
 abbrev pub decreases-loop-n : goal.decreases-loop-n
-decreases-loop-n l = length l.initial.buf - l.n
+decreases-loop-n _ l = length l.initial.buf - l.n
