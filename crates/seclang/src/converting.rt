@@ -5,15 +5,13 @@ ghost use Rattle.seclang.specs.Told.{Told};
 
 use crate::telling::tell_converted;
 
-#[unsafe(no_mangle)]
-pub extern "C" fn seclang_span_from_old(word: u64, values: &mut [u64]) -> u64
+pub fn seclang_span_from_old(word: u64, values: &mut [u64]) -> u64
     ensures { Told (answer_given (from_old word)) values.old values.new result }
 {
     tell_converted(spans::span_from_old(word), values)
 }
 
-#[unsafe(no_mangle)]
-pub extern "C" fn seclang_span_to_old(word: u64, values: &mut [u64]) -> u64
+pub fn seclang_span_to_old(word: u64, values: &mut [u64]) -> u64
     ensures { Told (answer_given (to_old word)) values.old values.new result }
 {
     tell_converted(spans::span_to_old(word), values)

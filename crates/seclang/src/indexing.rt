@@ -5,20 +5,13 @@ ghost use Rattle.seclang.specs.Indexing.{AddsTold, RemovesTold};
 use crate::looking::selector;
 use crate::telling::{tell_added, tell_removed};
 
-#[unsafe(no_mangle)]
-pub extern "C" fn seclang_index_add(
-    index: &mut [u64],
-    actions: &[u64],
-    line: u64,
-    values: &mut [u64],
-) -> u64
+pub fn seclang_index_add(index: &mut [u64], actions: &[u64], line: u64, values: &mut [u64]) -> u64
     ensures { AddsTold actions.now line index.old index.new values.old values.new result }
 {
     tell_added(index::add(index, actions, line), values)
 }
 
-#[unsafe(no_mangle)]
-pub extern "C" fn seclang_index_remove(
+pub fn seclang_index_remove(
     index: &mut [u64],
     ranged: bool,
     start: u64,

@@ -1,4 +1,4 @@
-// The readers and lookups for C and Rust: numbers and slices in, document 01's number back, its values in lent words.
+// The readers and lookups for C and Rust: numbers and slices in, document 01's number back, its values in lent words. seclang_c exports them.
 
 #![tactic(auto)]
 

@@ -20,8 +20,7 @@ fn code_or_none(found: Lookup) -> u64
     }
 }
 
-#[unsafe(no_mangle)]
-pub extern "C" fn seclang_lookup(table: u64, name: &[u8]) -> u64
+pub fn seclang_lookup(table: u64, name: &[u8]) -> u64
     ensures { result ≡ code_of (lookup_in table name.now) }
 {
     match table {
@@ -32,8 +31,7 @@ pub extern "C" fn seclang_lookup(table: u64, name: &[u8]) -> u64
     }
 }
 
-#[unsafe(no_mangle)]
-pub extern "C" fn seclang_test(test: u64, code: u64) -> bool
+pub fn seclang_test(test: u64, code: u64) -> bool
     ensures { result ≡ test_of test code }
 {
     match test {
@@ -44,8 +42,7 @@ pub extern "C" fn seclang_test(test: u64, code: u64) -> bool
     }
 }
 
-#[unsafe(no_mangle)]
-pub extern "C" fn seclang_xml_target(selection: u64, text: &[u8]) -> u64
+pub fn seclang_xml_target(selection: u64, text: &[u8]) -> u64
     ensures { result ≡ target_of (xml_target selection text.now) }
 {
     match xml::xml_target(selection, text) {
@@ -56,15 +53,13 @@ pub extern "C" fn seclang_xml_target(selection: u64, text: &[u8]) -> u64
     }
 }
 
-#[unsafe(no_mangle)]
-pub extern "C" fn seclang_phase(records: &[u64]) -> u64
+pub fn seclang_phase(records: &[u64]) -> u64
     ensures { result ≡ phase_of (entries records.now) }
 {
     rules::phase(records)
 }
 
-#[unsafe(no_mangle)]
-pub extern "C" fn seclang_grade(records: &[u64]) -> bool
+pub fn seclang_grade(records: &[u64]) -> bool
     ensures { result ≡ grades (entries records.now) }
 {
     rules::grade(records)
@@ -80,8 +75,7 @@ pub fn selector(ranged: bool, start: u64, end: u64) -> RuleIdSelector
     }
 }
 
-#[unsafe(no_mangle)]
-pub extern "C" fn seclang_matches(ranged: bool, start: u64, end: u64, id: u64) -> bool
+pub fn seclang_matches(ranged: bool, start: u64, end: u64, id: u64) -> bool
     ensures { result ≡ matched (selector_of ranged start end) id }
 {
     selector(ranged, start, end).matches(id)

@@ -19,8 +19,7 @@ fn stop_of(early: bool, line: usize, column: usize) -> Stop
     }
 }
 
-#[unsafe(no_mangle)]
-pub extern "C" fn seclang_write_listing(
+pub fn seclang_write_listing(
     records: &[u64],
     text: &[u8],
     early: bool,
@@ -35,20 +34,13 @@ pub extern "C" fn seclang_write_listing(
     tell_listed(listing::write_listing(records, text, stop, out), values)
 }
 
-#[unsafe(no_mangle)]
-pub extern "C" fn seclang_write_refusal(
-    number: u64,
-    place: u64,
-    out: &mut [u8],
-    values: &mut [u64],
-) -> u64
+pub fn seclang_write_refusal(number: u64, place: u64, out: &mut [u8], values: &mut [u64]) -> u64
     ensures { Lists (fitted (length out.old) (refusal number place)) out.old out.new values.old values.new result }
 {
     tell_listed(listing::write_refusal(number, place, out), values)
 }
 
-#[unsafe(no_mangle)]
-pub extern "C" fn seclang_list_text(
+pub fn seclang_list_text(
     input: &[u8],
     text: &mut [u8],
     records: &mut [u64],
@@ -60,8 +52,7 @@ pub extern "C" fn seclang_list_text(
     tell_listed(listing::list_text(input, text, records, out), values)
 }
 
-#[unsafe(no_mangle)]
-pub extern "C" fn seclang_write_actions(
+pub fn seclang_write_actions(
     records: &[u64],
     text: &[u8],
     out: &mut [u8],

@@ -15,8 +15,7 @@ use crate::telling::{
 use directives::Version;
 use lexer::{Column, Cursor, Line};
 
-#[unsafe(no_mangle)]
-pub extern "C" fn seclang_next_token(
+pub fn seclang_next_token(
     input: &[u8],
     place: usize,
     line: usize,
@@ -36,20 +35,13 @@ pub extern "C" fn seclang_next_token(
     tell_step(lexer::next_token(input, from, text), values)
 }
 
-#[unsafe(no_mangle)]
-pub extern "C" fn seclang_tokens(
-    input: &[u8],
-    text: &mut [u8],
-    records: &mut [u64],
-    values: &mut [u64],
-) -> u64
+pub fn seclang_tokens(input: &[u8], text: &mut [u8], records: &mut [u64], values: &mut [u64]) -> u64
     ensures { Lexes input.now text.old text.new records.old records.new values.old values.new result }
 {
     tell_reading(lexer::tokens(input, text, records), values)
 }
 
-#[unsafe(no_mangle)]
-pub extern "C" fn seclang_plain_tokens(
+pub fn seclang_plain_tokens(
     input: &[u8],
     text: &mut [u8],
     records: &mut [u64],
@@ -60,8 +52,7 @@ pub extern "C" fn seclang_plain_tokens(
     tell_reading(plain::plain_tokens(input, text, records), values)
 }
 
-#[unsafe(no_mangle)]
-pub extern "C" fn seclang_parse_actions(
+pub fn seclang_parse_actions(
     input: &[u8],
     text: &mut [u8],
     scratch: &mut [u8],
@@ -76,8 +67,7 @@ pub extern "C" fn seclang_parse_actions(
     )
 }
 
-#[unsafe(no_mangle)]
-pub extern "C" fn seclang_parse_setvar(
+pub fn seclang_parse_setvar(
     input: &[u8],
     text: &mut [u8],
     records: &mut [u64],
@@ -88,8 +78,7 @@ pub extern "C" fn seclang_parse_setvar(
     tell_acted(actions::parse_setvar(input, text, records), values)
 }
 
-#[unsafe(no_mangle)]
-pub extern "C" fn seclang_parse_variables(
+pub fn seclang_parse_variables(
     input: &[u8],
     text: &mut [u8],
     records: &mut [u64],
@@ -100,8 +89,7 @@ pub extern "C" fn seclang_parse_variables(
     tell_targeted(variables::parse_variables(input, text, records), values)
 }
 
-#[unsafe(no_mangle)]
-pub extern "C" fn seclang_parse_update_targets(
+pub fn seclang_parse_update_targets(
     input: &[u8],
     text: &mut [u8],
     records: &mut [u64],
@@ -115,8 +103,7 @@ pub extern "C" fn seclang_parse_update_targets(
     )
 }
 
-#[unsafe(no_mangle)]
-pub extern "C" fn seclang_parse_operator(input: &[u8], values: &mut [u64]) -> u64
+pub fn seclang_parse_operator(input: &[u8], values: &mut [u64]) -> u64
     ensures { Told (Operating.given_by input.now (Operating.operator_outcome input.now)) values.old values.new result }
 {
     tell_operated(operators::parse_operator(input), values)
@@ -131,8 +118,7 @@ fn version_of(from_2_7: bool) -> Version
     Version::TwoSix
 }
 
-#[unsafe(no_mangle)]
-pub extern "C" fn seclang_directives(
+pub fn seclang_directives(
     input: &[u8],
     from_2_7: bool,
     text: &mut [u8],

@@ -1,0 +1,18 @@
+// Span words of older versions.
+ghost use Rattle.spans.specs.Conversion.{from_old, to_old};
+ghost use Rattle.spans.specs.Promises.{answer_given};
+ghost use Rattle.seclang.specs.Told.{Told};
+
+#[unsafe(no_mangle)]
+pub extern "C" fn seclang_span_from_old(word: u64, values: &mut [u64]) -> u64
+    ensures { Told (answer_given (from_old word)) values.old values.new result }
+{
+    seclang::seclang_span_from_old(word, values)
+}
+
+#[unsafe(no_mangle)]
+pub extern "C" fn seclang_span_to_old(word: u64, values: &mut [u64]) -> u64
+    ensures { Told (answer_given (to_old word)) values.old values.new result }
+{
+    seclang::seclang_span_to_old(word, values)
+}
