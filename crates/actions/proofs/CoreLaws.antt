@@ -11,7 +11,6 @@ use Rattle.lent.specs.Endings.{starts}
 use Rattle.lent.specs.Sources.{part_word, Sourced}
 use Rattle.lent.specs.Table.{given, flaw_number, too_long, not_ascii, short_buffer, no_room, named, no_action, no_argument, no_variable, unknown_operator, bad_cursor, unknown_action, bad_argument, Outcome, refuses, reads}
 use Rattle.lent.specs.declared.refusing.Flaw.{Flaw}
-use Rattle.lent.specs.declared.refusing.Flaw.TheVariants as Flaw
 use Rattle.single_action.specs.Actions.{Action}
 use Rattle.actions.specs.Pieces.{pieces}
 use Rattle.actions.specs.Lists.{listed}

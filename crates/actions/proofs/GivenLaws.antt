@@ -11,7 +11,6 @@ use Rattle.lent.specs.Table.{Given, flaw_of}
 use Rattle.lent.specs.declared.refusing.Flaw.TheVariants as Flaw
 use Rattle.actions.specs.Promises.{answer_given, ParseActions, SetvarAlone}
 use Rattle.actions.specs.declared.Answer.{Answer}
-use Rattle.actions.specs.declared.Answer.TheVariants as Answer
 
 answer_from : Given → Answer
 answer_from g =

@@ -15,7 +15,6 @@ use Rattle.lent.specs.Table.{Given, flaw_number, Refusal, no_room, unknown_actio
 use Rattle.lent.specs.Sources.{Part, Sourced, sourced, sited_by, sited_all}
 use Rattle.lent.specs.Admission.{FirstAt, Opened, Shortened}
 use Rattle.lent.specs.declared.refusing.Flaw.{Flaw}
-use Rattle.lent.specs.declared.refusing.Flaw.TheVariants as Flaw
 use Rattle.lent.proofs.OutcomeLaws.{number_of, given_number}
 use Rattle.lent.proofs.RowLaws as Rows
 use Rattle.lent.proofs.RowLaws.{row, OneOf, Numbered, Exactly, absent, differ, behind, gated, exactly_gated}

@@ -19,7 +19,6 @@ use Rattle.lent.specs.Endings.{starts}
 use Rattle.lent.specs.Table.{Naming, no_action, no_argument, named, Refusal, unknown_action, bad_argument, Outcome, refuses, reads, sited_outcome, resited, Filled, given_by, text_by, records_by}
 use Rattle.lent.specs.declared.refusing.Flaw.{Flaw}
 use Rattle.lent.specs.declared.gating.Gate.{Gate}
-use Rattle.lent.specs.declared.gating.Gate.TheVariants as Gate
 use Rattle.lent.proofs.GateLaws.{open_is}
 use Rattle.lent.proofs.StartLaws.{starts_is}
 use Rattle.lent.proofs.BufferLaws.{taken_first, each_fits}
@@ -38,7 +37,6 @@ use Rattle.actions.specs.Steps.{Put}
 use Rattle.actions.specs.Listing.{Laid, ReadAll, Stopped, Ended}
 use Rattle.actions.specs.Promises.{answer_given, laid_out, roomed, actions_gate, actions_outcome, setvar_outcome, ParseActions, SetvarAlone}
 use Rattle.actions.specs.declared.Answer.{Answer}
-use Rattle.actions.specs.declared.Answer.TheVariants as Answer
 use Rattle.actions.proofs.NormalLaws.{normalised_length}
 use Rattle.actions.proofs.LayoutLaws.{words_length, words_joined, text_long, records_long}
 use Rattle.actions.proofs.OutcomeLaws.{outcome_by_lem, setvar_by}

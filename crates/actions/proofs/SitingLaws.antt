@@ -2,15 +2,15 @@
 use mathlib.Core.Path.{◌≡◌, ◌∙◌, refl, sym, ap, ap₂, subst}
 use mathlib.Core.Bool.{Bool, true, false}
 use mathlib.Core.List.{List, [], ◌∷◌}
-use Prim.Native.Nat.{ℕ, ◌+◌, ◌-◌, ◌*◌, ◌≤◌, ◌<◌}
+use Prim.Native.Nat.{ℕ, ◌+◌, ◌-◌, ◌≤◌}
 use native.Mathlib.Omega.{arith}
-use lib.ListN.{length, drop}
+use lib.ListN.{length}
 use lib.Dec.{ltb}
 use borrow.Author.Tests.{le-leb, ltb-true, ltb-false}
-use Rattle.lent.specs.Sizes.{limit, action_words, span_base}
+use Rattle.lent.specs.Sizes.{limit, action_words}
 use Rattle.lent.specs.Buffers.{stored_each}
 use Rattle.lent.specs.Sources.{Part, part, part_word, Sourced, sourced, sited_all}
-use Rattle.lent.specs.Table.{Outcome, refuses, reads}
+use Rattle.lent.specs.Table.{reads}
 use Rattle.places.specs.declared.Rule.TheVariants.{Joined}
 use Rattle.places.specs.Moves.{SiteWord, Resite}
 use Rattle.places.specs.Sites.{text_of}

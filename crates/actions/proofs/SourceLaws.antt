@@ -1,5 +1,4 @@
 -- Where the actions of a list, or its refused piece, stand: inside the text that was cut, and the bytes there are the piece.
-use mathlib.Core.Path.{◌≡◌, refl}
 use mathlib.Core.List.{List, [], ◌∷◌}
 use Prim.Native.Nat.{ℕ, suc, ◌≤◌, ◌<◌}
 use lib.ListN.{length}
@@ -8,7 +7,7 @@ use Rattle.lent.specs.Table.{Refusal, too_long, not_ascii, short_buffer, no_room
 use Rattle.single_action.specs.Actions.{Action, Single, done, bad, unknown, single}
 use Rattle.actions.specs.Pieces.{Piece, pieces}
 use Rattle.actions.specs.Lists.{action_then, single_then, actions_from, listed}
-use Rattle.actions.proofs.PlaceLaws.{Stands, AllStand, none, also, pieces_stand}
+use Rattle.actions.proofs.PlaceLaws.{AllStand, none, also, pieces_stand}
 
 -- a part of a text of n bytes that is not empty
 pub record Inside (n : ℕ) (x : Part) : Type 0 where

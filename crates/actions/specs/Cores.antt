@@ -15,7 +15,6 @@ use Rattle.actions.specs.Layout.{records_from, texts}
 use Rattle.actions.specs.declared.Reached.{Reached}
 use Rattle.actions.specs.declared.Reached.TheVariants.{Read, Bad, Unknown, Unfit}
 use Rattle.actions.specs.declared.normalising.Normal.{Normal}
-use Rattle.actions.specs.declared.normalising.Normal.TheVariants as Normal
 
 -- ---- normalising
 

@@ -15,7 +15,6 @@ use Rattle.actions.specs.Having.{has}
 use Rattle.actions.specs.Lists.{listed}
 use Rattle.actions.specs.Layout.{records_from, texts}
 use Rattle.actions.specs.declared.Answer.{Answer}
-use Rattle.actions.specs.declared.Answer.TheVariants as Answer
 use Rattle.actions.specs.declared.Reached.{Reached}
 use Rattle.actions.specs.declared.Reached.TheVariants.{Read, Bad, Unknown, Unfit}
 

@@ -16,7 +16,6 @@ use Rattle.actions.specs.Normal.{normalised}
 use Rattle.actions.specs.Lists.{actions_of}
 use Rattle.actions.specs.Layout.{words_from, texts}
 use Rattle.actions.specs.declared.Answer.{Answer}
-use Rattle.actions.specs.declared.Answer.TheVariants as Answer
 
 -- The paper's number and values for each answer.
 abbrev pub answer_given : Answer → Given
