@@ -35,7 +35,6 @@ use Rattle.directives.specs.declared.arguments.Arguments.{Arguments}
 use Rattle.directives.specs.declared.parts.Tally.{Tally}
 use Rattle.directives.specs.declared.parts.Entry.{Entry}
 use Rattle.directives.specs.declared.parts.Judged.{Judged}
-use Rattle.directives.specs.declared.parts.Judged.TheVariants as Judged
 use Rattle.directives.specs.contracts.parts.Judged.{the_type}
 use Rattle.directives.proofs.FitLaws.{ListedFits, variables_fit, OperatorFits, operator_fits}
 use Rattle.directives.proofs.LaidLaws.{laid_stored, laid_more}

@@ -12,19 +12,17 @@ use Rattle.lent.specs.Buffers.{zeros, padded, stored, stored_each, joined}
 use Rattle.lent.specs.Gates.{gate_of}
 use Rattle.lent.specs.Table.{Refusal, refused as refused_given}
 use Rattle.lent.specs.declared.gating.Gate.{Gate}
-use Rattle.lent.specs.declared.gating.Gate.TheVariants as Gate
 use Rattle.lent.proofs.GateLaws.{open_is}
 use Rattle.lent.proofs.BufferLaws.{taken_first, each_fits, each_length}
 use Rattle.lent.proofs.EndLaws.{words_fit, beyond_cleared}
 use Rattle.directives.specs.Directives.{Directive, Result, bad, good}
 use Rattle.directives.specs.Versions.{Version, directives_for}
-use Rattle.directives.specs.Layout.{reached, texts, listed_counts, action_counts, directives_from, variables_from, actions_from}
+use Rattle.directives.specs.Layout.{reached, listed_counts, action_counts, directives_from, variables_from, actions_from}
 use Rattle.directives.specs.Table.{shut, overfull, filled, past_gate}
 use Rattle.directives.specs.Promises.{Lent, lent_of, rooms_of, lacks, roomed, laid_out, directives_outcome, outcome_on, answer_given, naming, Directives}
 use Rattle.directives.specs.Steps.{Laid, directive_each, each_from, listed_each, acted_each, tally_of, Written, AllRead, FirstFault, lacks_for, cleared_from, Refuses, EndsBy, Finishes}
 use Rattle.directives.specs.declared.Fault.{Fault}
 use Rattle.directives.specs.declared.Answer.{Answer}
-use Rattle.directives.specs.declared.Answer.TheVariants as Answer
 use Rattle.directives.specs.declared.parts.Tally.{Tally}
 use Rattle.directives.proofs.RoomLaws.{under_is}
 use Rattle.directives.proofs.LayoutLaws.{directives_long, variables_long, actions_long}

@@ -13,7 +13,6 @@ use Rattle.lent.specs.Sources.{part_word}
 use Rattle.lent.specs.Table.{Given, flaw_of, too_long, not_ascii, short_buffer, no_room, named, no_action, no_argument, no_variable, unknown_operator, bad_cursor}
 use Rattle.lent.specs.declared.refusing.Flaw.TheVariants as Flaw
 use Rattle.lent.specs.declared.gating.Gate.{Gate}
-use Rattle.lent.specs.declared.gating.Gate.TheVariants as Gate
 use Rattle.directives.specs.Directives.{Directive, Fault, wrong_count, untaken, stopped, id_missing, within, Result, bad, good}
 use Rattle.directives.specs.Versions.{Version, directives_for}
 use Rattle.directives.specs.Layout.{texts, listed_counts, action_counts}
@@ -23,7 +22,6 @@ use Rattle.directives.specs.declared.LineFault.TheVariants.{IdMissing, Stopped, 
 use Rattle.directives.specs.declared.ArgumentFault.TheVariants.{BadArgument, UnknownAction, UnknownOperator, UnknownVariable}
 use Rattle.directives.specs.declared.Fault.TheVariants as Fault
 use Rattle.directives.specs.declared.Answer.{Answer}
-use Rattle.directives.specs.declared.Answer.TheVariants as Answer
 use Rattle.directives.proofs.NumberLaws.{KnownFault, known_for}
 
 -- ---- back from what is given

@@ -11,7 +11,6 @@ use Rattle.lexer.specs.Layout as Lexed
 use Rattle.lexer.specs.Layout.{text_of}
 use Rattle.lexer.specs.Steps.{part}
 use Rattle.directives.specs.Directives.{Shape, of_rule, of_action, of_marker, of_defaults, of_other, body_by}
-use Rattle.directives.specs.Layout.{texts}
 use Rattle.directives.specs.Steps.{arguments_as, ends_at, held_arguments}
 use Rattle.directives.proofs.LaidLaws.{part_of}
 

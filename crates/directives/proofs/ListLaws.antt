@@ -23,19 +23,17 @@ use Rattle.actions.specs.Cores.{tight, Normalise, core_outcome, core_reached, co
 use Rattle.actions.specs.declared.Reached.{Reached}
 use Rattle.actions.specs.declared.Reached.TheVariants.{Read, Bad, Unknown, Unfit}
 use Rattle.actions.specs.declared.normalising.Normal.{Normal}
-use Rattle.actions.specs.declared.normalising.Normal.TheVariants as Normal
 use Rattle.actions.specs.contracts.normalising.Normal as normal
 use Rattle.actions.proofs.NormalLaws.{normalised_length}
 use Rattle.actions.proofs.CountLaws.{Counted, from_counted}
 use Rattle.actions.proofs.CoreLaws.{bad_back}
-use Rattle.directives.specs.Directives.{within, actions_read}
+use Rattle.directives.specs.Directives.{actions_read}
 use Rattle.directives.specs.Steps.{Laid, with_actions, shrunk_by, AddsActions, ListLeft, ListRead}
 use Rattle.directives.specs.declared.ArgumentFault.TheVariants.{BadArgument, UnknownAction}
 use Rattle.directives.specs.declared.Fault.TheVariants as Fault
 use Rattle.directives.specs.declared.parts.Entry.{Entry}
 use Rattle.directives.specs.declared.parts.List.{List as ListAnswer}
 use Rattle.directives.specs.declared.parts.Judged.{Judged}
-use Rattle.directives.specs.declared.parts.Judged.TheVariants as Judged
 use Rattle.directives.proofs.FitLaws.{ActionsFit, actions_fit}
 use Rattle.directives.proofs.LaidLaws.{laid_stored, laid_over, part_of}
 

@@ -45,7 +45,6 @@ use Rattle.directives.specs.declared.ArgumentFault.TheVariants.{UnknownOperator,
 use Rattle.directives.specs.declared.Fault.TheVariants as Fault
 use Rattle.directives.specs.declared.parts.Entry.{Entry}
 use Rattle.directives.specs.declared.parts.Judged.{Judged}
-use Rattle.directives.specs.declared.parts.Judged.TheVariants as Judged
 use Rattle.directives.proofs.LaidLaws.{laid_stored}
 
 -- ---- variables

@@ -8,7 +8,6 @@ use lib.ListN.{length}
 use Rattle.lent.specs.Sizes.{limit}
 use Rattle.lent.specs.Table.{Given, flaw_number, too_long, not_ascii, short_buffer, no_room, named, no_action, no_argument, no_variable, unknown_operator, bad_cursor}
 use Rattle.lent.specs.declared.refusing.Flaw.{Flaw}
-use Rattle.lent.specs.declared.refusing.Flaw.TheVariants as Flaw
 use Rattle.lent.specs.Admission.{FirstAt, Opened, Shortened}
 use Rattle.lent.proofs.RowLaws as Rows
 use Rattle.lent.proofs.RowLaws.{row, OneOf, Numbered, Exactly, absent, differ, behind, gated, exactly}

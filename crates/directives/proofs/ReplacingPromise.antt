@@ -23,9 +23,7 @@ use Rattle.directives.specs.Parts.{Idle, erased_fault, erased_all, unspanned, un
 use Rattle.directives.specs.declared.LineFault.TheVariants.{WrongCount, Untaken, Stopped, IdMissing}
 use Rattle.directives.specs.declared.ArgumentFault.TheVariants.{UnknownVariable, UnknownOperator, UnknownAction, BadArgument}
 use Rattle.directives.specs.declared.Fault.{Fault as Told}
-use Rattle.directives.specs.declared.Fault.TheVariants as Told
 use Rattle.directives.specs.declared.Answer.{Answer}
-use Rattle.directives.specs.declared.Answer.TheVariants as Answer
 use Rattle.directives.proofs.GivenLaws.{answer_told}
 use Rattle.directives.proofs.EraseLaws.{outcome_erased, text_unspanned, scratch_unspanned, variables_unspanned, actions_unspanned, directives_unspanned}
 use Rattle.directives.proofs.Replacing.{replaced_remark}

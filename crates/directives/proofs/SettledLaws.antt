@@ -42,12 +42,10 @@ use Rattle.directives.specs.Settling.{text_number, list_among, list_in, list_tex
 use Rattle.directives.specs.declared.ArgumentFault.{ArgumentFault}
 use Rattle.directives.specs.declared.ArgumentFault.TheVariants.{UnknownVariable, UnknownOperator, UnknownAction, BadArgument}
 use Rattle.directives.specs.declared.Fault.{Fault as Told}
-use Rattle.directives.specs.declared.Fault.TheVariants as Told
 use Rattle.directives.specs.declared.arguments.Arguments.{Arguments}
 use Rattle.directives.specs.declared.parts.Tally.{Tally}
 use Rattle.directives.specs.declared.parts.Entry.{Entry}
 use Rattle.directives.specs.declared.parts.Judged.{Judged}
-use Rattle.directives.specs.declared.parts.Judged.TheVariants as Judged
 use Rattle.directives.proofs.WhyLaws.{flaw_high, argument_low, line_high, refused_low, why_variable, why_operator, OfList, why_list}
 use Rattle.directives.proofs.SitedLaws.{SameBody, sited_same, resited_number, fault_name_lem}
 use Rattle.directives.proofs.SiteLaws.{list_within, list_token, span_settled, list_span_settled, variables_settled, every_narrow, actions_settled}

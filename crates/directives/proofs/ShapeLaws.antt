@@ -21,16 +21,14 @@ use Rattle.ascii.specs.Trim.{strip_start, strip_end}
 use Rattle.actions.specs.Normal.{normalised, normalised_from, text_held}
 use Rattle.actions.specs.Pieces.{pieces_from, parts_from, pieces_of}
 use Rattle.actions.specs.Lists.{actions_from}
-use Rattle.directives.specs.Directives.{Body, act, marker, defaults, unknown, wrong_count, within, Result, bad, good, variables_read, operator_read, actions_read, Shape, of_rule, of_action, of_marker, of_defaults, of_other, rule_by, act_by, told, shape_of, body_by}
+use Rattle.directives.specs.Directives.{Body, act, marker, defaults, unknown, wrong_count, Result, bad, good, variables_read, operator_read, actions_read, Shape, of_rule, of_action, of_marker, of_defaults, of_other, rule_by, act_by, told, shape_of, body_by}
 use Rattle.directives.specs.Steps.{empty_entry, Fell, AddsVariables, AddsOperator, Bodied, takes, held_by, held_arguments, Ready}
 use Rattle.directives.specs.declared.Fault.{Fault as Told}
 use Rattle.directives.specs.declared.LineFault.TheVariants.{WrongCount}
-use Rattle.directives.specs.declared.Fault.TheVariants as Told
 use Rattle.directives.specs.declared.arguments.Arguments.{Arguments}
 use Rattle.directives.specs.declared.parts.Tally.{Tally}
 use Rattle.directives.specs.declared.parts.Entry.{Entry}
 use Rattle.directives.specs.declared.parts.Judged.{Judged}
-use Rattle.directives.specs.declared.parts.Judged.TheVariants as Judged
 use Rattle.directives.proofs.BodyLaws.{variables_text, operator_text}
 
 -- ---- by the count of arguments

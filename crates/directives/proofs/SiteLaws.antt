@@ -3,7 +3,7 @@
 use mathlib.Core.Path.{◌≡◌, ◌∙◌, refl, sym, ap, ap₂}
 use mathlib.Core.Bool.{Bool, true, false}
 use mathlib.Core.List.{List, [], ◌∷◌, ◌++◌, map}
-use Prim.Native.Nat.{ℕ, zero, suc, ◌+◌, ◌-◌, ◌≤◌, ◌<◌}
+use Prim.Native.Nat.{ℕ, zero, suc, ◌+◌, ◌≤◌, ◌<◌}
 use native.Mathlib.Omega.{arith}
 use lib.ListN.{length, drop, length-append, length-map, length-drop}
 use lib.Dec.{ltb, eqb}
@@ -12,13 +12,12 @@ use Rattle.ascii.specs.Choice.{pick, or}
 use Rattle.lent.specs.Sizes.{limit, variable_words, action_words}
 use Rattle.lent.specs.Buffers.{stored_each}
 use Rattle.lent.specs.Layout.{records_of}
-use Rattle.lent.specs.Sources.{Part, part, part_word, Sourced, sourced, sited_by, sited_all}
+use Rattle.lent.specs.Sources.{Part, part_word, Sourced, sited_by, sited_all}
 use Rattle.lent.proofs.LayoutLaws.{sited_texts}
 use Rattle.places.specs.declared.Rule.TheVariants.{Joined}
-use Rattle.places.specs.Sites.{text_of, site_word}
+use Rattle.places.specs.Sites.{site_word}
 use Rattle.places.specs.Moves.{last_changed}
 use Rattle.places.proofs.SiteLaws.{site_bounds}
-use Rattle.places.proofs.StillLaws.{still_site}
 use Rattle.places.proofs.LastLaws.{last_by, Wide, each_last, Narrow, word_back, word_by, changed_by, site_word_lem, AllNarrow, records_wide, records_count, records_sited, sources_sited}
 use Rattle.lexer.specs.declared.Kind.{Kind}
 use Rattle.lexer.specs.declared.Kind.TheVariants.{Directive as Leading, Word, QuotedString, Comment, Newline}
@@ -38,7 +37,6 @@ use Rattle.records.specs.Layout as Acts
 use Rattle.actions.specs.Normal.{normalised}
 use Rattle.actions.specs.Lists.{normal_site}
 use Rattle.actions.proofs.NormalLaws.{normalised_length}
-use Rattle.actions.proofs.JoinLaws.{bytes_joined}
 use Rattle.actions.proofs.SourceLaws.{Inside, EachInside}
 use Rattle.actions.proofs.SitingLaws.{inside_narrow, each_narrow, record_wide, sited_still, still_all}
 use Rattle.directives.specs.Groups.{argument_by, arguments_of}

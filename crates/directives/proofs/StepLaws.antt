@@ -2,7 +2,7 @@
 use mathlib.Core.Path.{◌≡◌, refl, sym, ap, ◌∙◌, subst}
 use mathlib.Core.Logic.{⊎_elim}
 use mathlib.Core.List.{List, [], ◌∷◌, ◌++◌}
-use Prim.Native.Nat.{ℕ, ◌+◌, ◌-◌, ◌≤◌, ◌<◌}
+use Prim.Native.Nat.{ℕ, ◌-◌, ◌≤◌, ◌<◌}
 use native.Mathlib.Omega.{arith}
 use native.Mathlib.Nat.{add-zero}
 use lib.ListN.{length, drop, length-take, length-drop, take-append-drop}
@@ -14,7 +14,6 @@ use Rattle.lent.proofs.BufferLaws.{lent_part}
 use Rattle.lexer.specs.declared.Cursor.{Cursor}
 use Rattle.lexer.specs.declared.stepping.Lexeme.{Lexeme}
 use Rattle.lexer.specs.declared.stepping.Step.{Step}
-use Rattle.lexer.specs.declared.stepping.Step.TheVariants as Step
 use Rattle.lexer.specs.Runs.{Spot}
 use Rattle.lexer.specs.Tokens.{Token, put, next, nothing, token, tokens}
 use Rattle.lexer.specs.Tokens as T
@@ -31,7 +30,6 @@ use denote.Enum.Declared.{tag_of}
 use Rattle.lexer.specs.contracts.stepping.Step.{the_type}
 use Rattle.directives.specs.Steps.{Token-is, None-is, Nexts}
 use Rattle.directives.specs.declared.tokens.Next.{Next}
-use Rattle.directives.specs.declared.tokens.Next.TheVariants as Next
 
 -- a step of the definition as the lexer's answer, and as ours
 abbrev step_of : T.Step → Step

@@ -32,14 +32,12 @@ use Rattle.directives.specs.Steps.{Laid, role_of, onward, Token-is, None-is, arg
 use Rattle.directives.specs.Settling.{list_text, Heard, Stand, Settled, fault_moved}
 use Rattle.directives.specs.declared.Fault.{Fault as Told}
 use Rattle.directives.specs.declared.LineFault.TheVariants.{Stopped, Untaken, IdMissing}
-use Rattle.directives.specs.declared.Fault.TheVariants as Told
 use Rattle.directives.specs.declared.tokens.Role.TheVariants.{Opens, Argues, Closes}
 use Rattle.directives.specs.declared.arguments.Arguments.{Arguments}
 use Rattle.directives.specs.declared.arguments.Taken.{Taken}
 use Rattle.directives.specs.declared.parts.Tally.{Tally}
 use Rattle.directives.specs.declared.parts.Entry.{Entry}
 use Rattle.directives.specs.declared.parts.Judged.{Judged}
-use Rattle.directives.specs.declared.parts.Judged.TheVariants as Judged
 use Rattle.directives.specs.declared.reading.Ended.TheVariants as Ended
 use Rattle.directives.proofs.LaidLaws.{laid_none, laid_placed, laid_more, laid_first, front_of}
 use Rattle.directives.proofs.VersionLaws.{lacks_id_for, asked_none, asked_passed, asked_lacks, lacks_entry, chain_entry, chained_more}

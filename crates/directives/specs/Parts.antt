@@ -13,7 +13,6 @@ use Rattle.directives.specs.Versions.{Version, directives_for}
 use Rattle.directives.specs.Table.{Filled, Outcome, shut, faulty, overfull, filled}
 use Rattle.directives.specs.Promises.{Lent, Directives}
 use Rattle.directives.specs.declared.Answer.{Answer}
-use Rattle.directives.specs.declared.Answer.TheVariants as Answer
 use Rattle.directives.specs.declared.Fault.TheVariants as Told
 
 -- ---- idle lines

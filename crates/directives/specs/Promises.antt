@@ -13,9 +13,7 @@ use Rattle.directives.specs.declared.LineFault.TheVariants.{WrongCount, Untaken,
 use Rattle.directives.specs.declared.ArgumentFault.{ArgumentFault}
 use Rattle.directives.specs.declared.ArgumentFault.TheVariants.{UnknownVariable, UnknownOperator, UnknownAction, BadArgument}
 use Rattle.directives.specs.declared.Fault.{Fault}
-use Rattle.directives.specs.declared.Fault.TheVariants as Fault
 use Rattle.directives.specs.declared.Answer.{Answer}
-use Rattle.directives.specs.declared.Answer.TheVariants as Answer
 
 -- The paper's number for each fault.
 abbrev pub line_number : LineFault → ℕ

@@ -33,22 +33,17 @@ use Rattle.directives.specs.declared.LineFault.{LineFault}
 use Rattle.directives.specs.declared.LineFault.TheVariants.{Stopped}
 use Rattle.directives.specs.declared.ArgumentFault.{ArgumentFault}
 use Rattle.directives.specs.declared.Fault.{Fault as Told}
-use Rattle.directives.specs.declared.Fault.TheVariants as Told
 use Rattle.directives.specs.declared.Answer.{Answer}
-use Rattle.directives.specs.declared.Answer.TheVariants as Answer
 use Rattle.directives.specs.declared.tokens.Role.{Role}
 use Rattle.directives.specs.declared.tokens.Role.TheVariants.{Opens, Argues, Closes}
 use Rattle.directives.specs.declared.tokens.Next.{Next}
-use Rattle.directives.specs.declared.tokens.Next.TheVariants as Next
 use Rattle.directives.specs.declared.arguments.Arguments.{Arguments}
 use Rattle.directives.specs.declared.arguments.Taken.{Taken}
 use Rattle.directives.specs.declared.parts.Tally.{Tally}
 use Rattle.directives.specs.declared.parts.List.{List as ListAnswer}
 use Rattle.directives.specs.declared.parts.Entry.{Entry}
 use Rattle.directives.specs.declared.parts.Judged.{Judged}
-use Rattle.directives.specs.declared.parts.Judged.TheVariants as Judged
 use Rattle.directives.specs.declared.reading.Ended.{Ended}
-use Rattle.directives.specs.declared.reading.Ended.TheVariants as Ended
 
 -- ---- buffers
 

@@ -1,5 +1,4 @@
 use mathlib.Core.Path.{sym, ◌∙◌}
-use Prim.Native.Nat.{◌-◌}
 use native.Mathlib.Omega.{arith}
 use Rattle.directives.proofs.ArgumentLaws.{begun, going_low, none_left, closed, opened, one_fits, turned}
 use Rattle.directives.proofs.arguments.take_arguments.Goals as goal

@@ -2,7 +2,6 @@
 use mathlib.Core.Path.{◌∙◌, sym}
 use mathlib.Core.Logic.{inl, inr}
 use native.Mathlib.Omega.{arith}
-use borrow.Author.Tests.{not-true, not-false}
 use lib.ListN.{take}
 use Rattle.lexer.specs.Steps.{part}
 use Rattle.directives.proofs.BodyLaws.{action_done, defaults_done, marker_done, unknown_done, only_list, third_list}

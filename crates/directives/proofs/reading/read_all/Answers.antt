@@ -1,5 +1,4 @@
 use mathlib.Core.Path.{◌∙◌, sym, ap, refl}
-use Prim.Native.Nat.{◌-◌}
 use native.Mathlib.Omega.{arith}
 use Rattle.lexer.specs.declared.stepping.Lexeme.{Lexeme}
 use Rattle.directives.proofs.TextLaws.{begun, lengths, ended, passed, not_taken, ready, heard, stand, tally_low, faulty, lacking, put_fits, count_fits, turned}

@@ -1,5 +1,4 @@
 -- All is cleared, but for a name.
-use borrow.Author.Tests.{not-true, not-false}
 use Rattle.directives.proofs.EndingLaws.{refuses_bare, refuses_named}
 use Rattle.directives.proofs.writing.refuse.Goals as goal
 
