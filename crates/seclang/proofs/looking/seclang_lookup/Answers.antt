@@ -20,4 +20,4 @@ pub returns-in_default : goal.returns-in_default
 unfolding lookup_in
 returns-in_default c =
     let n = c.args.table in
-    simp (ne_eqb n 0 c.in-0.rest.0.0.1, ne_eqb n 1 c.in-0.rest.0.1, ne_eqb n 2 c.in-0.rest.1)
+    simp (ne_eqb n 0 c.in_default.in_default-own.rest.0.0.1, ne_eqb n 1 c.in_default.in_default-own.rest.0.1, ne_eqb n 2 c.in_default.in_default-own.rest.1)
