@@ -120,8 +120,8 @@ module _ (s : List ℕ) (end : Result (List Entry)) where
   unfolding over
   first_bad [] this after [] f none q = rw q
   first_bad (x ∷ passed) this after (d ∷ ds) f (also p a) q = rw (p, first_bad passed this after ds f a q)
-  first_bad [] this after (d ∷ ds) f x4 q = elim x4 [ ]
-  first_bad (x ∷ passed) this after [] f x5 q = elim x5 [ ]
+  first_bad [] this after (d ∷ ds) f h q = elim h [ ]
+  first_bad (x ∷ passed) this after [] f h q = elim h [ ]
 
   -- what the items come to
   data Comes (xs : List Item) : Result (List Entry) → Type 0 where
