@@ -12,7 +12,7 @@
  * WHAT IS NEW IN VERSION 5. seclang_directives has one more parameter, `from_2_7` right behind `input_len`: with true
  * every rule that does not continue a chain must have an id, as ModSecurity asks for from 2.7 on, and 18 says which has
  * none; with false it does what it did in version 4. A host that calls it must choose for each package and be compiled
- * again; nothing else has changed. seclang_write_actions came to version 5 later, and 19 is named for both that write:
+ * again; nothing else has changed. seclang_write_actions came to version 5 later, and 19 has a second name for it:
  * SECLANG_NOT_WRITTEN. In version 4 the limit became 1048576 bytes for 16384, a cursor's line and column
  * 1048577 for 16385, and a span word offset * 4294967296 + length for offset * 65536 + length. A host that was compiled
  * for version 3 takes spans apart wrongly; where it uses SECLANG_SPAN_OFFSET and SECLANG_SPAN_LENGTH its source need
@@ -192,14 +192,14 @@ enum seclang_number {
     SECLANG_ID_TAKEN = 16,
     SECLANG_INDEX_FULL = 17,
     SECLANG_ID_MISSING = 18,
-    SECLANG_NOT_WRITTEN = 19,
+    SECLANG_NO_TOKEN = 19,
     SECLANG_NO_INDEX = 20,
     SECLANG_TOO_FAR = 21
 };
 /* end */
 
-/* What 19 was called while only listings were written. */
-#define SECLANG_NO_TOKEN SECLANG_NOT_WRITTEN
+/* What 19 is called where an action list is written. */
+#define SECLANG_NOT_WRITTEN SECLANG_NO_TOKEN
 
 /* made: tokens */
 enum seclang_token {

@@ -717,7 +717,7 @@ static void check_listings(void)
     CHECK(seclang_write_listing(records, 5, text, 1, false, 3, 4, out, LINE, values, 10) == SECLANG_READ &&
           wrote("[[\"word\",1,1,\"a\"]]"));
     records[0] = 6;
-    CHECK(seclang_write_listing(records, 5, text, 1, false, 0, 0, out, LINE, values, 10) == SECLANG_NOT_WRITTEN &&
+    CHECK(seclang_write_listing(records, 5, text, 1, false, 0, 0, out, LINE, values, 10) == SECLANG_NO_TOKEN &&
           values[0] == 0);
     CHECK(SECLANG_NO_TOKEN == SECLANG_NOT_WRITTEN);
     CHECK(seclang_write_refusal(1, SECLANG_LIMIT, out, LINE, values, 10) == SECLANG_READ && wrote("[1,1048576]"));
