@@ -1,7 +1,6 @@
 -- The tests of the definition, in its order.
 use Rattle.listing.proofs.RecordLaws.{strange_zero, strange_above, strange_hidden, strange_shown}
 use mathlib.Core.Path.{◌∙◌}
-use borrow.Author.Tests.{not-true, not-false}
 use Rattle.listing.proofs.records.is_strange.Goals as goal
 
 pub returns-then-kind-eq0 : goal.returns-then-kind-eq0

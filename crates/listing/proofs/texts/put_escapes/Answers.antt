@@ -1,4 +1,3 @@
-use Prim.Native.Nat.{◌-◌}
 use native.Mathlib.Omega.{arith}
 use Rattle.listing.proofs.TextLaws.{begun, turned, ended}
 use Rattle.listing.proofs.texts.put_escapes.Goals as goal
