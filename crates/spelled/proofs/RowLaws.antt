@@ -61,23 +61,23 @@ pub data In (r : Row) : List Row → Type 0 where
   there : (q : Row) (rs : List Row) → In r rs → In r (q ∷ rs)
 
 -- what two columns of a table agree in, they agree in at every row
-alike : {A : Type 0} (f g : Row → A) (rs : List Row) → map f rs ≡ map g rs → (r : Row) → In r rs → f r ≡ g r
-alike {A} f g rs e r (here qs) = let h : ◌≡◌ {A = A} (f r) (g r) = cc in h
-alike {A} f g rs e r (there q qs i) = let h : map f qs ≡ map g qs = cc in alike f g qs h r i
+alike : {A : Type 0} (f g : Row → A) (r : Row) (rs : List Row) → map f rs ≡ map g rs → In r rs → f r ≡ g r
+alike {A} f g r rs e (here qs) = let h : ◌≡◌ {A = A} (f r) (g r) = cc in h
+alike {A} f g r rs e (there q qs i) = let h : map f qs ≡ map g qs = cc in alike f g r qs h i
 
 pub facts : (r : Row) → In r rows → Facts r
 unfolding Back_of letters
 facts r i = record {
-  given = λ t. alike (λ (q : Row). single (lowered q.name ++ (58 ∷ t))) (λ (q : Row). with_text q.rule q t) rows refl r i;
-  bare = alike (λ (q : Row). single (lowered q.name)) (λ (q : Row). with_none q.rule q) rows refl r i;
-  coding = alike (λ (q : Row). eqb q.code transformation_code) (λ (q : Row). false) rows refl r i;
-  fitting = λ x. alike (λ (q : Row). fits_by (coded rows q.code) x) (λ (q : Row). and (same_action x (canon q.rule x)) (texts_fit q.rule x)) rows refl r i;
-  ruling = alike (λ (q : Row). rule_in (coded rows q.code)) (λ (q : Row). q.rule) rows refl r i;
-  bounded = alike (λ (q : Row). small q.rule) (λ (q : Row). true) rows refl r i;
-  first = λ s. alike (λ (q : Row). first_by white (lowered q.name ++ s)) (λ (q : Row). false) rows refl r i;
-  some = alike (λ (q : Row). ltb 0 (length (lowered q.name))) (λ (q : Row). true) rows refl r i;
-  last = λ d. alike (λ (q : Row). last_by white d (lowered q.name)) (λ (q : Row). false) rows refl r i;
-  lettered = alike (λ (q : Row). letters (lowered q.name)) (λ (q : Row). true) rows refl r i;
+  given = λ t. alike (λ (q : Row). single (lowered q.name ++ (58 ∷ t))) (λ (q : Row). with_text q.rule q t) r rows refl i;
+  bare = alike (λ (q : Row). single (lowered q.name)) (λ (q : Row). with_none q.rule q) r rows refl i;
+  coding = alike (λ (q : Row). eqb q.code transformation_code) (λ (q : Row). false) r rows refl i;
+  fitting = λ x. alike (λ (q : Row). fits_by (coded rows q.code) x) (λ (q : Row). and (same_action x (canon q.rule x)) (texts_fit q.rule x)) r rows refl i;
+  ruling = alike (λ (q : Row). rule_in (coded rows q.code)) (λ (q : Row). q.rule) r rows refl i;
+  bounded = alike (λ (q : Row). small q.rule) (λ (q : Row). true) r rows refl i;
+  first = λ s. alike (λ (q : Row). first_by white (lowered q.name ++ s)) (λ (q : Row). false) r rows refl i;
+  some = alike (λ (q : Row). ltb 0 (length (lowered q.name))) (λ (q : Row). true) r rows refl i;
+  last = λ d. alike (λ (q : Row). last_by white d (lowered q.name)) (λ (q : Row). false) r rows refl i;
+  lettered = alike (λ (q : Row). letters (lowered q.name)) (λ (q : Row). true) r rows refl i;
 }
 
 -- a row that is picked by a test from the first on

@@ -26,10 +26,11 @@ by_number : (c : In_default) → let t = c.args.t.now in unread (signed_word t) 
 unfolding textual
 by_number c =
     let t = c.args.t.now in
-    let r = c.in-43.rest in
-    on (isnt_false (no_macro c))
-    (on (isnt_false (leads_is 43 t (some c) ∙ ne_eqb _ 43 r.0.1))
-    (on (isnt_false (leads_is 45 t (some c) ∙ ne_eqb _ 45 r.1)) refl))
+    let r = c.in_default.in_default-own.rest in
+    let l : 0 < length t = omega (arith, c.if-t-eq0.false) in
+    on (isnt_false (sym c.has_macro.ensures ∙ c.if-has_macro.false))
+    (on (isnt_false (leads_is 43 t l ∙ ne_eqb _ 43 r.0.1))
+    (on (isnt_false (leads_is 45 t l ∙ ne_eqb _ 45 r.1)) refl))
 
 pub returns-then-has_macro : goal.returns-then-has_macro
 unfolding textual

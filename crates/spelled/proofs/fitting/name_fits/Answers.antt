@@ -13,7 +13,7 @@ use Rattle.spelled.proofs.fitting.name_fits.Goals.{Joined-collection-gt0}
 no_bang : (c : Joined-collection-gt0) → leads 33 c.args.collection.now ≡ false
 no_bang c =
     let t = c.args.collection.now in
-    ⊎_elim (λ w. leads_is 33 t w.0.true ∙ ne_eqb _ 33 w.2.false) (λ w. leads_nothing 33 t w.false) c.if-collection-gt0.branch-raw
+    ⊎_elim (λ w. leads_is 33 t w.if-collection-gt0.true ∙ ne_eqb _ 33 w.if-collection-eq33.false) (λ w. leads_nothing 33 t w.if-collection-gt0.false) c.if-collection-gt0.branch-raw
 
 pub returns-then-collection-eq33 : goal.returns-then-collection-eq33
 unfolding name_fits

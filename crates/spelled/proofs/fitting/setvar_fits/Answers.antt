@@ -12,7 +12,7 @@ use Rattle.spelled.proofs.fitting.setvar_fits.Goals as goal
 use Rattle.spelled.proofs.fitting.setvar_fits.Goals.{Joined-e-ne-DELETE_KIND}
 
 -- deleted, or with a name that fits
-abbrev Named : tie.Joined3 → Type 0
+abbrev Named : Joined-e-ne-DELETE_KIND → Type 0
 Named c =
     let s = c.args in
     let e = s.e in
@@ -22,7 +22,7 @@ Named c =
 named : (c : Joined-e-ne-DELETE_KIND) → Named c
 named c =
     let k = c.args.e.kind in
-    ⊎_elim {C = Named c} (λ w. sym (neither (ne_eqb k 5 w.0.true) (sym (sym w.2.ensures ∙ w.3.false)))) (λ w. sym (either _ (eq-eqb k 5 w.false))) c.if-e-ne-DELETE_KIND.branch-raw
+    ⊎_elim {C = Named c} (λ w. sym (neither (ne_eqb k 5 w.if-e-ne-DELETE_KIND.true) (sym (sym w.name_fits.ensures ∙ w.if-not-name_fits.false)))) (λ w. sym (either _ (eq-eqb k 5 w.if-e-ne-DELETE_KIND.false))) c.if-e-ne-DELETE_KIND.branch-raw
 
 pub returns-then-has_byte : goal.returns-then-has_byte
 returns-then-has_byte c =

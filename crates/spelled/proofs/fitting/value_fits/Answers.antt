@@ -41,5 +41,5 @@ pub returns-in_default : goal.returns-in_default
 unfolding value_kept
 returns-in_default c =
     let k = c.args.kind in
-    let r = c.in-1.rest in
+    let r = c.in_default.in_default-own.rest in
     simp (ne_eqb k 1 r.0.0.0.1, ne_eqb k 2 r.0.0.1, ne_eqb k 5 r.0.1, ne_eqb k 6 r.1)

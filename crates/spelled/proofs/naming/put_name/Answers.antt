@@ -34,4 +34,4 @@ pub returns : goal.returns
 unfolding codes shelves_of lengths name_for coded rows bytes lower
 returns c =
     let s = c in
-    subst (λ (t : List ℕ). Puts s.args.out.now c.put_bytes.new.0 s.args.at c.put_bytes.result t) (part_name s.args.code s.requires.code_bound) c.put_bytes.ensures
+    subst (λ (t : List ℕ). Puts s.args.out.now c.put_bytes.new.out s.args.at c.put_bytes.result t) (part_name s.args.code s.requires.code_bound) c.put_bytes.ensures

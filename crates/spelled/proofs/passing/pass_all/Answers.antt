@@ -22,7 +22,6 @@ pass-requires-in-Open c =
 pub pass-requires-in-Open-pass : goal.pass-requires-in-Open-pass
 pass-requires-in-Open-pass c =
     let s = c in
-    let m = c.mark-1.given.0 in
     omega
     (arith, s.requires, passed_deep (nest s.args.mark 0) s.args.a.now _ _ (first_is (goal.at.pass-requires-in-Open-pass c).In-Open), passed_deep (nest c.in-Open.mark c.in-Open.depth) s.args.b.now _ _ (second_is (goal.at.pass-requires-in-Open-pass c).In-Open-pass))
 

@@ -14,7 +14,7 @@ use Rattle.spelled.proofs.passing.step.Goals as goal
 use Rattle.spelled.proofs.passing.step.Goals.{Joined-b-eq92}
 
 -- no backslash before a line end
-abbrev Firm : tie.Joined2 → Type 0
+abbrev Firm : Joined-b-eq92 → Type 0
 Firm c =
     let s = c.args in
     and (eqb (get_or s.t.now s.at 0) 92) (line_end (drop (s.at + 1) s.t.now)) ≡ false
@@ -23,7 +23,7 @@ firm : (c : Joined-b-eq92) → Firm c
 firm c =
     let s = c.args in
     let b = get_or s.t.now s.at 0 in
-    ⊎_elim {C = Firm c} (λ w. sym (on (eq-eqb b 92 w.0.true) (sym (sym w.1.ensures ∙ w.2.false)))) (λ w. sym (off _ (ne_eqb b 92 w.false))) c.if-b-eq92.branch-raw
+    ⊎_elim {C = Firm c} (λ w. sym (on (eq-eqb b 92 w.if-b-eq92.true) (sym (sym w.is_line_end.ensures ∙ w.if-is_line_end.false)))) (λ w. sym (off _ (ne_eqb b 92 w.if-b-eq92.false))) c.if-b-eq92.branch-raw
 
 pub returns-then-b-ge128 : goal.returns-then-b-ge128
 returns-then-b-ge128 c =

@@ -36,5 +36,5 @@ pub returns-in_default : goal.returns-in_default
 unfolding cuts nest_after nest_bare quotation
 returns-in_default c =
     let b = c.args.b in
-    let r = c.in-34.rest in
+    let r = c.in_default.in_default-own.rest in
     simp (ne_eqb b 34 r.0.0.0.0.1, ne_eqb b 39 r.0.0.0.1, ne_eqb b 40 r.0.0.1, ne_eqb b 41 r.0.1, ne_eqb b 44 r.1)

@@ -10,4 +10,4 @@ pub returns : goal.returns
 unfolding decimal
 returns c =
     let d = c in
-    put_behind _ d.digits_into-first.new.1.0 d.digits_into-first.result (20 - d.digits_into-first.result) _ (omega (arith, d.digits_into-first.auto)) (digits_shown d.digits_into-first.ensures) c.put_after.ensures
+    put_behind _ d.digits_into-first.new.digits d.digits_into-first.result (20 - d.digits_into-first.result) _ (omega (arith, d.digits_into-first.auto)) (digits_shown d.digits_into-first.ensures) c.put_after.ensures

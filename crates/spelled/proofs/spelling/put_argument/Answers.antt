@@ -10,7 +10,12 @@ use Rattle.spelled.proofs.spelling.put_argument.Goals as goal
 pub put_setvar-past-requires : goal.put_setvar-past-requires
 put_setvar-past-requires c =
     let t = c in
-    let s = t in let whole = (s.requires.placed, (setting_kind s.args.e.code s.args.e.kind (sym s.requires.rule_value ∙ t.in-Setting.is) s.requires.placed.known, omega (arith, s.requires.broad_bound, c.put_byte-open-in-Setting.ensures.next_is, c.put_byte-inside.ensures.next_is))) in record { placed = whole.0; kind_value = whole.1.0; broad_bound = whole.1.1 }
+    let s = t in
+    record {
+      placed = s.requires.placed;
+      kind_value = setting_kind s.args.e.code s.args.e.kind (sym s.requires.rule_value ∙ t.in-Setting.is) s.requires.placed.known;
+      broad_bound = omega (arith, s.requires.broad_bound, c.put_byte-open-in-Setting.ensures.next_is, c.put_byte-inside.ensures.next_is);
+    }
 
 pub put_byte-requires-in-Setting : goal.put_byte-requires-in-Setting
 put_byte-requires-in-Setting c =

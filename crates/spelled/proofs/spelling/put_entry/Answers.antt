@@ -7,7 +7,12 @@ use Rattle.spelled.proofs.spelling.put_entry.Goals as goal
 
 pub put_argument-requires : goal.put_argument-requires
 put_argument-requires c =
-    let s = c in let whole = (s.requires.placed, (s.requires.code_bound.1, omega (arith, s.requires.at_bound, c.put_name-named.ensures.next_is, name_short s.args.e.code s.requires.code_bound.0))) in record { placed = whole.0; rule_value = whole.1.0; broad_bound = whole.1.1 }
+    let s = c in
+    record {
+      placed = s.requires.placed;
+      rule_value = s.requires.code_bound.1;
+      broad_bound = omega (arith, s.requires.at_bound, c.put_name-named.ensures.next_is, name_short s.args.e.code s.requires.code_bound.0);
+    }
 
 pub returns : goal.returns
 returns c =

@@ -1,5 +1,5 @@
 -- Four runs, one after another; the first is there for Delete alone.
-use mathlib.Core.List.{List}
+use mathlib.Core.List.{List, []}
 use mathlib.Core.Logic.{⊎_elim}
 use Prim.Native.Nat.{ℕ, ◌+◌, ◌≤◌}
 use native.Mathlib.Omega.{arith}
@@ -15,8 +15,8 @@ begun : (c : Joined-e-eq-DELETE_KIND) (t : List ℕ) → let a = c.args in Puts 
 begun c t =
     let s = c in
     ⊎_elim
-    (λ w. rw (w.5, w.6, bang_delete s.args.e.number t w.0.true) w.2.ensures)
-    (λ w. rw (w.1, w.2, bang_none s.args.e.number t w.0.false s.requires.kind_value) (put_none _ _))
+    (λ w. rw (w.out-is, w.inside-is, bang_delete s.args.e.number t w.if-e-eq-DELETE_KIND.true) w.put_byte-inside.ensures)
+    (λ w. rw (w.out-is, w.inside-is, bang_none s.args.e.number t w.if-e-eq-DELETE_KIND.false s.requires.kind_value) (put_none _ _))
     c.if-e-eq-DELETE_KIND.branch-raw
 
 near : (c : Joined-e-eq-DELETE_KIND) → c.if-e-eq-DELETE_KIND.inside ≤ c.args.at + 1
@@ -28,14 +28,14 @@ pub put_bytes-dot-requires : goal.put_bytes-dot-requires
 put_bytes-dot-requires c =
     let j = c in
     let s = j in
-    omega (arith, near j, texts_length s.requires.placed, s.requires.broad_bound)
+    omega (arith, near (goal.at.put_bytes-dot-requires c).Joined-e-eq-DELETE_KIND, texts_length s.requires.placed, s.requires.broad_bound)
 
 pub put_after-past-requires : goal.put_after-past-requires
 put_after-past-requires c =
     let b = c in
     let j = b in
     let s = j in
-    omega (arith, near j, b.put_bytes-dot.ensures.next_is, texts_length s.requires.placed, s.requires.broad_bound)
+    omega (arith, near (goal.at.put_after-past-requires c).Joined-e-eq-DELETE_KIND, b.put_bytes-dot.ensures.next_is, texts_length s.requires.placed, s.requires.broad_bound)
 
 pub put_value-requires : goal.put_value-requires
 put_value-requires c =
@@ -43,7 +43,7 @@ put_value-requires c =
     let b = f in
     let j = b in
     let s = j in
-    omega (arith, near j, b.put_bytes-dot.ensures.next_is, f.put_after-past.ensures.next_is, texts_length s.requires.placed, s.requires.broad_bound)
+    omega (arith, near (goal.at.put_value-requires c).Joined-e-eq-DELETE_KIND, b.put_bytes-dot.ensures.next_is, f.put_after-past.ensures.next_is, texts_length s.requires.placed, s.requires.broad_bound)
 
 pub returns : goal.returns
 returns c =
@@ -52,7 +52,7 @@ returns c =
     let b = f in
     let j = b in
     let s = j in
-    put_setting s.requires.placed (begun j _) b.put_bytes-dot.ensures f.put_after-past.ensures v.put_value.ensures
+    put_setting s.requires.placed (begun (goal.at.returns c).Joined-e-eq-DELETE_KIND _) b.put_bytes-dot.ensures f.put_after-past.ensures v.put_value.ensures
 
 pub shape_of-out : goal.shape_of-out
 shape_of-out c = (returns c).long

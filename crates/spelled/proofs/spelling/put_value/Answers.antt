@@ -32,5 +32,5 @@ returns-in-6 c = rw (tail_macro c.args.number c.args.value.now c.in-6.is) c.put_
 pub returns-in_default : goal.returns-in_default
 returns-in_default c =
     let s = c in
-    let r = c.in-1.rest in
+    let r = c.in_default.in_default-own.rest in
     rw (tail_none s.args.number s.args.value.now r.0.0.0.0.1 r.0.0.0.1 r.0.0.1 r.0.1 r.1) (put_none _ _)

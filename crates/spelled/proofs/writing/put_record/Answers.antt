@@ -30,7 +30,13 @@ returns-then-not-is_kept c =
 
 pub put_entry-end-requires : goal.put_entry-end-requires
 put_entry-end-requires c =
-    let x = placed_there c.read_entry.ensures c.in-Stands.is in let whole = (x, ((code_low x, c.rule_for-rule.ensures), (c.mark_for-mark.ensures ∙ ap (mark_for c.rule_for-rule.result) (sym (texts_cut x)), omega (arith, c.put_comma-next.ensures.next_is, comma_length c.args.count, c.requires)))) in record { placed = whole.0; code_bound = whole.1.0; mark_value = whole.1.1.0; at_bound = whole.1.1.1 }
+    let x = placed_there c.read_entry.ensures c.in-Stands.is in
+    record {
+      placed = x;
+      code_bound = (code_low x, c.rule_for-rule.ensures);
+      mark_value = c.mark_for-mark.ensures ∙ ap (mark_for c.rule_for-rule.result) (sym (texts_cut x));
+      at_bound = omega (arith, c.put_comma-next.ensures.next_is, comma_length c.args.count, c.requires);
+    }
 
 pub returns-then-end-gt-LIMIT : goal.returns-then-end-gt-LIMIT
 returns-then-end-gt-LIMIT c = row_long (length c.args.text.now) c.args.offset _ _ _ _ _ _ (shown_there c.read_entry.ensures c.in-Stands.is) c.put_comma-next.ensures c.put_entry-end.ensures c.if-end-gt-LIMIT.true

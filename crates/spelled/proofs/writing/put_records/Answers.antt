@@ -12,7 +12,11 @@ pub loop-count-init : goal.loop-count-init
 loop-count-init c = begun _ _ _ c.first_offset-offset.ensures (omega (arith, c.first_offset-offset.ensures, start_near (room_for action_words (length c.args.words.now)) c.args.words.now (λ i. (c.shared_slice_known-1.given i).fits)))
 
 pub put_record-requires : goal.put_record-requires
-put_record-requires c = let whole = (fits_record c.loop-count.invariant (omega (arith, c.loop-count-test.true, c.room-most.ensures)), (c.loop-count.invariant.inside, c.loop-count.invariant.near)) in record { action_words_in_bounds = whole.0; offset_in_bounds = whole.1.0; to_le_limit = whole.1.1 }
+put_record-requires c = record {
+  action_words_in_bounds = fits_record c.loop-count.invariant (omega (arith, c.loop-count-test.true, c.room-most.ensures));
+  offset_in_bounds = c.loop-count.invariant.inside;
+  to_le_limit = c.loop-count.invariant.near;
+}
 
 pub shape_of-out-in-Fails : goal.shape_of-out-in-Fails
 shape_of-out-in-Fails c = (halted c.loop-count.invariant (omega (arith, c.loop-count-test.true, c.room-most.ensures)) (ap (λ (n : ℕ). leb n (c.loop-count.count + 1)) c.room-most.ensures) c.put_record.ensures c.in-Fails.is).long
