@@ -16,7 +16,6 @@ use Rattle.lent.specs.Layout.{texts_of, records_of}
 use Rattle.lent.specs.Admission.{Opened}
 use Rattle.lent.specs.Table.{Given, given, text_by, records_by, no_action, no_argument, no_variable, Refusal, too_long, not_ascii, short_buffer, no_room, named, unknown_operator, bad_cursor, refused, Outcome, refuses, reads, Filled, past_gate, given_by}
 use Rattle.lent.specs.declared.refusing.Flaw.{Flaw}
-use Rattle.lent.specs.declared.refusing.Flaw.TheVariants as Flaw
 use Rattle.lent.specs.declared.gating.Gate.{Gate}
 use Rattle.lent.specs.declared.gating.Gate.TheVariants.{Open, TooLong, NotAscii, Short}
 use Rattle.lent.proofs.GateLaws.{open_is}

@@ -19,7 +19,6 @@ use Rattle.listing.specs.Json.{joined}
 use Rattle.listing.specs.Promises.{Leaves}
 use Rattle.listing.specs.Steps.{Puts, comma, Finished}
 use Rattle.listing.specs.declared.Answer.{Answer}
-use Rattle.listing.specs.declared.Answer.TheVariants as Answer
 use Rattle.listing.proofs.PutLaws.{put_none, put_more}
 use Rattle.listing.proofs.ElementLaws.{joined_more}
 use Rattle.listing.proofs.EndLaws.{finished}
@@ -35,7 +34,6 @@ use Rattle.spelled.specs.Steps.{stops, RowIs, RowsAre, PutEach}
 use Rattle.spelled.specs.declared.writing.Row.{Row}
 use Rattle.spelled.specs.declared.writing.Row.TheVariants.{Fails, Put}
 use Rattle.spelled.specs.declared.writing.Rows.{Rows}
-use Rattle.spelled.specs.declared.writing.Rows.TheVariants as Rows
 use Rattle.spelled.proofs.StartLaws.{start_low}
 
 -- ---- one step of the definitions

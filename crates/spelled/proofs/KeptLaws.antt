@@ -23,7 +23,6 @@ use Rattle.single_action.specs.Setvar.{has_macro}
 use Rattle.single_action.specs.Marks.{quotation}
 use Rattle.single_action.specs.Table.{rows, Found, found, missing}
 use Rattle.single_action.specs.declared.naming.Rule.{Rule}
-use Rattle.single_action.specs.declared.naming.Rule.TheVariants as Rule
 use Rattle.spelled.specs.Spelling.{coded, has, value_in}
 use Rattle.spelled.specs.Condition.{isnt, same_slot, same_action, canon, first_by, last_by, textual, name_fits, setvar_fits, texts_fit, fits_by, fits}
 use Rattle.spelled.specs.Texts.{rule_in, end_text, end_of}

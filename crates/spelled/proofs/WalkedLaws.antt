@@ -21,7 +21,7 @@ use Rattle.single_action.specs.declared.naming.Rule.TheVariants.{Plain as plain,
 use Rattle.actions.specs.Pieces.{Nest, nest, outside, nest_bare, nest_quoted, nest_after, cuts}
 use Rattle.spelled.specs.Spelling.{has, between, marked, signed, value_in, setvar_in, bang, tail, setvar_text, argument}
 use Rattle.spelled.specs.Condition.{isnt, uncut, nest_past, clean, rough, smooth}
-use Rattle.spelled.specs.Steps.{mark_in, mark_for, closed}
+use Rattle.spelled.specs.Steps.{mark_in, mark_for}
 use Rattle.spelled.proofs.TextwiseLaws.{uncut_append, nest_append}
 use Rattle.spelled.proofs.CalmLaws.{Smooth, uncut_past, nest_past_lem, calm_smooth, bang_smooth, decimal_smooth, signed_smooth}
 use Rattle.single_action.proofs.MadeLaws.{shape_for}

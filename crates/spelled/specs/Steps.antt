@@ -32,7 +32,6 @@ use Rattle.spelled.specs.declared.passing.Passed.TheVariants.{Lost, Open}
 use Rattle.spelled.specs.declared.writing.Row.{Row}
 use Rattle.spelled.specs.declared.writing.Row.TheVariants.{Fails, Put}
 use Rattle.spelled.specs.declared.writing.Rows.{Rows}
-use Rattle.spelled.specs.declared.writing.Rows.TheVariants as Rows
 
 -- ---- a record's place
 

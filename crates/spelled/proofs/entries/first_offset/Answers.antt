@@ -1,5 +1,4 @@
 use mathlib.Core.Path.{◌∙◌, refl, sym}
-use Prim.Native.Nat.{◌-◌}
 use native.Mathlib.Omega.{arith}
 use Rattle.spelled.proofs.StartLaws.{start_found, start_passed, start_ended, texts_mark}
 use Rattle.spelled.proofs.entries.first_offset.Goals as goal

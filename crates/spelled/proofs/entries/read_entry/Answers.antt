@@ -1,7 +1,6 @@
 -- By the laws of a record's words; its places are those that the calls give.
 use mathlib.Core.Path.{◌∙◌, sym}
 use Prim.Native.Nat.{◌+◌}
-use borrow.Author.Tests.{not-true, not-false}
 use Rattle.spelled.proofs.EntryLaws.{reads_unknown, reads_past, reads_stands}
 use Rattle.spelled.proofs.entries.read_entry.Goals as goal
 

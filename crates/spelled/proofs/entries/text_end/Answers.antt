@@ -2,7 +2,7 @@
 use native.Mathlib.Omega.{arith}
 use mathlib.Core.Path.{◌∙◌, sym}
 use mathlib.Core.Bool.{true, false}
-use borrow.Author.Tests.{not-true, not-false, eq-eqb, ne_eqb}
+use borrow.Author.Tests.{eq-eqb, ne_eqb}
 use Rattle.records.specs.Marks.{span_end}
 use Rattle.spelled.proofs.EntryLaws.{absent_end, elsewhere_end, far_end, long_end, present_end, halves_low}
 use Rattle.spelled.proofs.entries.text_end.Goals as goal

@@ -1,6 +1,5 @@
 -- Each way out is the test that it stands for.
 use mathlib.Core.Path.{◌∙◌, refl, sym}
-use borrow.Author.Tests.{not-true, not-false}
 use Rattle.spelled.proofs.FitLaws.{off, on}
 use Rattle.spelled.proofs.fitting.is_flawless.Goals as goal
 

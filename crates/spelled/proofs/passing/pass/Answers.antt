@@ -1,5 +1,4 @@
 use mathlib.Core.Path.{◌∙◌, sym, refl}
-use Prim.Native.Nat.{◌-◌}
 use native.Mathlib.Omega.{arith}
 use Rattle.actions.specs.Pieces.{nest}
 use Rattle.spelled.proofs.WalkLaws.{walk_lost, walk_on, passed_end}

@@ -1,7 +1,6 @@
 -- The tests one after another, each as the definition has it.
 use native.Mathlib.Omega.{arith}
 use mathlib.Core.Path.{◌∙◌, sym}
-use borrow.Author.Tests.{not-true, not-false}
 use Rattle.spelled.proofs.RecordLaws.{unkept, kept_lost, kept_last, kept_open, kept_closed}
 use Rattle.spelled.proofs.writing.is_kept.Goals as goal
 

@@ -2,7 +2,6 @@
 use mathlib.Core.Path.{◌∙◌, refl, sym, ap}
 use native.Mathlib.Omega.{arith}
 use lib.ListN.{length}
-use borrow.Author.Tests.{not-true, not-false}
 use Rattle.listing.proofs.ElementLaws.{comma_length}
 use Rattle.spelled.specs.Steps.{mark_for}
 use Rattle.spelled.proofs.RecordLaws.{texts_cut, code_low, entry_holds, placed_there, past_there, shown_there, none_there, row_stray, row_unwritten, row_long, row_put}
