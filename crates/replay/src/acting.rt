@@ -1,6 +1,7 @@
 // The answers for action lists and for a setvar alone.
 use crate::words::{print_number, print_records, print_refusal, print_refused, print_text};
 use actions::Answer;
+use std::io;
 
 // The length up to the last byte that is not zero.
 fn filled(s: &[u8]) -> usize {
@@ -15,38 +16,51 @@ fn filled(s: &[u8]) -> usize {
     n
 }
 
-fn print_answer(answer: Answer, text: &[u8], records: &[u64]) {
+fn print_answer(rt: &HostRuntime, answer: Answer, text: &[u8], records: &[u64]) -> io::Result<()> {
     match answer {
         Answer::Read { count, text: used } => {
-            print_number(0);
-            print_number(count as u64);
-            print_number(used as u64);
-            print_records(records, count, b"nnssnss");
-            print_text(text, used);
+            print_number(rt, 0)?;
+            print_number(rt, count as u64)?;
+            print_number(rt, used as u64)?;
+            print_records(rt, records, count, b"nnssnss")?;
+            print_text(rt, text, used)
         }
-        Answer::TooLong => print_refusal(1, lent::LIMIT),
-        Answer::NotAscii(place) => print_refusal(2, place),
-        Answer::Short => print_refusal(3, 0),
-        Answer::UnknownAction { piece, name, span } => print_refused(5, piece, name, span, text),
+        Answer::TooLong => print_refusal(rt, 1, lent::LIMIT),
+        Answer::NotAscii(place) => print_refusal(rt, 2, place),
+        Answer::Short => print_refusal(rt, 3, 0),
+        Answer::UnknownAction { piece, name, span } => print_refused(
+            rt, 5, piece, name, span, text,
+        ),
         Answer::BadArgument {
             flaw,
             piece,
             name,
             span,
-        } => print_refused(lent::flaw_number(flaw), piece, name, span, text),
-        Answer::NoRoom(needed) => print_refusal(4, needed),
+        } => print_refused(rt, lent::flaw_number(flaw), piece, name, span, text),
+        Answer::NoRoom(needed) => print_refusal(rt, 4, needed),
     }
 }
 
 // The scratch buffer comes last, without the zeros at its end.
-pub fn print_actions(input: &[u8], text: &mut [u8], scratch: &mut [u8], records: &mut [u64]) {
+pub fn print_actions(
+    rt: &HostRuntime,
+    input: &[u8],
+    text: &mut [u8],
+    scratch: &mut [u8],
+    records: &mut [u64],
+) -> io::Result<()> {
     let answer = actions::parse_actions(input, text, scratch, records);
-    print_answer(answer, text, records);
-    io::write_all(1, b" ");
-    print_text(scratch, filled(scratch));
+    print_answer(rt, answer, text, records)?;
+    rt.write_all(b" ")?;
+    print_text(rt, scratch, filled(scratch))
 }
 
-pub fn print_setvar(input: &[u8], text: &mut [u8], records: &mut [u64]) {
+pub fn print_setvar(
+    rt: &HostRuntime,
+    input: &[u8],
+    text: &mut [u8],
+    records: &mut [u64],
+) -> io::Result<()> {
     let answer = actions::parse_setvar(input, text, records);
-    print_answer(answer, text, records);
+    print_answer(rt, answer, text, records)
 }

@@ -1,4 +1,5 @@
 // One answer, by the question's letter, in buffers that short or long questions have. docs/VECTORS.md lists the letters.
+use crate::words::print_decimal;
 use crate::{
     acting, converting, hexes, indexing, lexing, matching, operating, phasing, selecting,
     targeting, thin,
@@ -6,55 +7,46 @@ use crate::{
 use ascii::Number;
 use directives::Version;
 use names::Lookup;
+use std::io;
 
-fn print_number(n: Number) {
+fn print_number(rt: &HostRuntime, n: Number) -> io::Result<()> {
     match n {
-        Number::Value(v) => {
-            io::print_decimal(1, v);
-        }
-        Number::Unreadable => {
-            io::write_all(1, b"refused");
-        }
-        Number::TooLarge => {
-            io::write_all(1, b"refused");
-        }
+        Number::Value(v) => print_decimal(rt, v),
+        Number::Unreadable => rt.write_all(b"refused"),
+        Number::TooLarge => rt.write_all(b"refused"),
     }
 }
 
-fn print_code(found: Lookup) {
+fn print_code(rt: &HostRuntime, found: Lookup) -> io::Result<()> {
     match found {
-        Lookup::Code(code) => {
-            io::print_decimal(1, code);
-        }
-        Lookup::Unknown => {
-            io::write_all(1, b"unknown");
-        }
+        Lookup::Code(code) => print_decimal(rt, code),
+        Lookup::Unknown => rt.write_all(b"unknown"),
     }
 }
 
-fn print_flag(flag: bool) {
+fn print_flag(rt: &HostRuntime, flag: bool) -> io::Result<()> {
     if flag {
-        io::write_all(1, b"1");
+        rt.write_all(b"1")
     } else {
-        io::write_all(1, b"0");
+        rt.write_all(b"0")
     }
 }
 
 // The three tests on a code.
-fn print_flags(code: u64) {
-    print_flag(names::is_collection(code));
-    io::write_all(1, b" ");
-    print_flag(names::is_implemented(code));
-    io::write_all(1, b" ");
-    print_flag(names::requires_argument(code));
+fn print_flags(rt: &HostRuntime, code: u64) -> io::Result<()> {
+    print_flag(rt, names::is_collection(code))?;
+    rt.write_all(b" ")?;
+    print_flag(rt, names::is_implemented(code))?;
+    rt.write_all(b" ")?;
+    print_flag(rt, names::requires_argument(code))
 }
 
-fn print_trimmed(s: &[u8]) {
+fn print_trimmed(rt: &HostRuntime, s: &[u8]) -> io::Result<()> {
     let t = ascii::trim(s);
     if t.len() == 0 {
-        io::write_all(1, b"empty");
+        rt.write_all(b"empty")
     } else {
-        hexes::print(t);
+        hexes::print(rt, t)
     }
 }
 
@@ -88,54 +80,59 @@ pub fn needs(letter: u8) -> Lending {
 }
 
 // What lends a text and records.
-pub fn answer_read(letter: u8, body: &[u8], text: &mut [u8], records: &mut [u64]) {
+pub fn answer_read(
+    rt: &HostRuntime,
+    letter: u8,
+    body: &[u8],
+    text: &mut [u8],
+    records: &mut [u64],
+) -> io::Result<()> {
     match letter {
-        b'T' => lexing::print_tokens(body, text, records),
-        b'P' => lexing::print_plain_tokens(body, text, records),
-        b'S' => lexing::print_step(body, text),
-        b'R' => thin::print_steps(body, text),
-        b'l' => targeting::print_variables(body, text, records),
-        _ => targeting::print_update(body, text, records),
+        b'T' => lexing::print_tokens(rt, body, text, records),
+        b'P' => lexing::print_plain_tokens(rt, body, text, records),
+        b'S' => lexing::print_step(rt, body, text),
+        b'R' => thin::print_steps(rt, body, text),
+        b'l' => targeting::print_variables(rt, body, text, records),
+        _ => targeting::print_update(rt, body, text, records),
     }
 }
 
 // Action lists, and a setvar alone, which takes one record.
 pub fn answer_acted(
+    rt: &HostRuntime,
     letter: u8,
     body: &[u8],
     text: &mut [u8],
     scratch: &mut [u8],
     records: &mut [u64],
-) {
+) -> io::Result<()> {
     match letter {
-        b'a' => acting::print_actions(body, text, scratch, records),
-        _ => acting::print_setvar(body, text, records),
+        b'a' => acting::print_actions(rt, body, text, scratch, records),
+        _ => acting::print_setvar(rt, body, text, records),
     }
 }
 
 // What lends nothing.
-pub fn answer_bare(letter: u8, body: &[u8]) {
+pub fn answer_bare(rt: &HostRuntime, letter: u8, body: &[u8]) -> io::Result<()> {
     match letter {
-        b'1' => print_number(ascii::unsigned(body, 255)),
-        b'2' => print_number(ascii::unsigned(body, 65535)),
-        b'4' => print_number(ascii::unsigned(body, 4294967295)),
-        b'8' => print_number(ascii::unsigned(body, 18446744073709551615)),
-        b'i' => print_number(ascii::signed(body)),
-        b't' => print_trimmed(body),
-        b'v' => print_code(names::variable_code(body)),
-        b'o' => print_code(names::operator_code(body)),
-        b's' => print_code(names::severity_code(body)),
-        b'p' => operating::print_operator(body),
-        b'x' => selecting::print_xml(body),
-        b'm' => matching::print_match(body),
-        b'h' => phasing::print_phase(body),
-        b'c' => print_flags(hexes::word(body)),
-        b'f' => converting::print_from_old(hexes::word(body)),
-        b'g' => converting::print_to_old(hexes::word(body)),
-        b'j' => indexing::print_add(body),
-        b'k' => indexing::print_remove(body),
-        _ => {
-            io::write_all(1, b"?");
-        }
+        b'1' => print_number(rt, ascii::unsigned(body, 255)),
+        b'2' => print_number(rt, ascii::unsigned(body, 65535)),
+        b'4' => print_number(rt, ascii::unsigned(body, 4294967295)),
+        b'8' => print_number(rt, ascii::unsigned(body, 18446744073709551615)),
+        b'i' => print_number(rt, ascii::signed(body)),
+        b't' => print_trimmed(rt, body),
+        b'v' => print_code(rt, names::variable_code(body)),
+        b'o' => print_code(rt, names::operator_code(body)),
+        b's' => print_code(rt, names::severity_code(body)),
+        b'p' => operating::print_operator(rt, body),
+        b'x' => selecting::print_xml(rt, body),
+        b'm' => matching::print_match(rt, body),
+        b'h' => phasing::print_phase(rt, body),
+        b'c' => print_flags(rt, hexes::word(body)),
+        b'f' => converting::print_from_old(rt, hexes::word(body)),
+        b'g' => converting::print_to_old(rt, hexes::word(body)),
+        b'j' => indexing::print_add(rt, body),
+        b'k' => indexing::print_remove(rt, body),
+        _ => rt.write_all(b"?"),
     }
 }

@@ -1,13 +1,20 @@
 // The answer for a package: its directives, or the first fault.
 use crate::words::{print_number, print_records, print_refusal, print_span_word, print_text};
 use directives::{Answer, ArgumentFault, Fault, LineFault, Version};
+use std::io;
 
 // A number with three values.
-fn print_three(number: u64, first: usize, second: usize, third: usize) {
-    print_number(number);
-    print_number(first as u64);
-    print_number(second as u64);
-    print_number(third as u64);
+fn print_three(
+    rt: &HostRuntime,
+    number: u64,
+    first: usize,
+    second: usize,
+    third: usize,
+) -> io::Result<()> {
+    print_number(rt, number)?;
+    print_number(rt, first as u64)?;
+    print_number(rt, second as u64)?;
+    print_number(rt, third as u64)
 }
 
 fn line_number(why: LineFault) -> u64 {
@@ -29,9 +36,9 @@ fn argument_number(why: ArgumentFault) -> u64 {
 }
 
 // A name stands in the text after 5, 7 and 10 to 12 alone.
-fn print_fault(fault: Fault, text: &[u8]) {
+fn print_fault(rt: &HostRuntime, fault: Fault, text: &[u8]) -> io::Result<()> {
     match fault {
-        Fault::Line { why, line } => print_refusal(line_number(why), line),
+        Fault::Line { why, line } => print_refusal(rt, line_number(why), line),
         Fault::Argument {
             why,
             line,
@@ -40,14 +47,21 @@ fn print_fault(fault: Fault, text: &[u8]) {
             span,
         } => {
             let number = argument_number(why);
-            print_three(number, line, at, len);
-            print_span_word(span);
-            print_text(text, if number == 8 { 0 } else { len });
+            print_three(rt, number, line, at, len)?;
+            print_span_word(rt, span)?;
+            print_text(rt, text, if number == 8 { 0 } else { len })
         }
     }
 }
 
-fn print_answer(answer: Answer, text: &[u8], records: &[u64], variables: &[u64], actions: &[u64]) {
+fn print_answer(
+    rt: &HostRuntime,
+    answer: Answer,
+    text: &[u8],
+    records: &[u64],
+    variables: &[u64],
+    actions: &[u64],
+) -> io::Result<()> {
     match answer {
         Answer::Read {
             directives: d,
@@ -55,32 +69,33 @@ fn print_answer(answer: Answer, text: &[u8], records: &[u64], variables: &[u64],
             actions: a,
             text: used,
         } => {
-            print_number(0);
-            print_number(d as u64);
-            print_number(v as u64);
-            print_number(a as u64);
-            print_number(used as u64);
-            print_records(records, d, b"nnssnnsnnnn");
-            print_records(variables, v, b"nnnnss");
-            print_records(actions, a, b"nnssnss");
-            print_text(text, used);
+            print_number(rt, 0)?;
+            print_number(rt, d as u64)?;
+            print_number(rt, v as u64)?;
+            print_number(rt, a as u64)?;
+            print_number(rt, used as u64)?;
+            print_records(rt, records, d, b"nnssnnsnnnn")?;
+            print_records(rt, variables, v, b"nnnnss")?;
+            print_records(rt, actions, a, b"nnssnss")?;
+            print_text(rt, text, used)
         }
-        Answer::TooLong => print_refusal(1, lent::LIMIT),
-        Answer::NotAscii(place) => print_refusal(2, place),
-        Answer::Short => print_refusal(3, 0),
-        Answer::Refused(fault) => print_fault(fault, text),
+        Answer::TooLong => print_refusal(rt, 1, lent::LIMIT),
+        Answer::NotAscii(place) => print_refusal(rt, 2, place),
+        Answer::Short => print_refusal(rt, 3, 0),
+        Answer::Refused(fault) => print_fault(rt, fault, text),
         Answer::NoRoom {
             directives: d,
             variables: v,
             actions: a,
         } => {
-            print_three(4, d, v, a);
-            io::write_all(1, b"-");
+            print_three(rt, 4, d, v, a)?;
+            rt.write_all(b"-")
         }
     }
 }
 
 pub fn print_directives(
+    rt: &HostRuntime,
     input: &[u8],
     version: Version,
     text: &mut [u8],
@@ -88,7 +103,7 @@ pub fn print_directives(
     records: &mut [u64],
     variables: &mut [u64],
     actions: &mut [u64],
-) {
+) -> io::Result<()> {
     let answer = directives::directives(input, version, text, scratch, records, variables, actions);
-    print_answer(answer, text, records, variables, actions);
+    print_answer(rt, answer, text, records, variables, actions)
 }

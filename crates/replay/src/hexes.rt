@@ -1,6 +1,8 @@
 // Bytes as pairs of hexadecimal digits.
 ghost use Rattle.std.specs.Prelude.{◌≤◌, ◌<◌, length};
 
+use std::io;
+
 fn digit_value(b: u8) -> u8
     ensures { result < 16 }
 {
@@ -78,23 +80,24 @@ pub fn sum_front(s: &[u8], n: usize) -> u64 {
     sum
 }
 
-fn print_byte(b: u8) {
+fn print_byte(rt: &HostRuntime, b: u8) -> io::Result<()> {
     let pair = [digit_of(b / 16), digit_of(b % 16)];
-    io::write_all(1, &pair);
+    rt.write_all(&pair)
 }
 
-pub fn print(s: &[u8]) {
-    print_front(s, s.len());
+pub fn print(rt: &HostRuntime, s: &[u8]) -> io::Result<()> {
+    print_front(rt, s, s.len())
 }
 
 // The first `n` bytes, or all.
-pub fn print_front(s: &[u8], n: usize) {
+pub fn print_front(rt: &HostRuntime, s: &[u8], n: usize) -> io::Result<()> {
     let mut i = 0;
     while i < n {
         if s.len() <= i {
-            return;
+            return Ok(());
         }
-        print_byte(s[i]);
+        print_byte(rt, s[i])?;
         i += 1;
     }
+    Ok(())
 }

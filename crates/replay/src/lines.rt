@@ -2,6 +2,8 @@
 ghost use Rattle.std.specs.Prelude.{◌≤◌, length};
 ghost use Rattle.replay.specs.Lines.{Within};
 
+use std::io::{Read, Stdin};
+
 #[derive(Clone, Copy)]
 pub enum Line {
     // Its length without the line feed.
@@ -15,22 +17,22 @@ enum Input {
     End,
 }
 
-fn read_byte() -> Input {
+// A read that fails is the end.
+fn read_byte(from: &mut Stdin) -> Input {
     let mut one = [0u8; 1];
-    if libc::read(0, &mut one) == 1 {
-        Input::Byte(one[0])
-    } else {
-        Input::End
+    match from.read(&mut one) {
+        Ok(1) => Input::Byte(one[0]),
+        _ => Input::End,
     }
 }
 
 // A line at the front of `line`, cut where that is full.
-pub fn read_line(line: &mut [u8]) -> Line
+pub fn read_line(from: &mut Stdin, line: &mut [u8]) -> Line
     ensures { Within (length line.new) result }
 {
     let mut n = 0;
     while n < line.len() {
-        let Input::Byte(b) = read_byte() else {
+        let Input::Byte(b) = read_byte(from) else {
             return Line::End;
         };
         if b == 10 {

@@ -1,22 +1,29 @@
 // A text's line, but for its line feed.
 use listing::Answer;
+use std::io;
 
 // The first `n` bytes but the last.
-fn print_line(out: &[u8], n: usize) {
+fn print_line(rt: &HostRuntime, out: &[u8], n: usize) -> io::Result<()> {
     if n == 0 {
-        return;
+        return Ok(());
     }
     let end = n - 1;
     if out.len() < end {
-        return;
+        return Ok(());
     }
-    io::write_all(1, &out[..end]);
+    rt.write_all(&out[..end])
 }
 
-pub fn print_listing(input: &[u8], text: &mut [u8], records: &mut [u64], out: &mut [u8]) {
+pub fn print_listing(
+    rt: &HostRuntime,
+    input: &[u8],
+    text: &mut [u8],
+    records: &mut [u64],
+    out: &mut [u8],
+) -> io::Result<()> {
     match listing::list_text(input, text, records, out) {
-        Answer::Written(n) => print_line(out, n),
-        Answer::NoRoom(_) => {}
-        Answer::NoToken(_) => {}
+        Answer::Written(n) => print_line(rt, out, n),
+        Answer::NoRoom(_) => Ok(()),
+        Answer::NoToken(_) => Ok(()),
     }
 }

@@ -4,32 +4,34 @@ ghost use Rattle.std.specs.Prelude.{◌≤◌, length};
 use crate::answers::Lending;
 use crate::{answers, directing, hexes, listings, sizes, writing};
 use directives::Version;
+use std::io;
 
 // A function's result, so that the check need not count an array of this size one by one.
 fn memory() -> [u8; sizes::LONG_BYTES] {
     [0u8; sizes::LONG_BYTES]
 }
 
-fn read(letter: u8, body: &[u8]) {
+fn read(rt: &HostRuntime, letter: u8, body: &[u8]) -> io::Result<()> {
     let mut text = memory();
     let mut records = [0u64; sizes::RECORDS];
-    answers::answer_read(letter, body, &mut text, &mut records);
+    answers::answer_read(rt, letter, body, &mut text, &mut records)
 }
 
-fn act(letter: u8, body: &[u8]) {
+fn act(rt: &HostRuntime, letter: u8, body: &[u8]) -> io::Result<()> {
     let mut text = memory();
     let mut scratch = memory();
     let mut records = [0u64; sizes::ACTIONS];
-    answers::answer_acted(letter, body, &mut text, &mut scratch, &mut records);
+    answers::answer_acted(rt, letter, body, &mut text, &mut scratch, &mut records)
 }
 
-fn join(version: Version, body: &[u8]) {
+fn join(rt: &HostRuntime, version: Version, body: &[u8]) -> io::Result<()> {
     let mut text = memory();
     let mut scratch = memory();
     let mut records = [0u64; sizes::DIRECTIVES];
     let mut variables = [0u64; sizes::VARIABLES];
     let mut actions = [0u64; sizes::ACTIONS];
     directing::print_directives(
+        rt,
         body,
         version,
         &mut text,
@@ -37,19 +39,19 @@ fn join(version: Version, body: &[u8]) {
         &mut records,
         &mut variables,
         &mut actions,
-    );
+    )
 }
 
-fn list(body: &[u8]) {
+fn list(rt: &HostRuntime, body: &[u8]) -> io::Result<()> {
     let mut text = memory();
     let mut records = [0u64; sizes::RECORDS];
     let mut out = memory();
-    listings::print_listing(body, &mut text, &mut records, &mut out);
+    listings::print_listing(rt, body, &mut text, &mut records, &mut out)
 }
 
-fn write(body: &[u8]) {
+fn write(rt: &HostRuntime, body: &[u8]) -> io::Result<()> {
     let mut out = memory();
-    writing::print_written(body, &mut out);
+    writing::print_written(rt, body, &mut out)
 }
 
 // Bytes at a place, where they fit, and the place past them.
@@ -99,19 +101,19 @@ fn spread(body: &[u8], out: &mut [u8]) -> usize
     put(out, past, &rest[part..])
 }
 
-fn answer_spread(letter: u8, body: &[u8]) {
+fn answer_spread(rt: &HostRuntime, letter: u8, body: &[u8]) -> io::Result<()> {
     match answers::needs(letter) {
-        Lending::Reader => read(letter, body),
-        Lending::Actor => act(letter, body),
-        Lending::Joiner(version) => join(version, body),
-        Lending::Lister => list(body),
-        Lending::Writer => write(body),
-        Lending::Nothing => answers::answer_bare(letter, body),
+        Lending::Reader => read(rt, letter, body),
+        Lending::Actor => act(rt, letter, body),
+        Lending::Joiner(version) => join(rt, version, body),
+        Lending::Lister => list(rt, body),
+        Lending::Writer => write(rt, body),
+        Lending::Nothing => answers::answer_bare(rt, letter, body),
     }
 }
 
-pub fn answer(letter: u8, body: &[u8]) {
+pub fn answer(rt: &HostRuntime, letter: u8, body: &[u8]) -> io::Result<()> {
     let mut text = memory();
     let n = spread(body, &mut text);
-    answer_spread(letter, &text[..n]);
+    answer_spread(rt, letter, &text[..n])
 }

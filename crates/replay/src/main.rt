@@ -25,31 +25,33 @@ mod words;
 mod writing;
 
 use lines::Line;
+use std::io;
 
 // One question and its answer; whether there was one.
-fn answer_one() -> bool {
+fn answer_one(rt: &HostRuntime) -> io::Result<bool> {
     let mut line = [0u8; sizes::LINE];
-    let Line::Of(n) = lines::read_line(&mut line) else {
-        return false;
+    let Line::Of(n) = lines::read_line(&mut rt.stdin(), &mut line) else {
+        return Ok(false);
     };
     if n < 2 {
-        return false;
+        return Ok(false);
     }
     let mut body = [0u8; sizes::BODY];
     let len = hexes::decode(&line[2..n], &mut body);
     if line[1] == b'*' {
-        long::answer(line[0], &body[..len]);
+        long::answer(rt, line[0], &body[..len])?;
     } else {
-        short::answer(line[0], &body[..len]);
+        short::answer(rt, line[0], &body[..len])?;
     }
-    io::write_all(1, b"\n");
-    true
+    rt.write_all(b"\n")?;
+    Ok(true)
 }
 
 // A proved loop has to end, and nothing says that the input does: the count is one that no run uses up.
-fn main() {
+fn main(rt: HostRuntime) -> io::Result<()> {
     let mut turns = u64::MAX;
-    while turns > 0 && answer_one() {
+    while turns > 0 && answer_one(&rt)? {
         turns -= 1;
     }
+    Ok(())
 }

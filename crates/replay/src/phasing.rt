@@ -1,8 +1,10 @@
 // A rule's phase, out of the records of its actions.
+use crate::words::print_decimal;
 use crate::{hexes, sizes};
+use std::io;
 
-pub fn print_phase(body: &[u8]) {
+pub fn print_phase(rt: &HostRuntime, body: &[u8]) -> io::Result<()> {
     let mut words = [0u64; sizes::PHASED];
     let n = hexes::words_into(body, &mut words);
-    io::print_decimal(1, rules::phase(&words[..n]));
+    print_decimal(rt, rules::phase(&words[..n]))
 }

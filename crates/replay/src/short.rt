@@ -2,27 +2,29 @@
 use crate::answers::Lending;
 use crate::{answers, directing, listings, sizes, writing};
 use directives::Version;
+use std::io;
 
-fn read(letter: u8, body: &[u8]) {
+fn read(rt: &HostRuntime, letter: u8, body: &[u8]) -> io::Result<()> {
     let mut text = [0u8; sizes::SHORT];
     let mut records = [0u64; sizes::RECORDS];
-    answers::answer_read(letter, body, &mut text, &mut records);
+    answers::answer_read(rt, letter, body, &mut text, &mut records)
 }
 
-fn act(letter: u8, body: &[u8]) {
+fn act(rt: &HostRuntime, letter: u8, body: &[u8]) -> io::Result<()> {
     let mut text = [0u8; sizes::SHORT_SETVAR];
     let mut scratch = [0u8; sizes::SHORT];
     let mut records = [0u64; sizes::ACTIONS];
-    answers::answer_acted(letter, body, &mut text, &mut scratch, &mut records);
+    answers::answer_acted(rt, letter, body, &mut text, &mut scratch, &mut records)
 }
 
-fn join(version: Version, body: &[u8]) {
+fn join(rt: &HostRuntime, version: Version, body: &[u8]) -> io::Result<()> {
     let mut text = [0u8; sizes::SHORT];
     let mut scratch = [0u8; sizes::SHORT];
     let mut records = [0u64; sizes::DIRECTIVES];
     let mut variables = [0u64; sizes::VARIABLES];
     let mut actions = [0u64; sizes::ACTIONS];
     directing::print_directives(
+        rt,
         body,
         version,
         &mut text,
@@ -30,28 +32,28 @@ fn join(version: Version, body: &[u8]) {
         &mut records,
         &mut variables,
         &mut actions,
-    );
+    )
 }
 
-fn list(body: &[u8]) {
+fn list(rt: &HostRuntime, body: &[u8]) -> io::Result<()> {
     let mut text = [0u8; sizes::SHORT];
     let mut records = [0u64; listing::LIST_RECORDS];
     let mut out = [0u8; listing::LIST_LINE];
-    listings::print_listing(body, &mut text, &mut records, &mut out);
+    listings::print_listing(rt, body, &mut text, &mut records, &mut out)
 }
 
-fn write(body: &[u8]) {
+fn write(rt: &HostRuntime, body: &[u8]) -> io::Result<()> {
     let mut out = [0u8; sizes::SHORT];
-    writing::print_written(body, &mut out);
+    writing::print_written(rt, body, &mut out)
 }
 
-pub fn answer(letter: u8, body: &[u8]) {
+pub fn answer(rt: &HostRuntime, letter: u8, body: &[u8]) -> io::Result<()> {
     match answers::needs(letter) {
-        Lending::Reader => read(letter, body),
-        Lending::Actor => act(letter, body),
-        Lending::Joiner(version) => join(version, body),
-        Lending::Lister => list(body),
-        Lending::Writer => write(body),
-        Lending::Nothing => answers::answer_bare(letter, body),
+        Lending::Reader => read(rt, letter, body),
+        Lending::Actor => act(rt, letter, body),
+        Lending::Joiner(version) => join(rt, version, body),
+        Lending::Lister => list(rt, body),
+        Lending::Writer => write(rt, body),
+        Lending::Nothing => answers::answer_bare(rt, letter, body),
     }
 }
