@@ -15,7 +15,6 @@ use Rattle.operators.specs.Operators.{Reading, accepted, unknown, operator}
 use Rattle.operators.specs.Places.{name_place}
 use Rattle.operators.specs.Promises.{answer_given, outcome_of, operator_outcome, given_by, ParseOperator}
 use Rattle.operators.specs.declared.Answer.{Answer as Operated}
-use Rattle.operators.specs.declared.Answer.TheVariants as Operated
 use Rattle.operators.proofs.PromiseLaws.{refused_inside}
 use Rattle.listing.specs.Promises.{Outcome, answer_given as listed_given, Leaves}
 use Rattle.listing.specs.declared.Answer.{Answer}

@@ -5,7 +5,6 @@ use Rattle.names.specs.Variables.{variable_code, is_collection, is_implemented}
 use Rattle.names.specs.Operators.{operator_code, requires_argument}
 use Rattle.names.specs.Severities.{severity_code}
 use Rattle.names.specs.declared.Lookup.{Lookup}
-use Rattle.names.specs.declared.Lookup.TheVariants as Lookup
 use Rattle.xml.specs.declared.XmlTarget.{XmlTarget}
 use Rattle.xml.specs.declared.XmlTarget.TheVariants.{Elements, Attributes, All, Neither}
 use Rattle.rules.specs.declared.selecting.RuleIdSelector.{RuleIdSelector}

@@ -10,7 +10,6 @@ use Rattle.directives.specs.declared.Version.{Version}
 use Rattle.directives.specs.Table as Directing
 use Rattle.directives.specs.Promises as Whole
 use Rattle.listing.specs.declared.Stop.{Stop}
-use Rattle.listing.specs.declared.Stop.TheVariants as Stop
 use Rattle.listing.specs.Listings.{line_of}
 use Rattle.listing.specs.Promises as Listing
 use Rattle.seclang.specs.Told.{Told}

@@ -4,7 +4,6 @@ use Rattle.lent.specs.Sizes.{limit}
 use Rattle.lent.specs.Buffers.{stored}
 use Rattle.lent.specs.Table.{Given}
 use Rattle.operators.specs.declared.Answer.{Answer as Operated}
-use Rattle.operators.specs.declared.Answer.TheVariants as Operated
 
 -- The values stand at the front where they fit whole, and no other word is touched; else none is.
 pub record Told (g : Given) (old new : List ℕ) (r : ℕ) : Type 0 where
