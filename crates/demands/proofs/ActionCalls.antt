@@ -17,7 +17,6 @@ use Rattle.single_action.specs.Actions.{Action, Single, done, bad, unknown, sing
 use Rattle.actions.specs.Lists.{action_then, single_then, actions_from, listed, normal_site, actions_of}
 use Rattle.actions.specs.Promises as A
 use Rattle.actions.specs.declared.Answer.{Answer}
-use Rattle.actions.specs.declared.Answer.TheVariants as Answer
 use Rattle.actions.specs.declared.Reached.{Reached}
 use Rattle.actions.specs.declared.normalising.Normal.{Normal}
 use Rattle.actions.proofs.GivenLaws.{parse_actions_once, setvar_once}

@@ -17,7 +17,6 @@ use Rattle.lent.specs.declared.gating.Gate.{Gate}
 use Rattle.lent.specs.declared.gating.Gate.TheVariants.{Open}
 use Rattle.lent.specs.Admission.{Opened}
 use Rattle.lent.specs.declared.refusing.Flaw.{Flaw}
-use Rattle.lent.specs.declared.refusing.Flaw.TheVariants as Flaw
 use Rattle.lent.proofs.GateLaws.{row_gate}
 use Rattle.lent.proofs.OutcomeLaws.{number_of, given_number, past_row}
 use Rattle.lent.proofs.RowLaws.{Row, row, OneOf, Numbered, Exactly, absent, differ, behind, gated, exactly_gated}

@@ -17,8 +17,7 @@ use Rattle.directives.specs.Table as Directing
 use Rattle.directives.specs.Promises as Whole
 use Rattle.listing.specs.Listings.{line_of}
 use Rattle.listing.specs.Promises as Listing
-use Rattle.seclang.specs.Told.{Told}
-use Rattle.seclang.specs.Readers.{Fills, Lists}
+use Rattle.seclang.specs.Readers.{Fills}
 use Rattle.seclang.proofs.seclang_grade as SeclangGrade
 use Rattle.seclang.proofs.seclang_index_add as SeclangIndexAdd
 use Rattle.seclang.proofs.seclang_index_remove as SeclangIndexRemove

@@ -12,7 +12,6 @@ use Rattle.listing.specs.Json.{onto}
 use Rattle.listing.specs.Listings.{refusal, line_of}
 use Rattle.listing.specs.Promises as P
 use Rattle.listing.specs.declared.Answer.{Answer}
-use Rattle.listing.specs.declared.Answer.TheVariants as Answer
 use Rattle.listing.proofs.GivenLaws.{leaves_once, list_text_once}
 use Rattle.spelled.specs.Promises.{written_outcome}
 use Rattle.demands.specs.Fixed.{Fixed}

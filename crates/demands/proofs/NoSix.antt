@@ -4,9 +4,8 @@ use mathlib.Core.List.{List, [], ◌∷◌, ◌++◌}
 use Prim.Native.Nat.{ℕ}
 use native.Mathlib.Omega.{arith}
 use lib.ListN.{length}
-use Rattle.lent.specs.Table.{Given, flaw_number, refused, Outcome, refuses, reads, Filled, given_by}
+use Rattle.lent.specs.Table.{Given, flaw_number, Outcome, refuses, reads, Filled, given_by}
 use Rattle.lent.specs.declared.refusing.Flaw.{Flaw}
-use Rattle.lent.specs.declared.refusing.Flaw.TheVariants as Flaw
 use Rattle.lent.proofs.TableLaws.{not_six}
 use Rattle.lexer.specs.Tokens.{Step}
 use Rattle.lexer.specs.Promises as Lexer
@@ -20,16 +19,12 @@ use Rattle.directives.specs.Promises as Whole
 use Rattle.listing.specs.Listings.{refusal, line_of}
 use Rattle.listing.specs.Promises as Listing
 use Rattle.listing.specs.declared.Answer.{Answer as Listed}
-use Rattle.listing.specs.declared.Answer.TheVariants as Listed
 use Rattle.spans.specs.Conversion.{from_old, to_old}
 use Rattle.spans.specs.Promises as Spans
 use Rattle.spans.specs.declared.converting.Answer.{Answer as Converted}
-use Rattle.spans.specs.declared.converting.Answer.TheVariants as Converted
 use Rattle.index.specs.Promises as Indexing
 use Rattle.index.specs.declared.adding.Added.{Added}
-use Rattle.index.specs.declared.adding.Added.TheVariants as Added
 use Rattle.index.specs.declared.removing.Removed.{Removed}
-use Rattle.index.specs.declared.removing.Removed.TheVariants as Removed
 use Rattle.demands.specs.Calls.{Lent}
 use Rattle.demands.specs.Library.{records_outcome, refusal_outcome, actions_written}
 use Rattle.demands.specs.NoSix.{OfReaders, OfLibrary, NoSix}

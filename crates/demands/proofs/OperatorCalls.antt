@@ -13,7 +13,6 @@ use Rattle.operators.specs.Operators.{Reading, accepted, unknown, operator}
 use Rattle.operators.specs.Places.{name_place, argument_place}
 use Rattle.operators.specs.Promises as O
 use Rattle.operators.specs.declared.Answer.{Answer}
-use Rattle.operators.specs.declared.Answer.TheVariants as Answer
 use Rattle.operators.proofs.GivenLaws.{operator_in_once, parse_operator_once, operator_argument_once}
 use Rattle.demands.specs.Fixed.{Fixed}
 use Rattle.demands.specs.Calls.{operator_in_promise, parse_operator_promise, operator_argument_promise}

@@ -1,15 +1,14 @@
 -- What each reader gives of an input within the old limit has old forms: by `StoredSpans` for how records are laid out, by each reader's own
 -- laws for how long its texts are, and by `Underline` for where a thing was read from.
-use mathlib.Core.Path.{◌≡◌, ◌∙◌, refl, sym, ap, subst}
+use mathlib.Core.Path.{◌≡◌, ◌∙◌, refl, sym}
 use mathlib.Core.Bool.{Bool, true, false}
 use mathlib.Core.List.{List, [], ◌∷◌, ◌++◌, append-nil}
-use Prim.Native.Nat.{ℕ, zero, suc, ◌+◌, ◌-◌, ◌≤◌, min}
+use Prim.Native.Nat.{ℕ, ◌+◌, ◌≤◌, min}
 use native.Mathlib.Omega.{arith}
 use lib.ListN.{length, length-append}
 use lib.Dec.{ltb}
 use Rattle.ascii.specs.Choice.{pick}
 use Rattle.ascii.specs.Classes.{white}
-use Rattle.ascii.specs.Trim.{trimmed_part}
 use Rattle.ascii.proofs.TrimLaws.{ends_fit}
 use Rattle.lent.specs.Sizes.{token_words, action_words, variable_words, room_for}
 use Rattle.lent.specs.Sources.{Part, part, Sourced}
@@ -35,7 +34,7 @@ use Rattle.actions.proofs.NormalLaws.{normalised_length}
 use Rattle.actions.proofs.LengthLaws.{Fits, actions_fit, alone_fits}
 use Rattle.variables.specs.Parts.{pieces}
 use Rattle.variables.specs.Variables as Of
-use Rattle.variables.specs.Steps.{excluding_of, hanging, targets_of}
+use Rattle.variables.specs.Steps.{hanging, targets_of}
 use Rattle.variables.specs.Promises.{variables_outcome, update_outcome}
 use Rattle.variables.specs.Promises as Targeting
 use Rattle.variables.specs.Layout as Spread
@@ -56,10 +55,10 @@ use Rattle.directives.specs.Promises as Package
 use Rattle.directives.proofs.FitLaws.{ResultFits, directives_fit, texts_long, texts_total_lem}
 use Rattle.spans.proofs.RoundLaws.{there_and_back, back_and_there}
 use Rattle.spans.proofs.ConversionLaws.{made_refuses}
-use Rattle.demands.specs.Underline.{Each, whole, Underlined, Told, ActionThere, PieceThere, ActionsThere, TargetsThere, Argument, ActionIn, BodyIn, DirectiveIn, RefusalIn, FaultIn, PackageIn, Underline}
-use Rattle.demands.specs.StoredSpans.{old_limit, token_spans, action_spans, variable_spans, directive_spans, RecordsKept, RefusalKept, FilledKept, OperatorKept, FaultKept, PackageKept, DirectivesKept, StoredSpans}
+use Rattle.demands.specs.Underline.{Each, whole, Told, ActionsThere, TargetsThere, Argument, BodyIn, DirectiveIn, RefusalIn, FaultIn, PackageIn}
+use Rattle.demands.specs.StoredSpans.{old_limit, token_spans, action_spans, variable_spans, directive_spans, RecordsKept, RefusalKept, FilledKept, OperatorKept, FaultKept, DirectivesKept, StoredSpans}
 use Rattle.demands.proofs.Underline.{each_map, underline}
-use Rattle.demands.proofs.StoredSpans.{near, kept, part_kept, Near, From, records_kept, all_kept, slot_kept, actions_kept, targets_kept}
+use Rattle.demands.proofs.StoredSpans.{near, kept, part_kept, Near, From, all_kept, slot_kept, actions_kept, targets_kept}
 
 each_of : {P Q : Token → Type 0} → ((t : Token) → P t → Q t) → {ts : List Token} → All P ts → Each Q ts
 each_of f nil = tt

@@ -1,20 +1,15 @@
 -- The theorem of M-105. Texts are laid out one after another, so each ends within the texts of all, which are no longer than the input, or
 -- by three bytes; and where a thing was read from is a part of the input (`Underline`).
-use mathlib.Core.Path.{◌≡◌, ◌∙◌, refl, sym, ap, subst}
-use mathlib.Core.Bool.{Bool, true, false}
+use mathlib.Core.Path.{◌≡◌, refl}
+use mathlib.Core.Bool.{Bool}
 use mathlib.Core.List.{List, [], ◌∷◌, ◌++◌, append-nil, append_assoc}
-use Prim.Native.Nat.{ℕ, zero, suc, ◌+◌, ◌-◌, ◌≤◌}
+use Prim.Native.Nat.{ℕ, suc, ◌+◌, ◌-◌, ◌≤◌}
 use native.Mathlib.Omega.{arith}
 use lib.ListN.{length, drop, length-append}
 use lib.Seq.{drop-append_seam}
-use lib.Dec.{ltb}
-use Rattle.ascii.specs.Choice.{pick}
 use Rattle.lent.specs.Sizes.{span_word}
-use Rattle.lent.specs.Sources.{Part, part, part_word, Sourced}
+use Rattle.lent.specs.Sources.{Part, part_word, Sourced}
 use Rattle.lent.specs.Layout.{texts_of, words_of}
-use Rattle.lent.specs.Table.{Refusal, too_long, not_ascii, short_buffer, no_room, named, no_action, no_argument, no_variable, unknown_operator, bad_cursor, Outcome, refuses, reads, past_gate, Filled}
-use Rattle.lent.specs.declared.gating.Gate.{Gate}
-use Rattle.lent.specs.declared.gating.Gate.TheVariants.{Open, TooLong, NotAscii, Short}
 use Rattle.lent.proofs.SpanLaws.{span_offset_lem, span_length_lem}
 use Rattle.records.specs.Actions.{Action, Slot, absent, present, slot_text, action_text}
 use Rattle.records.specs.Layout.{slot_word, slot_end, action_record, full_record, full_text}
@@ -23,10 +18,10 @@ use Rattle.variables.specs.Variables.{Variable, Selection, none, key, regex}
 use Rattle.variables.specs.Layout.{selection_text, selection_span, variable_whole, variable_text, exclusion_whole, exclusion_text, selection_texts}
 use Rattle.variables.specs.Layout as Spread
 use Rattle.spans.specs.Conversion.{old_word}
-use Rattle.spans.proofs.RoundLaws.{old_is, there_and_back, back_and_there}
-use Rattle.spans.proofs.ConversionLaws.{low_both, made_near, made_refuses}
+use Rattle.spans.proofs.RoundLaws.{old_is}
+use Rattle.spans.proofs.ConversionLaws.{low_both, made_near}
 use Rattle.demands.specs.Underline.{Each}
-use Rattle.demands.specs.StoredSpans.{old_limit, Kept, token_spans, action_spans, variable_spans, RecordKept, RecordsKept, RefusalKept, FilledKept}
+use Rattle.demands.specs.StoredSpans.{old_limit, Kept, action_spans, variable_spans, RecordKept, RecordsKept}
 
 -- ---- one word
 

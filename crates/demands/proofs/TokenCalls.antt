@@ -14,7 +14,6 @@ use Rattle.lent.specs.declared.gating.Gate.TheVariants.{Open, TooLong, NotAscii,
 use Rattle.lexer.specs.Tokens as T
 use Rattle.lexer.specs.Promises as L
 use Rattle.lexer.specs.declared.stepping.Step.{Step}
-use Rattle.lexer.specs.declared.stepping.Step.TheVariants as Step
 use Rattle.lexer.specs.declared.writing.Answer as Lexer
 use Rattle.lexer.specs.declared.writing.Answer.TheVariants as LexerAnswer
 use Rattle.lexer.proofs.GivenLaws as LexerLaws

@@ -22,7 +22,6 @@ use Rattle.lexer.specs.Layout.{text_of}
 use Rattle.lexer.specs.Places.{Placed, All, nil, cons}
 use Rattle.lexer.proofs.PlaceLaws.{all_map, places}
 use Rattle.places.specs.declared.Rule.{Rule}
-use Rattle.places.specs.declared.Rule.TheVariants as Rule
 use Rattle.places.specs.Sites.{site_of}
 use Rattle.places.proofs.SiteLaws.{site_bounds}
 use Rattle.single_action.specs.Actions.{Action}
@@ -61,6 +60,7 @@ all_among (t ∷ ts) = cons here (all_map (λ u a. there a) (all_among ts))
 one_among : {P : Token → Type 0} {t : Token} {ts : List Token} → All P ts → Among t ts → P t
 one_among (cons p ps) here = p
 one_among (cons p ps) (there a) = one_among ps a
+one_among nil a = elim a [ ]
 
 module _ (s : List ℕ) where
   abbrev Carried : Kind → Token → Type 0
@@ -232,7 +232,7 @@ module _ (s : List ℕ) where
   body_there of_defaults l name [] nil = tt
   body_there of_defaults l name (t ∷ []) (cons a nil) = defaults_there l t (Whole.actions_read t.text) (actions_found t a of_defaults (t ∷ []) (λ x. refl))
   body_there of_defaults l name (t ∷ x ∷ xs) w = tt
-  body_there of_other l name args w = tt
+  body_there of_other l name ts w = tt
 
   -- ---- all directives
 

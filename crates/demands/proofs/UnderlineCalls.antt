@@ -11,7 +11,7 @@ use Rattle.lent.specs.Sizes.{variable_words, action_words, room_for}
 use Rattle.lent.specs.Buffers.{padded}
 use Rattle.lent.specs.Sources.{Sourced}
 use Rattle.lent.specs.Gates.{gate_of}
-use Rattle.lent.specs.Table.{Given, given, no_room, no_variable, named, refused, Outcome, refuses, reads, past_gate, Filled, given_by, records_by}
+use Rattle.lent.specs.Table.{Given, given, no_room, no_variable, named, Outcome, refuses, reads, past_gate, Filled, given_by, records_by}
 use Rattle.lent.specs.declared.gating.Gate.{Gate}
 use Rattle.lent.specs.declared.gating.Gate.TheVariants.{Open, TooLong, NotAscii, Short}
 use Rattle.single_action.specs.Actions.{Action}

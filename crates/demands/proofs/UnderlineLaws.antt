@@ -15,7 +15,6 @@ use Rattle.names.specs.Variables.{variable_code}
 use Rattle.names.specs.declared.Lookup.{Lookup}
 use Rattle.names.specs.declared.Lookup.TheVariants.{Code, Unknown}
 use Rattle.places.specs.declared.Rule.{Rule}
-use Rattle.places.specs.declared.Rule.TheVariants as Rule
 use Rattle.places.specs.Sites.{text_of, read_alone, site_of}
 use Rattle.places.proofs.SiteLaws.{site_bounds, site_some}
 use Rattle.places.proofs.UnderlineLaws.{underlined_reads}

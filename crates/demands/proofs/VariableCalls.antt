@@ -18,7 +18,6 @@ use Rattle.lent.proofs.LayoutLaws.{words_length}
 use Rattle.variables.specs.Layout.{variable_whole, exclusion_whole, variable_text, exclusion_text, selection_texts, words_from}
 use Rattle.variables.specs.Promises as Vars
 use Rattle.variables.specs.declared.Answer.{Answer}
-use Rattle.variables.specs.declared.Answer.TheVariants as Answer
 use Rattle.variables.specs.declared.Reached.{Reached}
 use Rattle.variables.proofs.GivenLaws.{meets_once}
 use Rattle.ascii.proofs.OneAnswer.{one_answer}

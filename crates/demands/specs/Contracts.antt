@@ -5,7 +5,8 @@ use seplogic.Ra.Ura.{Ura}
 use base.Logic.{SProp}
 use prog.Memory.{Memory}
 use prog.Model.{Model}
-use prog.Routine.{Routine}
+use prog.Routine.{Routine, Callee}
+use prog.Wired.{Code, Wired}
 use types.Logic.{Logic}
 use contract.Lifetimes.{Lfts}
 use contract.Monad.{Fun}
@@ -20,7 +21,7 @@ use Rattle.demands.specs.Fixed.{Fixed}
 abbrev pub Contract : Ended → Type 2
 Contract ended = (M : Type 1) (𝓤 : Ura M) → (𝓛 : Logic 𝓤) → (Memory → SProp 𝓤) → (Routine → Fun 𝓤) → Spec 𝓤 ended.signature
 
-module _ (ended : Ended) (contract : Contract ended) (code : Routine) where
+module _ (ended : Ended) (contract : Contract ended) (code : Code) (name : Callee) where
   abbrev pub Lifetimes : Type 0
   Lifetimes = Lfts ended.signature.lifetimes
 
@@ -46,12 +47,13 @@ module _ (ended : Ended) (contract : Contract ended) (code : Routine) where
     ensures = λ g r e. (connectives 𝓤).⌜◌⌝ (P κs a r e);
   }
 
-  -- The function's contract asks nothing and promises this; and its code meets its contract, and so ends, whatever is passed.
+  -- The function's contract asks nothing and promises this; and its code meets its contract, and so ends, whatever is passed:
+  -- wherever calls mean what the code says, a call by the function's name meets it.
   pub record Promises (P : Promise) : Type 3 where
     pub tied : (M : Type 1) (𝓤 : Ura M) (𝓛 : Logic 𝓤) (mem : Memory → SProp 𝓤) (run : Routine → Fun 𝓤)
         → contract M 𝓤 𝓛 mem run ≡ closing 𝓛 ended (promising P 𝓤)
-    pub met : (M : Type 1) (𝓤 : Ura M) (𝓛 : Logic 𝓤) (𝓜 : Model 𝓤 𝓛.H) (𝓡 : Running 𝓤 𝓛.H 𝓜)
-        → Meets 𝓛 ended.signature (𝓡.run code) (contract M 𝓤 𝓛 𝓜.mem 𝓡.run)
+    pub met : (M : Type 1) (𝓤 : Ura M) (𝓛 : Logic 𝓤) (𝓜 : Model 𝓤 𝓛.H) (𝓡 : Running 𝓤 𝓛.H 𝓜) → Wired 𝓡.env code
+        → Meets 𝓛 ended.signature (𝓡.run (𝓡.env name)) (contract M 𝓤 𝓛 𝓜.mem 𝓡.returns)
 
   -- It promises this of its answer, which is total and has no second answer.
   pub record Decides (P : (κs : Lifetimes) → Passed κs → Result κs → Type 0) : Type 3 where

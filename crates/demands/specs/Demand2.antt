@@ -14,7 +14,6 @@ use Rattle.lent.specs.Sources.{part_word, Sourced}
 use Rattle.lent.specs.Table.{Given, given, flaw_number, no_room, unknown_action, bad_argument, Outcome, refuses, reads, Filled, given_by, text_by, records_by}
 use Rattle.lent.specs.Admission.{FirstAt, Opened, Shortened}
 use Rattle.lent.specs.declared.refusing.Flaw.{Flaw}
-use Rattle.lent.specs.declared.refusing.Flaw.TheVariants as Flaw
 use Rattle.lexer.specs.Tokens.{next, reading}
 use Rattle.lexer.specs.Calls.{Fit, Astray, needed}
 use Rattle.lexer.specs.Promises as Lexer

@@ -21,7 +21,7 @@ use Rattle.index.specs.declared.adding.Added.{Added}
 use Rattle.index.specs.declared.removing.Removed.{Removed}
 use Rattle.listing.specs.Promises as Listing
 use Rattle.listing.specs.declared.Answer as Listings
-use Rattle.demands.specs.Calls.{Lent, Left, Wrote, Place, Records, Refusal, step_in_promise, next_token_promise, tokens_promise, parse_actions_promise, parse_setvar_promise, parse_variables_promise, parse_update_targets_promise, operator_in_promise, parse_operator_promise, directives_promise, add_promise, remove_promise, write_listing_promise, write_refusal_promise, write_refusal_line_promise, list_text_promise, finish_listing_promise, write_actions_promise}
+use Rattle.demands.specs.Calls.{Left, Wrote, step_in_promise, next_token_promise, tokens_promise, parse_actions_promise, parse_setvar_promise, parse_variables_promise, parse_update_targets_promise, operator_in_promise, parse_operator_promise, directives_promise, add_promise, remove_promise, write_listing_promise, write_refusal_promise, write_refusal_line_promise, list_text_promise, finish_listing_promise, write_actions_promise}
 use Rattle.demands.specs.Library.{With, fills_promise, fills_actions_promise, fills_directives_promise, steps_promise, operator_promise, converts_promise, adds_promise, removes_promise, lists_promise, records_outcome, refusal_outcome, actions_written, lists_text_promise}
 
 -- A call that keeps this promise never gives 6: of all that may come out, none has it for a number.

@@ -5,9 +5,11 @@ use Rattle.lexer.specs.Tokens.{reading}
 use Rattle.lexer.specs.Promises.{tokens_outcome}
 use Rattle.lexer.specs.Calls.{Roomy, Called}
 use Rattle.lexer.specs.declared.writing.Answer.{Answer}
-use Rattle.lexer.proofs.tokens as TokensOf
+use Rattle.lexer.specs.contracts.tokens as TokensOf
+use Rattle.lexer.proofs.tokens.Symbol as TokensOfCode
 use Rattle.plain.specs.Automaton.{plain_reading}
-use Rattle.plain.proofs.plain_tokens as PlainTokens
+use Rattle.plain.specs.contracts.plain_tokens as PlainTokens
+use Rattle.plain.proofs.plain_tokens.Symbol as PlainTokensCode
 use Rattle.demands.specs.Contracts.{Keeps}
 use Rattle.demands.specs.Calls.{Lent, lent, Left, left, tokens_promise}
 use Rattle.demands.specs.Library.{With, fills_promise}
@@ -19,9 +21,9 @@ lexer_promise = fills_promise (λ i. tokens_outcome i.input (length i.text) (len
 
 pub record TwoLexers : Type 3 where
   -- of each function's own contract and code: the contract asks nothing and promises one and the same
-  pub first : Keeps TokensOf.ended (λ M 𝓤. TokensOf.spec 𝓤) TokensOf.Symbol.routine Lent (Left Answer) tokens_promise
+  pub first : Keeps TokensOf.ended (λ M 𝓤 𝓛. TokensOf.spec 𝓛) TokensOfCode.code TokensOfCode.name Lent (Left Answer) tokens_promise
       (λ _ a. lent a.0.now a.1.0.now a.1.1.0.now) (λ _ r e. left r e.1.0.now e.1.1.0.now)
-  pub plain : Keeps PlainTokens.ended (λ M 𝓤. PlainTokens.spec 𝓤) PlainTokens.Symbol.routine Lent (Left Answer) tokens_promise
+  pub plain : Keeps PlainTokens.ended (λ M 𝓤 𝓛. PlainTokens.spec 𝓛) PlainTokensCode.code PlainTokensCode.name Lent (Left Answer) tokens_promise
       (λ _ a. lent a.0.now a.1.0.now a.1.1.0.now) (λ _ r e. left r e.1.0.now e.1.1.0.now)
   -- so over two calls, one of each, with the same lent: the same answer, with its stop place, and the same text and records to the last element
   pub same : (i : Lent) (by_first by_plain : Left Answer) → tokens_promise i by_first → tokens_promise i by_plain → by_first ≡ by_plain

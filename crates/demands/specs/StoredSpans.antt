@@ -2,7 +2,7 @@
 -- that is not comes back as it was, from either form; and no word is refused that a reader gave when an input had 16,384 bytes at most.
 use Rattle.std.specs.Prelude.{◌≡◌, Bool, true, false, ◌↔◌, List, [], ◌∷◌, ℕ, zero, suc, ◌/◌, ◌%◌, ◌≤◌, length, drop, get_or}
 use Rattle.lent.specs.Sizes.{span_offset, span_length}
-use Rattle.lent.specs.Sources.{Part, part_word}
+use Rattle.lent.specs.Sources.{part_word}
 use Rattle.lent.specs.Table.{Refusal, too_long, not_ascii, short_buffer, no_room, named, unknown_operator, bad_cursor, Outcome, refuses, reads, Filled}
 use Rattle.lexer.specs.Promises.{tokens_outcome}
 use Rattle.actions.specs.Promises.{actions_outcome, setvar_outcome}
