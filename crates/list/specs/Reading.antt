@@ -1,9 +1,7 @@
 -- What reads come to.
 use Rattle.std.specs.Prelude.{◌≡◌, ℕ, zero, suc, ◌≤◌, ◌<◌, min, ℤ, pos, negsuc, Result, Ok, Err}
 use Rattle.list.specs.declared.reading.Took.{Took}
-use Rattle.list.specs.declared.reading.Took.TheVariants as Took
 use Rattle.list.specs.declared.reading.Input.{Input}
-use Rattle.list.specs.declared.reading.Input.TheVariants as Input
 
 abbrev pub counted : ℕ → Took
 counted zero = Took.End
