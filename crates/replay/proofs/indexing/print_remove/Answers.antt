@@ -4,4 +4,4 @@ use lib.Seq.{length-take-le}
 use Rattle.replay.proofs.indexing.print_remove.Goals as goal
 
 pub slice_bounds-print_after_remove-end : goal.slice_bounds-print_after_remove-end
-slice_bounds-print_after_remove-end c = sym (length-take-le c.words_into-n.result c.words_into-n.new.1.0 c.words_into-n.ensures)
+slice_bounds-print_after_remove-end c = sym (length-take-le c.words_into-n.result c.words_into-n.new.words c.words_into-n.ensures)

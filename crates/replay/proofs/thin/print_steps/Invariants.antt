@@ -4,7 +4,7 @@ use lib.ListN.{length}
 use Rattle.replay.proofs.thin.print_steps.Given as goal
 
 abbrev pub invariant-loop-turns : goal.invariant-loop-turns
-invariant-loop-turns l = length ? ≡ length ?
+invariant-loop-turns l = length l.out ≡ length l.initial.out
 
 abbrev pub decreases-loop-turns : goal.decreases-loop-turns
-decreases-loop-turns l = ?
+decreases-loop-turns l = l.turns
