@@ -1,4 +1,4 @@
-/* The readers of SecRule packages, proved: libseclang.a (`rt staticlib seclang`, or tools/library). This file alone is
+/* The readers of SecRule packages, proved: libseclang.a (tools/library makes it). This file alone is
  * enough to call them; samples/ids.c is a small program that does.
  *
  * Every call takes any bytes and any lent memory, returns, and refuses by number. Nothing is kept between calls, so

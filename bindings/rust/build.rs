@@ -12,11 +12,9 @@ fn linked(folder: &Path) -> Option<(&'static str, &'static str)> {
     LIBRARIES.into_iter().find(|(file, _)| folder.join(file).exists())
 }
 
-/// `rt staticlib` compiles for x86-64 alone; elsewhere tools/library leaves its own.
+/// Where tools/library leaves it.
 fn built() -> PathBuf {
-    let native = env::var("CARGO_CFG_TARGET_ARCH").as_deref() == Ok("x86_64");
-    let repository = PathBuf::from(env::var_os("CARGO_MANIFEST_DIR").expect("cargo sets it")).join("../..");
-    repository.join(if native { "target/staticlib" } else { "target/hostlib" })
+    PathBuf::from(env::var_os("CARGO_MANIFEST_DIR").expect("cargo sets it")).join("../../target/staticlib")
 }
 
 fn installed() -> Option<PathBuf> {
