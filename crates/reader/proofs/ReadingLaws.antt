@@ -1,4 +1,4 @@
--- What the reader's proofs by hand share: its text taken out, a reader put together, and a walk taken to a contract that asks nothing.
+-- A text taken out of a reader, a reader put together, and a walk taken to a contract that asks nothing.
 use mathlib.Core.Path.{◌≡◌}
 use Prim.Native.Nat.{ℕ}
 use mathlib.Core.List.{List, [], ◌∷◌}

@@ -42,7 +42,7 @@ pub fn next_of<'a>(r: Reader<'a>, out: &mut [u8]) -> Step
     next_token(r.text, r.cursor, out)
 }
 
-// A text's token from a cursor: its parameters are plain, so whoever calls it needs no walk by hand.
+// A text's token from a cursor, for a caller who keeps no reader.
 pub fn token_at(text: &[u8], cursor: Cursor, out: &mut [u8]) -> Step
     ensures { NextToken text.now cursor out.old out.new result }
 {

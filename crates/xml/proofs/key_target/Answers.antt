@@ -18,18 +18,15 @@ attributes : (t : List ℕ) → same_lowered t (bytes "//@*") ≡ same t (bytes 
 unfolding bytes
 attributes t = same_below t _ (omega arith, (omega arith, (omega arith, (omega arith, tt))))
 
--- FIXME
 module _ (t : List ℕ) where
   is_elements : same_lowered t (bytes "/*") ≡ true → key_target t ≡ Elements
   unfolding key_target
   is_elements e = rw (← elements t, e)
 
-  -- FIXME
   is_attributes : same_lowered t (bytes "/*") ≡ false → same_lowered t (bytes "//@*") ≡ true → key_target t ≡ Attributes
   unfolding key_target
   is_attributes e f = rw (← elements t, e, ← attributes t, f)
 
-  -- FIXME
   is_neither : same_lowered t (bytes "/*") ≡ false → same_lowered t (bytes "//@*") ≡ false → key_target t ≡ Neither
   unfolding key_target
   is_neither e f = rw (← elements t, e, ← attributes t, f)
