@@ -1,5 +1,6 @@
 -- How many actions a list can have: an action takes two bytes at least, and a comma stands between two of them.
 -- So a list of n bytes has at most (n + 1) / 3, and `t:,t:,t:` has that many.
+use Rattle.std.specs.Prelude.{Result}
 use mathlib.Core.Path.{◌≡◌, ap, subst}
 use mathlib.Core.Bool.{Bool, true, false}
 use mathlib.Core.List.{List, [], ◌∷◌}
@@ -19,7 +20,8 @@ use Rattle.actions.specs.Normal.{normalised}
 use Rattle.actions.specs.Pieces.{Nest, outside, nest_after, cuts, cut_by, parts_from, Piece, place_of, keep, pieces_of, pieces_from, pieces}
 use Rattle.actions.specs.Lists.{action_then, single_then, actions_from, listed, normal_site, actions_of}
 use Rattle.actions.specs.Promises.{answer_given, ParseActions}
-use Rattle.actions.specs.declared.Answer.{Answer}
+use Rattle.actions.specs.declared.Read.{Read}
+use Rattle.actions.specs.declared.ActionsError.{ActionsError}
 use Rattle.actions.proofs.NormalLaws.{normalised_length}
 use Rattle.actions.proofs.PieceLaws.{total, taken}
 use Rattle.actions.proofs.NumberLaws.{given_in, given_long, given_read, parse_actions_numbers}
@@ -99,7 +101,7 @@ actions_most s xs e =
     omega (arith, h, pieces_spread (normalised s), normalised_length s)
 
 -- With room for so many records, 4 is never given.
-pub actions_fit : {s text text' work work' records records' : List ℕ} {r : Answer} → ParseActions s text text' work work' records records' r
+pub actions_fit : {s text text' work work' records records' : List ℕ} {r : Result Read ActionsError} → ParseActions s text text' work work' records records' r
     → (length s + 1) / 3 * action_words ≤ length records → (answer_given r).number ≡ 4 → ⊥
 unfolding actions_of
 actions_fit {s} {records = records} x h e =

@@ -18,23 +18,25 @@ use Rattle.actions.specs.Listing.{Listed}
 use Rattle.actions.specs.Cores.{core_outcome, reached_from, core_reached, core_text, core_records, ReadActions}
 use Rattle.actions.proofs.CountLaws.{Counted, from_counted}
 use Rattle.actions.specs.declared.Reached.{Reached}
-use Rattle.actions.specs.declared.Reached.TheVariants.{Read, Bad, Unknown, Unfit}
+use Rattle.actions.specs.declared.PieceError.{PieceError}
+use Rattle.actions.specs.declared.PieceError.TheVariants.{Bad, Unknown, Unfit}
+use Rattle.std.specs.Prelude.{Result, Ok, Err}
 
 -- a refused argument is told by its number
-pub bad_back : (id chain : Bool) (flaw : Flaw) (piece name span : ℕ) → Bad flaw piece name span ≡ reached_from id chain (given (flaw_number flaw) (piece ∷ name ∷ span ∷ []))
+pub bad_back : (id chain : Bool) (flaw : Flaw) (piece name span : ℕ) → Err (Bad flaw piece name span) ≡ reached_from id chain (given (flaw_number flaw) (piece ∷ name ∷ span ∷ []))
 bad_back id chain Flaw.Absent piece name span = refl
 bad_back id chain Flaw.Unreadable piece name span = refl
 bad_back id chain Flaw.TooLarge piece name span = refl
 
 module _ (s : List ℕ) (offset place : ℕ) (text records : List ℕ) where
   -- by what the text comes to there
-  core_by : (o : Outcome (List (Sourced Action))) → core_outcome s (length text) offset place ≡ o → {text' records' : List ℕ} {r : Reached}
+  core_by : (o : Outcome (List (Sourced Action))) → core_outcome s (length text) offset place ≡ o → {text' records' : List ℕ} {r : Result Reached PieceError}
       → r ≡ core_reached offset o → text' ≡ core_text offset text o → records' ≡ core_records offset place records o
       → ReadActions s offset place text text' records records' r
   core_by o e a t w = record { answer = rw e a; texts = rw e t; words = rw e w }
 
   -- nothing is touched where it does not place
-  pub core_unfit : starts (length s) (length text) offset place ≡ false → ReadActions s offset place text text records records Unfit
+  pub core_unfit : starts (length s) (length text) offset place ≡ false → ReadActions s offset place text text records records (Err Unfit)
   unfolding core_outcome
   core_unfit h = core_by (refuses short_buffer) (rw h) refl refl refl
 
@@ -43,23 +45,23 @@ module _ (s : List ℕ) (offset place : ℕ) (text records : List ℕ) where
     unfolding core_outcome
     started o e = rw h e
 
-    pub core_met : {text' records' : List ℕ} (r : Reached) → Listed s offset place text text' records records' r → ReadActions s offset place text text' records records' r
-    core_met (Read count used id chain) x =
+    pub core_met : {text' records' : List ℕ} (r : Result Reached PieceError) → Listed s offset place text text' records records' r → ReadActions s offset place text text' records records' r
+    core_met (Ok r) x =
         core_by (reads x.actions) (started (reads x.actions) x.all) (rw (x.laid.counted, x.laid.used_is, x.id_is, x.chain_is)) x.laid.written x.laid.recorded
-    core_met (Bad flaw piece name span) x =
+    core_met (Err (Bad flaw piece name span)) x =
         core_by (refuses (bad_argument flaw piece x.named x.source)) (started (refuses (bad_argument flaw piece x.named x.source)) x.first) (rw (x.counted, x.underlined) (bad_back false false flaw piece (length x.named) (part_word x.source))) x.written x.cleared
-    core_met (Unknown piece name span) x =
+    core_met (Err (Unknown piece name span)) x =
         core_by (refuses (unknown_action piece x.named x.source)) (started (refuses (unknown_action piece x.named x.source)) x.first) (rw (x.counted, x.underlined)) x.written x.cleared
-    core_met Unfit x = absurd x
+    core_met (Err Unfit) x = absurd x
 
 -- ---- unfit
 
 -- an answer that is read or refuses a piece
-abbrev fit : Reached → Bool
-fit (Read count used id chain) = true
-fit (Bad flaw piece name span) = true
-fit (Unknown piece name span) = true
-fit Unfit = false
+abbrev fit : Result Reached PieceError → Bool
+fit (Ok r) = true
+fit (Err (Bad flaw piece name span)) = true
+fit (Err (Unknown piece name span)) = true
+fit (Err Unfit) = false
 
 -- what pieces come to is such an answer
 pieces_fit : (offset n : ℕ) (o : Outcome (List (Sourced Action))) → Counted 0 n o → fit (core_reached offset o) ≡ true
@@ -75,12 +77,12 @@ pieces_fit offset n (refuses (unknown_operator p l x)) h = absurd h
 pieces_fit offset n (refuses bad_cursor) h = absurd h
 
 -- it is unfit exactly where it does not place
-pub unfit_exactly : {s : List ℕ} {offset place : ℕ} {text text' records records' : List ℕ} {r : Reached} → ReadActions s offset place text text' records records' r
-    → (r ≡ Unfit) ↔ (starts (length s) (length text) offset place ≡ false)
+pub unfit_exactly : {s : List ℕ} {offset place : ℕ} {text text' records records' : List ℕ} {r : Result Reached PieceError} → ReadActions s offset place text text' records records' r
+    → (r ≡ Err Unfit) ↔ (starts (length s) (length text) offset place ≡ false)
 unfolding core_outcome
 unfit_exactly {s} {offset} {place} {text} {r = r} x = (go (starts (length s) (length text) offset place) refl, λ h. x.answer ∙ rw h)
   where
-    go : (b : Bool) → starts (length s) (length text) offset place ≡ b → r ≡ Unfit → b ≡ false
+    go : (b : Bool) → starts (length s) (length text) offset place ≡ b → r ≡ Err Unfit → b ≡ false
     go false z e = refl
     go true z e =
         let a : r ≡ core_reached offset (listed s) = x.answer ∙ rw z in

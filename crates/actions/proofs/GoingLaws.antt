@@ -28,7 +28,8 @@ use Rattle.single_action.specs.Table.{row_at}
 use Rattle.single_action.specs.Actions.{Action, action_text, Single, done, bad, single}
 use Rattle.single_action.specs.Plans.{cut, plan_action, Judged}
 use Rattle.single_action.specs.declared.plans.Plan.{Plan}
-use Rattle.single_action.specs.declared.plans.Verdict.TheVariants.{Done, Bad, Unknown}
+use Rattle.single_action.specs.declared.plans.PlanError.TheVariants.{Bad, Unknown}
+use Rattle.std.specs.Prelude.{Ok, Err}
 use Rattle.single_action.proofs.SingleLaws.{Within, single_within}
 use Rattle.actions.specs.Pieces.{outside, Piece, place_of, keep, pieces_from, part_length}
 use Rattle.actions.specs.Lists.{single_then, actions_from, listed}
@@ -180,7 +181,7 @@ module _ {s : List ℕ} {offset place : ℕ} {text₀ records₀ text records : 
     fits : (v : Single) → single piece ≡ v → Within (length piece) v
     fits v e = rw e at (single_within piece)
 
-    module _ (plan : Plan) (j : Judged (cut s first past) (Done plan) (single (cut s first past))) where
+    module _ (plan : Plan) (j : Judged (cut s first past) (Ok plan) (single (cut s first past))) where
       abbrev action : Action
       action = plan_action piece plan
 
@@ -259,7 +260,7 @@ module _ {s : List ℕ} {offset place : ℕ} {text₀ records₀ text records : 
     blank : {records' : List ℕ} → records' ≡ zeros (length records) → records' ≡ zeros (length records₀)
     blank e = e ∙ ap zeros (records_long x.laid)
 
-    module _ (flaw : Flaw) (row : ℕ) (j : Judged (cut s first past) (Bad flaw row) (single (cut s first past))) where
+    module _ (flaw : Flaw) (row : ℕ) (j : Judged (cut s first past) (Err (Bad flaw row)) (single (cut s first past))) where
       pub row_fits : length (row_at row).name ≤ length text
       row_fits =
           let e = end_inside s from end x.inside end_is in
@@ -279,7 +280,7 @@ module _ {s : List ℕ} {offset place : ℕ} {text₀ records₀ text records : 
         cleared = blank z;
       }
 
-    module _ (n : ℕ) (j : Judged (cut s first past) (Unknown n) (single (cut s first past))) where
+    module _ (n : ℕ) (j : Judged (cut s first past) (Err (Unknown n)) (single (cut s first past))) where
       pub name_fits_lem : length (take n (cut s first past)) ≤ length text
       name_fits_lem =
           let e = end_inside s from end x.inside end_is in

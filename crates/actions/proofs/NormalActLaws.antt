@@ -14,7 +14,7 @@ use Rattle.actions.specs.Steps.{act_text, act_mode, Normalises}
 use Rattle.actions.specs.Cores.{Normalise}
 use Rattle.actions.specs.declared.normalising.Act.{Act}
 use Rattle.actions.specs.declared.normalising.Act.TheVariants.{Vanishes, Gives, Keeps}
-use Rattle.actions.specs.declared.normalising.Normal.TheVariants as Normal
+use Rattle.std.specs.Prelude.{Some, None}
 use Rattle.actions.specs.contracts.normalising.Mode.{the_type}
 use Rattle.actions.proofs.NormalLoop.{Normalising, turn_none, turn_one, turn_two, ended, held_written, held_ended}
 
@@ -67,8 +67,8 @@ module _ {s old new : List ℕ} {m : Mode} {i n : ℕ} (room : length s ≤ leng
 -- ---- by the lengths
 
 -- on any buffer: nothing is touched, or the text stands first
-pub normal_short : (s out : List ℕ) → length out < length s → Normalise s out out Normal.Short
+pub normal_short : (s out : List ℕ) → length out < length s → Normalise s out out None
 normal_short s out h = let e = lt-ltb (length out) (length s) h in record { answer = rw e; text = rw e }
 
-pub normal_text : (s out : List ℕ) {out' : List ℕ} {n : ℕ} → length s ≤ length out → Normalises s out out' n → Normalise s out out' (Normal.Text n)
-normal_text s out h x = let e = le-ltb (length out) (length s) h in record { answer = rw e (ap Normal.Text x.count); text = rw e x.text }
+pub normal_text : (s out : List ℕ) {out' : List ℕ} {n : ℕ} → length s ≤ length out → Normalises s out out' n → Normalise s out out' (Some n)
+normal_text s out h x = let e = le-ltb (length out) (length s) h in record { answer = rw e (ap Some x.count); text = rw e x.text }

@@ -1,5 +1,6 @@
 -- What parse_actions promises, in plain words: every number exactly when it is given, and what is given and left with it.
 -- The idea: lent's RowLaws has numbers 1 to 3 and one law for all; the first refused piece and the room tell 5, 10 to 12, 4 and 0 apart.
+use Rattle.std.specs.Prelude.{Result}
 use mathlib.Core.Path.{◌≡◌, ◌∙◌, refl, ap}
 use mathlib.Core.Bool.{Bool, true, false}
 use mathlib.Core.List.{List, [], ◌∷◌, ◌++◌}
@@ -24,7 +25,8 @@ use Rattle.actions.specs.Pieces.{Piece, pieces}
 use Rattle.actions.specs.Lists.{action_then, single_then, actions_from, normal_site, actions_of}
 use Rattle.actions.specs.Calls.{AllDone, FirstRefused}
 use Rattle.actions.specs.Promises.{answer_given, laid_out, roomed, actions_outcome, ParseActions}
-use Rattle.actions.specs.declared.Answer.{Answer}
+use Rattle.actions.specs.declared.Read.{Read}
+use Rattle.actions.specs.declared.ActionsError.{ActionsError}
 
 -- ---- the pieces
 
@@ -181,7 +183,7 @@ module _ (s : List ℕ) (m : ℕ) where
 -- ---- the whole call
 
 -- Every number exactly when it is given, for a call with these buffers before and after it. What each leaves behind: `stray-is`, `spoilt-is`, `crowded-is`, `roomy-is`.
-pub record Numbers (s text text' work work' records records' : List ℕ) (r : Answer) : Type 0 where
+pub record Numbers (s text text' work work' records records' : List ℕ) (r : Result Read ActionsError) : Type 0 where
   -- 1: the input is over the limit.
   pub number_1 : ((answer_given r).number ≡ 1) ↔ (limit < length s)
   -- 2: it is not, and a byte is 128 or more.
@@ -201,7 +203,7 @@ pub record Numbers (s text text' work work' records records' : List ℕ) (r : An
   pub number_0 : ((answer_given r).number ≡ 0)
       ↔ (Opened s (min (length text) (length work)) (length s) × (AllDone (pieces (normalised s)) × (length (pieces (normalised s)) ≤ room_for action_words (length records))))
 
-module _ {s text text' work work' records records' : List ℕ} {r : Answer} (x : ParseActions s text text' work work' records records' r) where
+module _ {s text text' work work' records records' : List ℕ} {r : Result Read ActionsError} (x : ParseActions s text text' work work' records records' r) where
   number_is : (answer_given r).number ≡ number_of (actions_outcome s (length text) (length work) (length records))
   number_is = ap (λ (g : Given). g.number) x.answer ∙ given_number (actions_outcome s (length text) (length work) (length records))
 

@@ -1,4 +1,6 @@
 -- What parse_actions and parse_setvar come to on each path of the code.
+use Rattle.lent.specs.declared.gating.GateError.{GateError}
+use Rattle.std.specs.Prelude.{Result}
 use mathlib.Core.Path.{◌≡◌}
 use mathlib.Core.List.{List}
 use Prim.Native.Nat.{ℕ, ◌+◌, ◌≤◌, ◌<◌}
@@ -8,7 +10,6 @@ use Rattle.lent.specs.Sizes.{action_words, room_for}
 use Rattle.lent.specs.Gates.{gate_of}
 use Rattle.lent.specs.Sources.{Sourced}
 use Rattle.lent.specs.Table.{no_room, Outcome, refuses, reads, past_gate}
-use Rattle.lent.specs.declared.gating.Gate.{Gate}
 use Rattle.single_action.specs.Actions.{Action}
 use Rattle.actions.specs.Lists.{actions_of}
 use Rattle.actions.specs.Promises.{laid_out, roomed, actions_gate, actions_outcome, setvar_alone, setvar_outcome}
@@ -22,11 +23,11 @@ room_none m xs h = rw (lt-ltb (room_for action_words m) (length xs) h)
 
 module _ (s : List ℕ) (n k m : ℕ) where
   -- by the gate's answer and what the pieces come to
-  pub outcome_by_lem : (g : Gate) (o : Outcome (List (Sourced Action))) → actions_gate s n k ≡ g → actions_of s ≡ o → actions_outcome s n k m ≡ past_gate g (roomed m o)
+  pub outcome_by_lem : (g : Result Unit GateError) (o : Outcome (List (Sourced Action))) → actions_gate s n k ≡ g → actions_of s ≡ o → actions_outcome s n k m ≡ past_gate g (roomed m o)
   unfolding actions_outcome
   outcome_by_lem g o e f = rw (e, f)
 
 module _ (s : List ℕ) (n m : ℕ) where
-  pub setvar_by : (g : Gate) → gate_of s n (length s + 3) ≡ g → setvar_outcome s n m ≡ past_gate g (roomed m (reads (setvar_alone s)))
+  pub setvar_by : (g : Result Unit GateError) → gate_of s n (length s + 3) ≡ g → setvar_outcome s n m ≡ past_gate g (roomed m (reads (setvar_alone s)))
   unfolding setvar_outcome
   setvar_by g e = rw e

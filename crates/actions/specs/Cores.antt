@@ -1,5 +1,5 @@
 -- What a caller may use between its own gate and its own ending: normalising, and reading a normalised text, each from anywhere and on anything.
-use Rattle.std.specs.Prelude.{◌≡◌, Bool, false, List, [], ◌∷◌, ◌++◌, ℕ, ◌+◌, ◌*◌, length, drop, get_or, eqb, ltb}
+use Rattle.std.specs.Prelude.{◌≡◌, Bool, false, List, [], ◌∷◌, ◌++◌, ℕ, ◌+◌, ◌*◌, length, drop, get_or, eqb, ltb, Option, Some, None, Result, Ok, Err}
 use Rattle.ascii.specs.Choice.{pick}
 use Rattle.lent.specs.Sizes.{action_words}
 use Rattle.lent.specs.Buffers.{stored, stored_each}
@@ -13,8 +13,8 @@ use Rattle.actions.specs.Normal.{normalised}
 use Rattle.actions.specs.Lists.{listed}
 use Rattle.actions.specs.Layout.{records_from, texts}
 use Rattle.actions.specs.declared.Reached.{Reached}
-use Rattle.actions.specs.declared.Reached.TheVariants.{Read, Bad, Unknown, Unfit}
-use Rattle.actions.specs.declared.normalising.Normal.{Normal}
+use Rattle.actions.specs.declared.PieceError.{PieceError}
+use Rattle.actions.specs.declared.PieceError.TheVariants.{Bad, Unknown, Unfit}
 
 -- ---- normalising
 
@@ -23,8 +23,8 @@ abbrev pub tight : List ℕ → List ℕ → Bool
 tight s out = ltb (length out) (length s)
 
 -- The normalised text stands first and what stood beyond is kept; or nothing is touched.
-pub record Normalise (s out out' : List ℕ) (r : Normal) : Type 0 where
-  pub answer : r ≡ pick (tight s out) Normal.Short (Normal.Text (length (normalised s)))
+pub record Normalise (s out out' : List ℕ) (r : Option ℕ) : Type 0 where
+  pub answer : r ≡ pick (tight s out) None (Some (length (normalised s)))
   pub text : out' ≡ pick (tight s out) out (normalised s ++ drop (length (normalised s)) out)
 
 -- ---- reading a normalised text
@@ -45,14 +45,14 @@ core_has code (reads xs) = has code xs
 
 -- The answer for a number and its values, and whether an id and `chain` were read: 0, 5 and 10 to 12 are a list's, and 3 is that it does
 -- not place.
-abbrev pub reached_from : Bool → Bool → Given → Reached
+abbrev pub reached_from : Bool → Bool → Given → Result Reached PieceError
 reached_from id chain g =
-    pick (eqb g.number 0) (Read (get_or g.values 0 0) (get_or g.values 1 0) id chain)
-    (pick (eqb g.number 3) Unfit
-    (pick (eqb g.number 5) (Unknown (get_or g.values 0 0) (get_or g.values 1 0) (get_or g.values 2 0))
-    (Bad (flaw_of g.number) (get_or g.values 0 0) (get_or g.values 1 0) (get_or g.values 2 0))))
+    pick (eqb g.number 0) (Ok (record { count = get_or g.values 0 0; offset = get_or g.values 1 0; id = id; chain = chain }))
+    (pick (eqb g.number 3) (Err Unfit)
+    (pick (eqb g.number 5) (Err (Unknown (get_or g.values 0 0) (get_or g.values 1 0) (get_or g.values 2 0)))
+    (Err (Bad (flaw_of g.number) (get_or g.values 0 0) (get_or g.values 1 0) (get_or g.values 2 0)))))
 
-abbrev pub core_reached : ℕ → Outcome (List (Sourced Action)) → Reached
+abbrev pub core_reached : ℕ → Outcome (List (Sourced Action)) → Result Reached PieceError
 core_reached offset o = reached_from (core_has id_code o) (core_has chain_code o) (core_given offset o)
 
 -- The text buffer afterwards: the texts at the offset, or what the refusal's row states.
@@ -66,7 +66,7 @@ core_records offset place old (refuses f) = refused_records f old
 core_records offset place old (reads xs) = stored_each old (place * action_words) (records_from offset xs)
 
 -- The promise of read_actions: the answer, and text and records afterwards.
-pub record ReadActions (s : List ℕ) (offset place : ℕ) (text text' records records' : List ℕ) (r : Reached) : Type 0 where
+pub record ReadActions (s : List ℕ) (offset place : ℕ) (text text' records records' : List ℕ) (r : Result Reached PieceError) : Type 0 where
   pub answer : r ≡ core_reached offset (core_outcome s (length text) offset place)
   pub texts : text' ≡ core_text offset text (core_outcome s (length text) offset place)
   pub words : records' ≡ core_records offset place records (core_outcome s (length text) offset place)

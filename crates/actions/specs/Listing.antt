@@ -1,5 +1,5 @@
 -- What the loop over a normalised text leaves behind, and what the last step makes of it.
-use Rattle.std.specs.Prelude.{◌≡◌, Bool, List, ℕ, ◌+◌, ◌*◌, ◌≤◌, ◌<◌, length}
+use Rattle.std.specs.Prelude.{◌≡◌, Bool, List, ℕ, ◌+◌, ◌*◌, ◌≤◌, ◌<◌, length, Result, Ok, Err}
 use Rattle.ascii.specs.Choice.{pick}
 use Rattle.lent.specs.Sizes.{action_words}
 use Rattle.lent.specs.Buffers.{zeros, padded, stored, stored_each}
@@ -14,15 +14,18 @@ use Rattle.single_action.specs.Actions.{Action}
 use Rattle.actions.specs.Having.{has}
 use Rattle.actions.specs.Lists.{listed}
 use Rattle.actions.specs.Layout.{records_from, texts}
-use Rattle.actions.specs.declared.Answer.{Answer}
+use Rattle.actions.specs.declared.Read.{Read}
+use Rattle.actions.specs.declared.ActionsError.{ActionsError}
+use Rattle.actions.specs.declared.ActionsError.TheVariants.{NoRoom}
 use Rattle.actions.specs.declared.Reached.{Reached}
-use Rattle.actions.specs.declared.Reached.TheVariants.{Read, Bad, Unknown, Unfit}
+use Rattle.actions.specs.declared.PieceError.{PieceError}
+use Rattle.actions.specs.declared.PieceError.TheVariants.{Bad, Unknown, Unfit}
 
 -- The two answers that refuse a piece.
-abbrev pub badly : Flaw → ℕ → ℕ → ℕ → Reached
+abbrev pub badly : Flaw → ℕ → ℕ → ℕ → PieceError
 badly flaw piece name span = Bad flaw piece name span
 
-abbrev pub strangely : ℕ → ℕ → ℕ → Reached
+abbrev pub strangely : ℕ → ℕ → ℕ → PieceError
 strangely piece name span = Unknown piece name span
 
 -- Actions written: their texts from an offset on, and their records behind so many others, each where it fits.
@@ -54,11 +57,11 @@ pub record Stopped (refusal : List ℕ → Part → Refusal) (s text text' recor
   pub cleared : records' ≡ zeros (length records)
 
 -- The loop starts where it may, so that it is never unfit.
-abbrev pub Listed : List ℕ → ℕ → ℕ → List ℕ → List ℕ → List ℕ → List ℕ → Reached → Type 0
-Listed s offset place text text' records records' (Read count used id chain) = ReadAll s offset place text text' records records' count used id chain
-Listed s offset place text text' records records' (Bad flaw piece name span) = Stopped (bad_argument flaw piece) s text text' records records' name span
-Listed s offset place text text' records records' (Unknown piece name span) = Stopped (unknown_action piece) s text text' records records' name span
-Listed s offset place text text' records records' Unfit = ⊥
+abbrev pub Listed : List ℕ → ℕ → ℕ → List ℕ → List ℕ → List ℕ → List ℕ → Result Reached PieceError → Type 0
+Listed s offset place text text' records records' (Ok r) = ReadAll s offset place text text' records records' r.count r.offset r.id r.chain
+Listed s offset place text text' records records' (Err (Bad flaw piece name span)) = Stopped (bad_argument flaw piece) s text text' records records' name span
+Listed s offset place text text' records records' (Err (Unknown piece name span)) = Stopped (unknown_action piece) s text text' records records' name span
+Listed s offset place text text' records records' (Err Unfit) = ⊥
 
 -- Records of a normalised text of n bytes put into the input.
 pub record Settles (s : List ℕ) (n count : ℕ) (records records' : List ℕ) : Type 0 where
@@ -66,7 +69,7 @@ pub record Settles (s : List ℕ) (n count : ℕ) (records records' : List ℕ) 
   pub still : length s ≤ n → records' ≡ records
 
 -- The last step, when so much is written: number 4 where lent's ending says that the records do not fit.
-pub record Ended (used count : ℕ) (text text' records records' : List ℕ) (r : Answer) : Type 0 where
+pub record Ended (used count : ℕ) (text text' records records' : List ℕ) (r : Result Read ActionsError) : Type 0 where
   pub full : Bool
   pub finished : Finished used count action_words text text' records records' full
-  pub answer : r ≡ pick full (Answer.NoRoom count) (Answer.Read count used)
+  pub answer : r ≡ pick full (Err (NoRoom count)) (Ok (record { count = count; text = used }))

@@ -9,27 +9,20 @@ pub fn part_end(s: &[u8], from: usize) -> usize
 {
     let mut at = from;
     let mut depth: usize = 0;
+    // by steps of differing widths, since a quoted run is passed at once
     while at < s.len() {
         let b = s[at];
         match b {
-            34 | 39 => {
+            b'"' | b'\'' => {
                 // a mark that is never closed takes all that is left
                 at += 1 + ascii::first_of(&s[at + 1..], b);
                 if s.len() <= at {
                     return at;
                 }
             }
-            40 => depth += 1,
-            41 => {
-                if 0 < depth {
-                    depth -= 1;
-                }
-            }
-            44 => {
-                if depth == 0 {
-                    return at;
-                }
-            }
+            b'(' => depth += 1,
+            b')' => depth = depth.saturating_sub(1),
+            b',' if depth == 0 => return at,
             _ => {}
         }
         at += 1;

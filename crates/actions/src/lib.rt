@@ -2,29 +2,30 @@
 
 #![tactic(auto)]
 
+ghost use Rattle.std.specs.Prelude.{◌≡◌};
+ghost use Rattle.actions.specs.declared.ActionsError.TheVariants.{Gate};
+
 mod cutting;
 mod lists;
 mod normalising;
 mod writing;
 
-use lent::Flaw;
+use lent::{Flaw, GateError};
 pub use lists::{parse_actions, parse_setvar, read_actions};
-pub use normalising::{Normal, normalise};
+pub use normalising::normalise;
 
-// The paper's numbers, by name; `name` is the length of the name that the text buffer starts with, `span` the piece's in the input.
-#[derive(Clone, Copy)]
-pub enum Answer {
-    // 0: the count of records, and the length of the texts
-    Read {
-        count: usize,
-        text: usize,
-    },
-    // 1
-    TooLong,
-    // 2: the place of the first byte past ASCII
-    NotAscii(usize),
-    // 3
-    Short,
+// A list read: how many records, and the length of the texts.
+#[derive(Clone, Copy, Debug, PartialEq, Eq)]
+pub struct Read {
+    pub count: usize,
+    pub text: usize,
+}
+
+// Why a list is not read, by the paper's numbers; `name` is the length of the name that the text buffer starts with, `span` the piece's in the input.
+#[derive(Clone, Copy, Debug, PartialEq, Eq)]
+pub enum ActionsError {
+    // 1 to 3
+    Gate(GateError),
     // 5
     UnknownAction {
         piece: usize,
@@ -42,16 +43,27 @@ pub enum Answer {
     NoRoom(usize),
 }
 
-// What a normalised text comes to that is read into buffers from an offset and a count of records on.
-#[derive(Clone, Copy)]
-pub enum Reached {
-    // how many records, the offset past the last text, and whether an id and `chain` are among them
-    Read {
-        count: usize,
-        offset: usize,
-        id: bool,
-        chain: bool,
-    },
+impl From<GateError> for ActionsError {
+    ghost from_gives = { λ e r. r ≡ Gate e };
+
+    fn from(e: GateError) -> ActionsError {
+        ActionsError::Gate(e)
+    }
+}
+
+// A normalised text read into buffers from an offset and a count of records on: how many records, the offset past the last text,
+// and whether an id and `chain` are among them.
+#[derive(Clone, Copy, Debug, PartialEq, Eq)]
+pub struct Reached {
+    pub count: usize,
+    pub offset: usize,
+    pub id: bool,
+    pub chain: bool,
+}
+
+// Why it is not.
+#[derive(Clone, Copy, Debug, PartialEq, Eq)]
+pub enum PieceError {
     // 5 and 10 to 12: the piece, the length of its name, and its span in that text
     Unknown {
         piece: usize,

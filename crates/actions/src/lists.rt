@@ -1,6 +1,5 @@
 // Action lists: parse_actions, and parse_setvar alone.
-ghost use Rattle.std.specs.Prelude.{◌≡◌, true, ◌+◌, ◌≤◌, min, length, eqb};
-ghost use Rattle.ascii.specs.Choice.{or};
+ghost use Rattle.std.specs.Prelude.{◌≡◌, true, ◌≤◌, length};
 ghost use Rattle.ascii.specs.Fold.{lowered};
 ghost use Rattle.lent.specs.Buffers.{zeros, padded};
 ghost use Rattle.lent.specs.Endings.{starts};
@@ -13,10 +12,10 @@ ghost use Rattle.actions.specs.Promises.{ParseActions, SetvarAlone};
 use crate::cutting::part_end;
 use crate::normalising::put_normal;
 use crate::writing::{put_plan, span_of, store_lowered};
-use crate::{Answer, Reached};
-use lent::{Flaw, Gate};
+use crate::{ActionsError, PieceError, Reached, Read};
+use lent::{Flaw, GateError};
 use places::Rule;
-use single_action::{Verdict, put_name, read_setvar, read_single};
+use single_action::{PlanError, put_name, read_setvar, read_single};
 
 // A piece whose argument its action does not take: both buffers hold the action's name as the Rust spells it, and zeros.
 fn refuse_row(
@@ -26,16 +25,16 @@ fn refuse_row(
     span: u64,
     text: &mut [u8],
     records: &mut [u64],
-) -> Reached
+) -> PieceError
     requires { length (row_at row).name ≤ length text.old }
     ensures text_after { text.new ≡ padded (length text.old) (row_at row).name }
     ensures records_after { records.new ≡ zeros (length records.old) }
     ensures value { result ≡ badly flaw piece (length (row_at row).name) span }
 {
-    lent::clear_words(records);
-    lent::clear_bytes(text);
+    records.fill(0);
+    text.fill(0);
     let name = put_name(row, text);
-    Reached::Bad {
+    PieceError::Bad {
         flaw,
         piece,
         name,
@@ -50,30 +49,20 @@ fn refuse_name(
     span: u64,
     text: &mut [u8],
     records: &mut [u64],
-) -> Reached
+) -> PieceError
     requires { length name.now ≤ length text.old }
     ensures text_after { text.new ≡ padded (length text.old) (lowered name.now) }
     ensures records_after { records.new ≡ zeros (length records.old) }
     ensures value { result ≡ strangely piece (length name.now) span }
 {
-    lent::clear_words(records);
-    lent::clear_bytes(text);
+    records.fill(0);
+    text.fill(0);
     store_lowered(text, 0, name);
-    Reached::Unknown {
+    PieceError::Unknown {
         piece,
         name: name.len(),
         span,
     }
-}
-
-// Whether an action of that code is among those seen, with one more.
-fn among(seen: bool, code: u64, wanted: u64) -> bool
-    ensures { result ≡ or seen (eqb code wanted) }
-{
-    if seen {
-        return true;
-    }
-    code == wanted
 }
 
 // Writes every action's texts from `offset` on, and its record, the first behind `place` others, where that fits; stops at the first bad piece.
@@ -83,7 +72,7 @@ fn write_actions(
     offset: usize,
     records: &mut [u64],
     place: usize,
-) -> Reached
+) -> Result<Reached, PieceError>
     requires { starts (length s.now) (length text.old) offset place ≡ true }
     ensures { Listed s.now offset place text.old text.new records.old records.new result }
 {
@@ -93,6 +82,7 @@ fn write_actions(
     let mut id = false;
     let mut chain = false;
     let mut at = place * lent::ACTION_WORDS;
+    // piece after piece: a list ends behind a part, and an empty part has no record
     loop {
         let end = part_end(s, from);
         let part = ascii::trimmed(&s[from..end]);
@@ -102,28 +92,28 @@ fn write_actions(
             let piece = &s[first..past];
             let span = span_of(first, past);
             match read_single(piece) {
-                Verdict::Done(plan) => {
+                Ok(plan) => {
                     used = put_plan(piece, plan, span, text, used, records, at);
                     at += lent::ACTION_WORDS;
                     count += 1;
-                    id = among(id, plan.code, records::ID);
-                    chain = among(chain, plan.code, records::CHAIN);
+                    id |= plan.code == records::ID;
+                    chain |= plan.code == records::CHAIN;
                 }
-                Verdict::Bad { flaw, row } => {
-                    return refuse_row(flaw, row, count, span, text, records);
+                Err(PlanError::Bad { flaw, row }) => {
+                    return Err(refuse_row(flaw, row, count, span, text, records));
                 }
-                Verdict::Unknown(name) => {
-                    return refuse_name(&piece[..name], count, span, text, records);
+                Err(PlanError::Unknown(name)) => {
+                    return Err(refuse_name(&piece[..name], count, span, text, records));
                 }
             }
         }
         if s.len() <= end {
-            return Reached::Read {
+            return Ok(Reached {
                 count,
                 offset: used,
                 id,
                 chain,
-            };
+            });
         }
         from = end + 1;
     }
@@ -136,23 +126,28 @@ pub fn read_actions(
     offset: usize,
     records: &mut [u64],
     place: usize,
-) -> Reached
+) -> Result<Reached, PieceError>
     ensures { ReadActions s.now offset place text.old text.new records.old records.new result }
 {
     if lent::starts(s.len(), text.len(), offset, place) {
         return write_actions(s, text, offset, records, place);
     }
-    Reached::Unfit
+    Err(PieceError::Unfit)
 }
 
 // The ending that every reader has, as an answer.
-fn finish(text: &mut [u8], used: usize, records: &mut [u64], count: usize) -> Answer
+fn finish(
+    text: &mut [u8],
+    used: usize,
+    records: &mut [u64],
+    count: usize,
+) -> Result<Read, ActionsError>
     ensures { Ended used count text.old text.new records.old records.new result }
 {
     if lent::finish(text, used, records, count, lent::ACTION_WORDS) {
-        return Answer::NoRoom(count);
+        return Err(ActionsError::NoRoom(count));
     }
-    Answer::Read { count, text: used }
+    Ok(Read { count, text: used })
 }
 
 // The normalised text at the front of the scratch buffer, zeros beyond it, and its length.
@@ -162,7 +157,7 @@ fn fill_scratch(input: &[u8], scratch: &mut [u8]) -> usize
     ensures value { result ≡ length (normalised input.now) }
 {
     let n = put_normal(input, scratch);
-    lent::clear_bytes(&mut scratch[n..]);
+    scratch[n..].fill(0);
     n
 }
 
@@ -184,65 +179,55 @@ fn settle(input: &[u8], n: usize, records: &mut [u64], count: usize)
     );
 }
 
-fn shorter(a: usize, b: usize) -> usize
-    ensures { result ≡ min a b }
-{
-    if a < b { a } else { b }
-}
-
 // A list of actions, after the checks 1, 2 and 3. The scratch buffer holds the normalised text.
 pub fn parse_actions(
     input: &[u8],
     text: &mut [u8],
     scratch: &mut [u8],
     records: &mut [u64],
-) -> Answer
+) -> Result<Read, ActionsError>
     ensures { ParseActions input.now text.old text.new scratch.old scratch.new records.old records.new result }
 {
-    let least = shorter(text.len(), scratch.len());
-    match lent::admit(input, least, input.len()) {
-        Gate::TooLong => return Answer::TooLong,
-        Gate::NotAscii(place) => return Answer::NotAscii(place),
-        Gate::Short => return Answer::Short,
-        Gate::Open => {}
-    }
+    let least = text.len().min(scratch.len());
+    lent::admit(input, least, input.len())?;
     let n = fill_scratch(input, scratch);
     match write_actions(&scratch[..n], text, 0, records, 0) {
-        Reached::Bad {
-            flaw,
-            piece,
-            name,
-            span,
-        } => Answer::BadArgument {
+        Err(
+            PieceError::Bad {
+                flaw,
+                piece,
+                name,
+                span,
+            },
+        ) => Err(ActionsError::BadArgument {
             flaw,
             piece,
             name,
             span: places::site_word(input, 0, Rule::Joined, span),
-        },
-        Reached::Unknown { piece, name, span } => Answer::UnknownAction {
+        }),
+        Err(PieceError::Unknown { piece, name, span }) => Err(ActionsError::UnknownAction {
             piece,
             name,
             span: places::site_word(input, 0, Rule::Joined, span),
-        },
-        Reached::Read { count, offset, .. } => {
+        }),
+        Ok(Reached { count, offset, .. }) => {
             settle(input, n, records, count);
             finish(text, offset, records, count)
         }
         // not past the gate
-        Reached::Unfit => Answer::Short,
+        Err(PieceError::Unfit) => Err(ActionsError::Gate(GateError::Short)),
     }
 }
 
 // A setvar specification alone, which is not normalised: one record with the code of SetVar.
-pub fn parse_setvar(input: &[u8], text: &mut [u8], records: &mut [u64]) -> Answer
+pub fn parse_setvar(
+    input: &[u8],
+    text: &mut [u8],
+    records: &mut [u64],
+) -> Result<Read, ActionsError>
     ensures { SetvarAlone input.now text.old text.new records.old records.new result }
 {
-    match lent::admit(input, text.len(), input.len() + 3) {
-        Gate::TooLong => return Answer::TooLong,
-        Gate::NotAscii(place) => return Answer::NotAscii(place),
-        Gate::Short => return Answer::Short,
-        Gate::Open => {}
-    }
+    lent::admit(input, text.len(), input.len() + 3)?;
     let plan = read_setvar(input);
     let part = ascii::trimmed(input);
     let span = span_of(part.first, part.past);

@@ -21,17 +21,10 @@ pub enum Act {
     Keeps(u8, Mode),
 }
 
-// How long the normalised text is, or that the buffer is shorter than the text it is made from.
-#[derive(Clone, Copy)]
-pub enum Normal {
-    Text(usize),
-    Short,
-}
-
 fn plain_act(b: u8) -> Act
     ensures { (act_text result ≡ text_given plain b) × (act_mode result ≡ mode_after plain b) }
 {
-    if b == 92 {
+    if b == b'\\' {
         Act::Vanishes(Mode::Held)
     } else {
         Act::Gives(b, Mode::Plain)
@@ -42,9 +35,9 @@ fn margin_act(b: u8) -> Act
     ensures { (act_text result ≡ text_given margin b) × (act_mode result ≡ mode_after margin b) }
 {
     match b {
-        9 => Act::Vanishes(Mode::Margin),
+        b'\t' => Act::Vanishes(Mode::Margin),
         11..=13 => Act::Vanishes(Mode::Margin),
-        32 => Act::Vanishes(Mode::Margin),
+        b' ' => Act::Vanishes(Mode::Margin),
         _ => plain_act(b),
     }
 }
@@ -53,9 +46,9 @@ fn held_act(b: u8) -> Act
     ensures { (act_text result ≡ text_given held b) × (act_mode result ≡ mode_after held b) }
 {
     match b {
-        10 => Act::Vanishes(Mode::Margin),
-        13 => Act::Vanishes(Mode::AfterCr),
-        92 => Act::Gives(92, Mode::Held),
+        b'\n' => Act::Vanishes(Mode::Margin),
+        b'\r' => Act::Vanishes(Mode::AfterCr),
+        b'\\' => Act::Gives(b, Mode::Held),
         _ => Act::Keeps(b, Mode::Plain),
     }
 }
@@ -67,7 +60,7 @@ fn act_of(mode: Mode, b: u8) -> Act
         Mode::Plain => plain_act(b),
         Mode::Held => held_act(b),
         Mode::AfterCr => {
-            if b == 10 {
+            if b == b'\n' {
                 return Act::Vanishes(Mode::Margin);
             }
             margin_act(b)
@@ -81,8 +74,8 @@ fn pass_plain(s: &[u8], i: usize, out: &mut [u8], n: usize) -> usize
     requires { i ≤ length s.now }
     ensures { Passed s.now i out.old out.new n result }
 {
-    let past = i + ascii::first_of(&s[i..], 92);
-    lent::store_bytes(out, n, &s[i..past]);
+    let past = i + ascii::first_of(&s[i..], b'\\');
+    lent::store(out, n, &s[i..past]);
     past
 }
 
@@ -94,6 +87,7 @@ pub fn put_normal(s: &[u8], out: &mut [u8]) -> usize
     let mut i = 0;
     let mut n = 0;
     let mut mode = Mode::Plain;
+    // by steps of differing widths, since a run without a backslash is copied at once
     loop {
         if let Mode::Plain = mode {
             let past = pass_plain(s, i, out, n);
@@ -111,7 +105,7 @@ pub fn put_normal(s: &[u8], out: &mut [u8]) -> usize
                 mode = m;
             }
             Act::Keeps(x, m) => {
-                out[n] = 92;
+                out[n] = b'\\';
                 out[n + 1] = x;
                 n += 2;
                 mode = m;
@@ -120,18 +114,18 @@ pub fn put_normal(s: &[u8], out: &mut [u8]) -> usize
         i += 1;
     }
     if let Mode::Held = mode {
-        out[n] = 92;
+        out[n] = b'\\';
         n += 1;
     }
     n
 }
 
-// The normalised text at the front of a lent buffer, what stands beyond it being kept; nothing where the buffer is shorter than the text.
-pub fn normalise(s: &[u8], out: &mut [u8]) -> Normal
+// The normalised text at the front of a lent buffer, what stands beyond it being kept, and its length; nothing where the buffer is shorter than the text.
+pub fn normalise(s: &[u8], out: &mut [u8]) -> Option<usize>
     ensures { Normalise s.now out.old out.new result }
 {
     if out.len() < s.len() {
-        return Normal::Short;
+        return None;
     }
-    Normal::Text(put_normal(s, out))
+    Some(put_normal(s, out))
 }

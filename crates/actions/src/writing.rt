@@ -14,16 +14,11 @@ use single_action::{Origin, Plan};
 pub fn store_lowered(out: &mut [u8], at: usize, text: &[u8])
     ensures { out.new ≡ stored out.old at (lowered text.now) }
 {
-    if out.len() < at {
+    if out.len() < at || out.len() - at < text.len() {
         return;
     }
-    if out.len() - at < text.len() {
-        return;
-    }
-    let mut i = 0;
-    while i < text.len() {
-        out[at + i] = ascii::to_lower(text[i]);
-        i += 1;
+    for (i, b) in text.iter().enumerate() {
+        out[at + i] = ascii::to_lower(*b);
     }
 }
 
@@ -37,7 +32,7 @@ fn put_text(s: &[u8], origin: Origin, text: &mut [u8], at: usize) -> usize
     match origin {
         Origin::Absent => at,
         Origin::Copied { first, past } => {
-            lent::store_bytes(text, at, &s[first..past]);
+            lent::store(text, at, &s[first..past]);
             at + (past - first)
         }
         Origin::Lowered { first, past } => {
@@ -45,11 +40,11 @@ fn put_text(s: &[u8], origin: Origin, text: &mut [u8], at: usize) -> usize
             at + (past - first)
         }
         Origin::Tx => {
-            lent::store_bytes(text, at, b"tx");
+            lent::store(text, at, b"tx");
             at + 2
         }
         Origin::One => {
-            lent::store_bytes(text, at, b"1");
+            lent::store(text, at, b"1");
             at + 1
         }
     }
@@ -64,10 +59,7 @@ fn word_of(origin: Origin, at: usize, end: usize) -> u64
     let span = lent::span(at as u32, (end - at) as u32);
     match origin {
         Origin::Absent => 0,
-        Origin::Copied { .. } => span,
-        Origin::Lowered { .. } => span,
-        Origin::Tx => span,
-        Origin::One => span,
+        _ => span,
     }
 }
 
@@ -94,21 +86,18 @@ pub fn put_plan(
     requires plan_bound { used + length (action_text (plan_action s.now plan)) < span_base }
     ensures { Put (plan_action s.now plan) source used at text.old text.new records.old records.new result }
 {
-    let first = plan.a;
-    let second = plan.b;
-    let third = plan.c;
-    let b = put_text(s, first, text, used);
-    let c = put_text(s, second, text, b);
-    let end = put_text(s, third, text, c);
+    let b = put_text(s, plan.a, text, used);
+    let c = put_text(s, plan.b, text, b);
+    let end = put_text(s, plan.c, text, c);
     let record = [
         plan.code,
         plan.number,
-        word_of(first, used, b),
-        word_of(second, b, c),
+        word_of(plan.a, used, b),
+        word_of(plan.b, b, c),
         plan.kind,
-        word_of(third, c, end),
+        word_of(plan.c, c, end),
         source,
     ];
-    lent::store_words(records, at, &record);
+    lent::store(records, at, &record);
     end
 }

@@ -15,6 +15,8 @@ use Rattle.ascii.proofs.digits as Digits
 use Rattle.ascii.proofs.signed as Signed
 use Rattle.ascii.proofs.unsigned as Unsigned
 use Rattle.ascii.proofs.first_of as FirstOf
+use Rattle.ascii.proofs.leading as Leading
+use Rattle.ascii.proofs.kept_len as KeptLen
 use Rattle.ascii.proofs.leading_white as LeadingWhite
 use Rattle.ascii.proofs.trim as Trim
 use Rattle.ascii.proofs.trim_end as TrimEnd
@@ -24,17 +26,14 @@ use Rattle.ascii.proofs.trimmed_len as TrimmedLen
 use Rattle.lent.proofs.finish as Finish
 use Rattle.lent.proofs.refuse_piece as RefusePiece
 use Rattle.lent.proofs.starts as Starts
-use Rattle.lent.proofs.clear_bytes as ClearBytes
-use Rattle.lent.proofs.clear_words as ClearWords
-use Rattle.lent.proofs.store_bytes as StoreBytes
-use Rattle.lent.proofs.store_words as StoreWords
+use Rattle.lent.proofs.store as Store
 use Rattle.lent.proofs.admit as Admit
 use Rattle.lent.proofs.first_high as FirstHigh
 use Rattle.lent.proofs.room as Room
 use Rattle.lent.proofs.span as Span
 use Rattle.lent.proofs.span_length as SpanLength
 use Rattle.lent.proofs.span_offset as SpanOffset
-use Rattle.lent.proofs.flaw_number as FlawNumber
+use Rattle.lent.proofs.refusing.U64FromFlaw.from as FlawNumber
 use Rattle.names.proofs.operator_code as OperatorCode
 use Rattle.names.proofs.requires_argument as RequiresArgument
 use Rattle.names.proofs.severity_code as SeverityCode
@@ -46,7 +45,6 @@ use Rattle.lexer.proofs.step_in as StepIn
 use Rattle.lexer.proofs.start as Start
 use Rattle.lexer.proofs.tokens as TokensOf
 use Rattle.lexer.proofs.is_directive as IsDirective
-use Rattle.lexer.proofs.pass_gate as PassGate
 use Rattle.lexer.proofs.put_token as PutToken
 use Rattle.lexer.proofs.end_reading as EndReading
 use Rattle.plain.proofs.plain_tokens as PlainTokens
@@ -62,9 +60,9 @@ use Rattle.records.proofs.is_known as IsKnown
 use Rattle.records.proofs.is_text as IsText
 use Rattle.single_action.proofs.read_single as ReadSingle
 use Rattle.single_action.proofs.read_setvar as ReadSetvar
+use Rattle.single_action.proofs.numbered_rule as NumberedRule
 use Rattle.single_action.proofs.is_quotation as IsQuotation
 use Rattle.single_action.proofs.has_macro as HasMacro
-use Rattle.single_action.proofs.numbered_rule as NumberedRule
 use Rattle.single_action.proofs.put_name as PutName
 use Rattle.actions.proofs.normalise as Normalise
 use Rattle.actions.proofs.parse_actions as ParseActions
@@ -94,6 +92,7 @@ use Rattle.listing.proofs.write_refusal as WriteRefusal
 use Rattle.listing.proofs.write_refusal_line as WriteRefusalLine
 use Rattle.spelled.proofs.write_actions as WriteActions
 use Rattle.demands.specs.Demand1.{OfBytes, OfTexts, OfNumbers, OfLent, OfNames, OfSpans, OfLexer, OfPlaces, OfSingles, OfParsers, OfDirectives, OfIndex, OfListing, OfRecords, OfSpelled, Demand1}
+use Rattle.demands.proofs.Conversions.{of_conversions}
 use Rattle.demands.proofs.FixedLaws.{gives, both_given, finish_fixed, site_word_fixed, resite_fixed, end_reading_fixed, reader_fixed}
 use Rattle.demands.proofs.TokenCalls.{step_in_fixed, next_token_fixed, tokens_fixed, tokens_row}
 use Rattle.demands.proofs.ActionCalls.{parse_actions_fixed, normalise_fixed, read_actions_fixed, parse_setvar_fixed, parse_actions_row, parse_setvar_row}
@@ -117,6 +116,8 @@ of_texts : OfTexts
 of_texts = record {
   is_same = record { promises = record { tied = λ M 𝓤 𝓛 mem run. refl; met = λ M 𝓤. IsSame.Met.met 𝓤 }; fixed = λ κs. gives _ };
   same_lowered_lem = record { promises = record { tied = λ M 𝓤 𝓛 mem run. refl; met = λ M 𝓤. SameLowered.Met.met 𝓤 }; fixed = λ κs. gives _ };
+  leading = record { tied = λ T G d M 𝓤 𝓛 mem run. refl; met = λ M. Leading.Met.met; fixed = λ test. gives _ };
+  kept_len = record { tied = λ T G d M 𝓤 𝓛 mem run. refl; met = λ M. KeptLen.Met.met; fixed = λ test. gives _ };
   leading_white_lem = record { promises = record { tied = λ M 𝓤 𝓛 mem run. refl; met = λ M 𝓤. LeadingWhite.Met.met 𝓤 }; fixed = λ κs. gives _ };
   trimmed_len = record { promises = record { tied = λ M 𝓤 𝓛 mem run. refl; met = λ M 𝓤. TrimmedLen.Met.met 𝓤 }; fixed = λ κs. gives _ };
   trim_start = record { promises = record { tied = λ M 𝓤 𝓛 mem run. refl; met = λ M 𝓤. TrimStart.Met.met 𝓤 }; fixed = gives _ };
@@ -141,10 +142,7 @@ of_lent = record {
   span_offset_lem = record { promises = record { tied = λ M 𝓤 𝓛 mem run. refl; met = λ M 𝓤. SpanOffset.Met.met 𝓤 }; fixed = λ κs. gives _ };
   span_length_lem = record { promises = record { tied = λ M 𝓤 𝓛 mem run. refl; met = λ M 𝓤. SpanLength.Met.met 𝓤 }; fixed = λ κs. gives _ };
   room = record { promises = record { tied = λ M 𝓤 𝓛 mem run. refl; met = λ M 𝓤. Room.Met.met 𝓤 }; fixed = λ κs. gives _ };
-  clear_bytes = record { promises = record { tied = λ M 𝓤 𝓛 mem run. refl; met = λ M 𝓤. ClearBytes.Met.met 𝓤 }; fixed = gives _ };
-  clear_words = record { promises = record { tied = λ M 𝓤 𝓛 mem run. refl; met = λ M 𝓤. ClearWords.Met.met 𝓤 }; fixed = gives _ };
-  store_bytes = record { promises = record { tied = λ M 𝓤 𝓛 mem run. refl; met = λ M 𝓤. StoreBytes.Met.met 𝓤 }; fixed = gives _ };
-  store_words = record { promises = record { tied = λ M 𝓤 𝓛 mem run. refl; met = λ M 𝓤. StoreWords.Met.met 𝓤 }; fixed = gives _ };
+  store = record { tied = λ T G d M 𝓤 𝓛 mem run. refl; met = λ M. Store.Met.met; fixed = λ A. gives _ };
   starts = record { promises = record { tied = λ M 𝓤 𝓛 mem run. refl; met = λ M 𝓤. Starts.Met.met 𝓤 }; fixed = λ κs. gives _ };
   finish = record { promises = record { tied = λ M 𝓤 𝓛 mem run. refl; met = λ M 𝓤. Finish.Met.met 𝓤 }; fixed = finish_fixed };
   refuse_piece = record { promises = record { tied = λ M 𝓤 𝓛 mem run. refl; met = λ M 𝓤. RefusePiece.Met.met 𝓤 }; fixed = both_given _ _ };
@@ -180,7 +178,6 @@ of_lexer = record {
   next_token = record { promises = record { tied = λ M 𝓤 𝓛 mem run. refl; met = λ M 𝓤. NextToken.Met.met 𝓤 }; fixed = next_token_fixed };
   tokens = record { promises = record { tied = λ M 𝓤 𝓛 mem run. refl; met = λ M 𝓤. TokensOf.Met.met 𝓤 }; fixed = tokens_fixed };
   plain_tokens = record { promises = record { tied = λ M 𝓤 𝓛 mem run. refl; met = λ M 𝓤. PlainTokens.Met.met 𝓤 }; fixed = tokens_fixed };
-  pass_gate = record { promises = record { tied = λ M 𝓤 𝓛 mem run. refl; met = λ M 𝓤. PassGate.Met.met 𝓤 }; fixed = λ κs. gives _ };
   is_directive = record { promises = record { tied = λ M 𝓤 𝓛 mem run. refl; met = λ M 𝓤. IsDirective.Met.met 𝓤 }; fixed = λ κs. gives _ };
   put_token = record { promises = record { tied = λ M 𝓤 𝓛 mem run. refl; met = λ M 𝓤. PutToken.Met.met 𝓤 }; fixed = gives _ };
   end_reading = record { promises = record { tied = λ M 𝓤 𝓛 mem run. refl; met = λ M 𝓤. EndReading.Met.met 𝓤 }; fixed = end_reading_fixed };
@@ -270,6 +267,7 @@ demand1 = record {
   of_listing = of_listing;
   of_records = of_records;
   of_spelled = of_spelled;
+  of_conversions = of_conversions;
   of_library = of_library;
   by_table = record {
     tokens = tokens_row;

@@ -1,6 +1,8 @@
 -- Demand 2. Within 1,048,576 ASCII bytes tokens, records and the first error equal the Rust's: by differential runs, and by proof against
 -- definitions of its rules. Severity words follow the ModSecurity Reference Manual, listings RFC 8259.
 -- The idea: an input that the gate lets pass leaves only the definitions; the crates' own laws have the numbers.
+use Rattle.lent.specs.declared.gating.GateError.{GateError}
+use Rattle.std.specs.Prelude.{Result, Ok}
 use mathlib.Core.Path.{◌≡◌, ◌∙◌, refl, ap}
 use mathlib.Core.Bool.{Bool, true, false}
 use mathlib.Core.List.{List, [], ◌∷◌}
@@ -13,8 +15,6 @@ use borrow.Author.Tests.{lt-ltb, le-ltb, ltb-true, ltb-false}
 use Rattle.lent.specs.Sizes.{action_words, room_for}
 use Rattle.lent.specs.Table.{Given, flaw_number, unknown_action, bad_argument, Outcome, refuses, reads, sited_outcome, Filled, given_by, text_by, records_by}
 use Rattle.lent.specs.Sources.{Sourced}
-use Rattle.lent.specs.declared.gating.Gate.{Gate}
-use Rattle.lent.specs.declared.gating.Gate.TheVariants.{Open}
 use Rattle.lent.specs.Admission.{Opened}
 use Rattle.lent.specs.declared.refusing.Flaw.{Flaw}
 use Rattle.lent.proofs.GateLaws.{row_gate}
@@ -31,12 +31,14 @@ use Rattle.actions.specs.Pieces.{Piece, pieces}
 use Rattle.actions.specs.Calls.{FirstRefused}
 use Rattle.actions.specs.Lists.{normal_site, actions_of}
 use Rattle.actions.specs.Promises as Actions
-use Rattle.actions.specs.declared.Answer as Listed
+use Rattle.actions.specs.declared.Read.{Read as ActionsRead}
+use Rattle.actions.specs.declared.ActionsError.{ActionsError}
+use Rattle.variables.specs.declared.Read.{Read as VariablesRead}
+use Rattle.variables.specs.declared.VariablesError.{VariablesError}
 use Rattle.actions.proofs.NumberLaws.{first_refused, bad_way, unknown_way, parse_actions_numbers}
 use Rattle.variables.specs.Parts as Variable
 use Rattle.variables.specs.Variables.{as_written, looked_up, read_all}
 use Rattle.variables.specs.Promises as Variables
-use Rattle.variables.specs.declared.Answer as Read
 use Rattle.variables.specs.declared.singles.Exclusions.{Exclusions}
 use Rattle.variables.proofs.PromiseLaws as Targets
 use Rattle.variables.proofs.MeantLaws.{refused_there}
@@ -61,27 +63,27 @@ same {text = text} {records = records} e a t w = record {
 
 tokens_are : (s : List ℕ) (n m : ℕ) → Opened s n (length s) → Lexer.tokens_outcome s n m ≡ tokens_in m s
 unfolding Lexer.tokens_outcome
-tokens_are s n m h = past_row s n (length s) (tokens_in m s) Open h
+tokens_are s n m h = past_row s n (length s) (tokens_in m s) (Ok tt) h
 
 actions_are : (s : List ℕ) (n k m : ℕ) → Opened s (min n k) (length s) → Actions.actions_outcome s n k m ≡ Actions.roomed m (actions_of s)
 unfolding Actions.actions_outcome
-actions_are s n k m h = past_row s (min n k) (length s) (Actions.roomed m (actions_of s)) Open h
+actions_are s n k m h = past_row s (min n k) (length s) (Actions.roomed m (actions_of s)) (Ok tt) h
 
 setvar_is : (s : List ℕ) (n m : ℕ) → Opened s n (length s + 3) → Actions.setvar_outcome s n m ≡ Actions.roomed m (reads (Actions.setvar_alone s))
 unfolding Actions.setvar_outcome
-setvar_is s n m h = past_row s n (length s + 3) (Actions.roomed m (reads (Actions.setvar_alone s))) Open h
+setvar_is s n m h = past_row s n (length s + 3) (Actions.roomed m (reads (Actions.setvar_alone s))) (Ok tt) h
 
 variables_are : (s : List ℕ) (n m : ℕ) → Opened s n (length s) → Variables.variables_outcome s n m ≡ Variables.hung m (read_all as_written (Variable.pieces s))
 unfolding Variables.variables_outcome
-variables_are s n m h = past_row s n (length s) (Variables.hung m (read_all as_written (Variable.pieces s))) Open h
+variables_are s n m h = past_row s n (length s) (Variables.hung m (read_all as_written (Variable.pieces s))) (Ok tt) h
 
 updates_are : (s : List ℕ) (n m : ℕ) → Opened s n (length s) → Variables.update_outcome s n m ≡ Variables.updated m (read_all looked_up (Variable.pieces s))
 unfolding Variables.update_outcome
-updates_are s n m h = past_row s n (length s) (Variables.updated m (read_all looked_up (Variable.pieces s))) Open h
+updates_are s n m h = past_row s n (length s) (Variables.updated m (read_all looked_up (Variable.pieces s))) (Ok tt) h
 
 operator_is : (s : List ℕ) → Opened s 0 0 → Operators.operator_outcome s ≡ Operators.outcome_of s (operator s)
 unfolding Operators.operator_outcome
-operator_is s h = past_row s 0 0 (Operators.outcome_of s (operator s)) Open h
+operator_is s h = past_row s 0 0 (Operators.outcome_of s (operator s)) (Ok tt) h
 
 equal : Equal
 equal = record {
@@ -89,7 +91,7 @@ equal = record {
   next_token = λ i o x h f. next_token_reads x h f;
   parse_actions = λ i o x h. (
     same (actions_are i.0.input (length i.0.text) (length i.1) (length i.0.records) h) x.answer x.texts x.words,
-    x.scratch ∙ ap (λ (g : Gate). Actions.scratch_by g i.0.input i.1) (row_gate i.0.input (min (length i.0.text) (length i.1)) (length i.0.input) Open h),
+    x.scratch ∙ ap (λ (g : Result Unit GateError). Actions.scratch_by g i.0.input i.1) (row_gate i.0.input (min (length i.0.text) (length i.1)) (length i.0.input) (Ok tt) h),
   );
   parse_setvar = λ i o x h. same (setvar_is i.input (length i.text) (length i.records) h) x.answer x.texts x.words;
   parse_variables = λ i o x h. same (variables_are i.input (length i.text) (length i.records) h) x.answer x.texts x.words;
@@ -126,7 +128,7 @@ module _ (s : List ℕ) (n m : ℕ) where
   unfolding Actions.setvar_outcome differ absent behind
   alone_exact = exactly_gated s n (length s + 3) alone rows refl one numbered
 
-setvar_exact : (i : Lent) (o : Left Listed.Answer) → parse_setvar_promise i o
+setvar_exact : (i : Lent) (o : Left (Result ActionsRead ActionsError)) → parse_setvar_promise i o
     → SetvarExact i.input (length i.text) (length i.records) (Actions.answer_given o.answer).number
 unfolding Exactly behind
 setvar_exact i o x =
@@ -138,7 +140,7 @@ setvar_exact i o x =
     let k = alone_exact s n m in
     rw e (record { gate = record { one = k.0; two = k.1.0; three = k.1.1.0 }; four = k.1.1.1.0; zero = k.1.1.1.1.0 })
 
-targets_exact : (x : Exclusions) (s text text' records records' : List ℕ) (r : Read.Answer) → Targets.Numbers x s text text' records records' r
+targets_exact : (x : Exclusions) (s text text' records records' : List ℕ) (r : Result VariablesRead VariablesError) → Targets.Numbers x s text text' records records' r
     → TargetsExact x s (length text) (length records) (Variables.answer_given r).number
 targets_exact x s text text' records records' r k = record {
   gate = record { one = k.number_1; two = k.number_2; three = k.number_3 };

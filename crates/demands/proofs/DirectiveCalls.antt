@@ -1,5 +1,6 @@
 -- The promise of directives is total, has no second answer, and keeps to document 02's table.
 -- The idea: the crate's laws have an answer for each outcome, and tell by what a call comes to it; a row says the same in plain words.
+use Rattle.std.specs.Prelude.{Result}
 use mathlib.Core.Path.{◌≡◌, ◌∙◌, ap₂}
 use mathlib.Core.List.{[]}
 use lib.ListN.{length}
@@ -11,7 +12,8 @@ use Rattle.directives.specs.Directives.{Fault, within}
 use Rattle.directives.specs.Layout.{reached, texts, listed_counts, action_counts, directives_from, variables_from, actions_from}
 use Rattle.directives.specs.Table.{Outcome, shut, faulty, overfull, filled, fault_given, text_by, records_by, scratch_by}
 use Rattle.directives.specs.Promises.{Lent, outcome_on, left_by, answer_given}
-use Rattle.directives.specs.declared.Answer.{Answer}
+use Rattle.directives.specs.declared.Read.{Read as DirectivesRead}
+use Rattle.directives.specs.declared.DirectivesError.{DirectivesError}
 use Rattle.directives.proofs.NumberLaws.{KnownFault, known_for}
 use Rattle.directives.proofs.LayoutLaws.{directives_long, variables_long, actions_long}
 use Rattle.directives.proofs.AskedLaws.{text_faulty}
@@ -28,14 +30,14 @@ pub all_left : (o : Outcome) (m m' : Lent) → m'.text ≡ text_by o m.text → 
     → m'.actions ≡ records_by (λ x. x.actions) o m.actions → m' ≡ left_by o m
 all_left o m m' t k d v a = rw (t, k, d, v, a)
 
-pub directives_left : (i : Package) (o : Answer × Lent) → directives_promise i o → o.1 ≡ left_by (outcome_on i.version i.input i.lent) i.lent
+pub directives_left : (i : Package) (o : (Result DirectivesRead DirectivesError) × Lent) → directives_promise i o → o.1 ≡ left_by (outcome_on i.version i.input i.lent) i.lent
 directives_left i o x = all_left (outcome_on i.version i.input i.lent) i.lent o.1 x.text x.scratch x.directives x.variables x.actions
 
-pub directives_fixed : Fixed Package (Answer × Lent) directives_promise
+pub directives_fixed : Fixed Package ((Result DirectivesRead DirectivesError) × Lent) directives_promise
 directives_fixed = record {
   total = λ i. ((_, left_by (outcome_on i.version i.input i.lent) i.lent), directives_total i.version i.input i.lent);
   once = λ i o p x y.
-      ap₂ (λ (r : Answer) (m : Lent). (r, m)) (directives_once x y).answer (one_answer (directives_left i o x) (directives_left i p y));
+      ap₂ (λ (r : Result DirectivesRead DirectivesError) (m : Lent). (r, m)) (directives_once x y).answer (one_answer (directives_left i o x) (directives_left i p y));
 }
 
 -- ---- the table
@@ -58,7 +60,7 @@ module _ (g : Given) (m m' : Lent) where
   fault_row (within l (no_room n)) k e t = absurd k
   fault_row (within l bad_cursor) k e t = absurd k
 
-pub directives_row : (i : Package) (o : Answer × Lent) → directives_promise i o → Row (answer_given o.0) i.lent o.1
+pub directives_row : (i : Package) (o : (Result DirectivesRead DirectivesError) × Lent) → directives_promise i o → Row (answer_given o.0) i.lent o.1
 directives_row i o x = go (outcome_on i.version i.input i.lent) (fate i.version i.input i.lent)
   where
     go : (u : Outcome) → Fate i.version i.input i.lent u → Row (answer_given o.0) i.lent o.1

@@ -1,4 +1,5 @@
 -- What every fixed promise is made of.
+use Rattle.std.specs.Prelude.{Result}
 use mathlib.Core.Path.{◌≡◌, ◌∙◌, refl, ap, ap₂}
 use mathlib.Core.Bool.{Bool}
 use mathlib.Core.List.{List}
@@ -9,7 +10,8 @@ use Rattle.ascii.proofs.OneAnswer.{one_answer}
 use Rattle.lent.specs.Sizes.{token_words}
 use Rattle.lexer.specs.Promises.{ended_by}
 use Rattle.lexer.specs.declared.Cursor.{Cursor}
-use Rattle.lexer.specs.declared.writing.Answer as Lexer
+use Rattle.lexer.specs.declared.writing.Read.{Read as TokensRead}
+use Rattle.lexer.specs.declared.writing.TokensError.{TokensError}
 use Rattle.reader.specs.declared.Reader.{Reader}
 use Rattle.demands.specs.Fixed.{Fixed, Gives}
 use Rattle.demands.specs.Calls.{Left, Wrote, Filling, finish_promise, Placing, site_word_promise, Replacing, resite_promise, Ending, end_reading_promise}
@@ -59,7 +61,7 @@ pub resite_fixed : Fixed Replacing (List ℕ) resite_promise
 resite_fixed = record { total = λ i. (_, record { words = refl }); once = λ i o p x y. one_answer x.words y.words }
 
 -- and of a lexer
-pub end_reading_fixed : Fixed Ending (Left Lexer.Answer) end_reading_promise
+pub end_reading_fixed : Fixed Ending (Left (Result TokensRead TokensError)) end_reading_promise
 end_reading_fixed = record {
   total = λ i. (record { answer = ended_by (overfull token_words i.read.count i.records) i.read; text = _; records = _ }, record { answer = refl; left = record { told = refl; texts = refl; words = refl } });
   once = λ i o p x y. left_same o p (one_answer x.answer y.answer, one_answer x.left.texts y.left.texts, one_answer x.left.words y.left.words);

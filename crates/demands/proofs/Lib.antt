@@ -1,4 +1,5 @@
 pub mod FixedLaws
+pub mod Conversions
 pub mod TokenCalls
 pub mod ActionCalls
 pub mod VariableCalls

@@ -1,4 +1,5 @@
 -- The C functions' promises are total, and have no second answer: every field of theirs is an equation with a definition.
+use Rattle.std.specs.Prelude.{Result}
 use mathlib.Core.Path.{◌≡◌, refl, ap₂}
 use mathlib.Core.List.{List}
 use Prim.Native.Nat.{ℕ}
@@ -11,7 +12,7 @@ use Rattle.actions.specs.Promises.{actions_gate, actions_outcome, scratch_by}
 use Rattle.operators.specs.Promises as Operators
 use Rattle.spans.specs.Conversion.{from_old, to_old}
 use Rattle.spans.specs.Promises as Spans
-use Rattle.spans.specs.declared.converting.Answer.{Answer as Converted}
+use Rattle.spans.specs.declared.converting.TooFar.{TooFar}
 use Rattle.index.specs.Promises as Indexing
 use Rattle.directives.specs.Table as Directing
 use Rattle.directives.specs.Promises as Whole
@@ -124,7 +125,7 @@ operator_fixed = record {
   once = λ i o p a b. pair (one_answer a.number b.number) (one_answer a.values b.values);
 }
 
-converts_fixed : (to : ℕ → Converted) → Fixed (With ℕ) (With ℕ) (converts_promise to)
+converts_fixed : (to : ℕ → Result ℕ TooFar) → Fixed (With ℕ) (With ℕ) (converts_promise to)
 converts_fixed to = record {
   total = λ i. let g = Spans.answer_given (to i.0) in ((g.number, told g i.1), record { number = refl; values = refl });
   once = λ i o p a b. pair (one_answer a.number b.number) (one_answer a.values b.values);

@@ -1,4 +1,5 @@
 -- 6 occurs no more: no row of the table has it, so that no outcome of any reader does.
+use Rattle.std.specs.Prelude.{Result, Ok, Err}
 use mathlib.Core.Path.{◌≡◌, ◌∙◌, sym, ap}
 use mathlib.Core.List.{List, [], ◌∷◌, ◌++◌}
 use Prim.Native.Nat.{ℕ}
@@ -18,13 +19,15 @@ use Rattle.directives.specs.Table as Directing
 use Rattle.directives.specs.Promises as Whole
 use Rattle.listing.specs.Listings.{refusal, line_of}
 use Rattle.listing.specs.Promises as Listing
-use Rattle.listing.specs.declared.Answer.{Answer as Listed}
+use Rattle.listing.specs.declared.ListingError.{ListingError}
+use Rattle.spans.specs.declared.converting.TooFar.{TooFar}
 use Rattle.spans.specs.Conversion.{from_old, to_old}
 use Rattle.spans.specs.Promises as Spans
-use Rattle.spans.specs.declared.converting.Answer.{Answer as Converted}
 use Rattle.index.specs.Promises as Indexing
 use Rattle.index.specs.declared.adding.Added.{Added}
+use Rattle.index.specs.declared.adding.AddError.{AddError}
 use Rattle.index.specs.declared.removing.Removed.{Removed}
+use Rattle.index.specs.declared.removing.Broken.{Broken}
 use Rattle.demands.specs.Calls.{Lent}
 use Rattle.demands.specs.Library.{records_outcome, refusal_outcome, actions_written}
 use Rattle.demands.specs.NoSix.{OfReaders, OfLibrary, NoSix}
@@ -60,25 +63,25 @@ listing_not (Listing.writes xs) e = omega arith
 listing_not (Listing.no_room needed) e = omega arith
 listing_not (Listing.no_token place) e = omega arith
 
-listed_not : (r : Listed) → (Listing.answer_given r).number ≡ 6 → ⊥
-listed_not (Listed.Written n) e = omega arith
-listed_not (Listed.NoRoom needed) e = omega arith
-listed_not (Listed.NoToken place) e = omega arith
+listed_not : (r : Result ℕ ListingError) → (Listing.answer_given r).number ≡ 6 → ⊥
+listed_not (Ok n) e = omega arith
+listed_not (Err (ListingError.NoRoom needed)) e = omega arith
+listed_not (Err (ListingError.NoToken place)) e = omega arith
 
-span_not : (r : Converted) → (Spans.answer_given r).number ≡ 6 → ⊥
-span_not (Converted.Word w) e = omega arith
-span_not Converted.TooFar e = omega arith
+span_not : (r : Result ℕ TooFar) → (Spans.answer_given r).number ≡ 6 → ⊥
+span_not (Ok w) e = omega arith
+span_not (Err f) e = omega arith
 
-added_not : (r : Added) → (Indexing.added_given r).number ≡ 6 → ⊥
-added_not (Added.Entered count) e = omega arith
-added_not (Added.Passed count) e = omega arith
-added_not (Added.Taken line) e = omega arith
-added_not (Added.Full places) e = omega arith
-added_not Added.Broken e = omega arith
+added_not : (r : Result Added AddError) → (Indexing.added_given r).number ≡ 6 → ⊥
+added_not (Ok (Added.Entered count)) e = omega arith
+added_not (Ok (Added.Passed count)) e = omega arith
+added_not (Err (AddError.Taken line)) e = omega arith
+added_not (Err (AddError.Full places)) e = omega arith
+added_not (Err AddError.Broken) e = omega arith
 
-removed_not : (r : Removed) → (Indexing.removed_given r).number ≡ 6 → ⊥
-removed_not (Removed.Done removed count) e = omega arith
-removed_not Removed.Broken e = omega arith
+removed_not : (r : Result Removed Broken) → (Indexing.removed_given r).number ≡ 6 → ⊥
+removed_not (Ok r) e = omega arith
+removed_not (Err b) e = omega arith
 
 flaw_not : (flaw : Flaw) → flaw_number flaw ≡ 6 → ⊥
 flaw_not Flaw.Absent e = omega arith

@@ -1,5 +1,6 @@
 -- What is read, without where, is what the Rust's loops make of the pieces' texts; and where, is the pieces' places.
 -- The idea: each loop passes a piece's text to what reads it and the place beside, so that either can be followed alone.
+use Rattle.std.specs.Prelude.{Option, Some, None}
 use mathlib.Core.Path.{◌≡◌, ◌∙◌, refl, ap, subst}
 use mathlib.Core.Bool.{Bool, true, false}
 use mathlib.Core.List.{List, [], ◌∷◌, map}
@@ -11,8 +12,6 @@ use Rattle.ascii.specs.Trim.{trim_ends}
 use Rattle.lent.specs.Sources.{Part, Sourced, sourced, sited_all}
 use Rattle.lent.specs.Table.{Refusal, too_long, not_ascii, short_buffer, no_room, named, unknown_operator, bad_cursor, resited, Outcome, refuses, reads, sited_outcome}
 use Rattle.names.specs.Variables.{variable_code}
-use Rattle.names.specs.declared.Lookup.{Lookup}
-use Rattle.names.specs.declared.Lookup.TheVariants.{Code, Unknown}
 use Rattle.single_action.specs.Actions.{Action, Single, done, bad, unknown, single}
 use Rattle.actions.specs.Normal.{normalised}
 use Rattle.actions.specs.Pieces as Act
@@ -134,9 +133,9 @@ exclusion_bare : (x : Part) (e : List ℕ) (ts : Of.Targets) → bare_targets (O
 exclusion_bare x e (Of.targets vs es) = refl
 exclusion_bare x e (Of.refused i n y) = refl
 
-known_bare : (x : Part) (l : Lookup) (n : List ℕ) (ts : Of.Targets) → bare_targets (Of.if_known x l n ts) ≡ known_before l n (bare_targets ts)
-known_bare x (Code c) n ts = refl
-known_bare x Unknown n ts = refl
+known_bare : (x : Part) (l : Option ℕ) (n : List ℕ) (ts : Of.Targets) → bare_targets (Of.if_known x l n ts) ≡ known_before l n (bare_targets ts)
+known_bare x (Some c) n ts = refl
+known_bare x None n ts = refl
 
 marked_bare : (n : Exclusions) (x : Part) (e : List ℕ) (ts : Of.Targets) → bare_targets (excluding_of n x e ts) ≡ marked_before n e (bare_targets ts)
 marked_bare AsWritten x e ts = exclusion_bare x e ts
@@ -195,9 +194,9 @@ module _ (x : Part) (a b : List Part) where
   marked_stands AsWritten e ts h = exclusion_stands e ts h
   marked_stands LookedUp e ts h = go (variable_code (Of.front_of (Of.at_colon e)))
     where
-      go : (l : Lookup) → Stands (Of.if_known x l (Of.front_of (Of.at_colon e)) (Of.with_exclusion x e ts)) a (x ∷ b)
-      go (Code c) = exclusion_stands e ts h
-      go Unknown = tt
+      go : (l : Option ℕ) → Stands (Of.if_known x l (Of.front_of (Of.at_colon e)) (Of.with_exclusion x e ts)) a (x ∷ b)
+      go (Some c) = exclusion_stands e ts h
+      go None = tt
 
   piece_stands : (n : Exclusions) (t : List ℕ) (ts : Of.Targets) → Stands ts a b → Stands (Of.piece (excluding_of n) x t ts) (by_mark t (x ∷ a) a) (by_mark t b (x ∷ b))
   piece_stands n [] ts h = variable_stands (Of.single []) ts h

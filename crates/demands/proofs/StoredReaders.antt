@@ -1,5 +1,8 @@
 -- What each reader gives of an input within the old limit has old forms: by `StoredSpans` for how records are laid out, by each reader's own
 -- laws for how long its texts are, and by `Underline` for where a thing was read from.
+use Rattle.lent.specs.declared.gating.GateError.{GateError}
+use Rattle.lent.specs.declared.gating.GateError.TheVariants.{TooLong, Short, NotAscii}
+use Rattle.std.specs.Prelude.{Result, Ok, Err}
 use mathlib.Core.Path.{◌≡◌, ◌∙◌, refl, sym}
 use mathlib.Core.Bool.{Bool, true, false}
 use mathlib.Core.List.{List, [], ◌∷◌, ◌++◌, append-nil}
@@ -15,8 +18,6 @@ use Rattle.lent.specs.Sources.{Part, part, Sourced}
 use Rattle.lent.specs.Gates.{gate_of}
 use Rattle.lent.specs.Layout.{texts_of, words_of}
 use Rattle.lent.specs.Table.{Refusal, too_long, not_ascii, short_buffer, no_room, named, no_action, no_argument, no_variable, unknown_operator, bad_cursor, Outcome, refuses, reads, past_gate, Filled}
-use Rattle.lent.specs.declared.gating.Gate.{Gate}
-use Rattle.lent.specs.declared.gating.Gate.TheVariants.{Open, TooLong, NotAscii, Short}
 use Rattle.lexer.specs.Tokens.{Token, reading}
 use Rattle.lexer.specs.Places.{Placed, All, nil, cons}
 use Rattle.lexer.specs.Layout.{token_record, text_of}
@@ -65,11 +66,11 @@ each_of f nil = tt
 each_of f (cons {t = t} p ps) = (f t p, each_of f ps)
 
 -- the gate's refusals have no span
-gate_kept : (spans : List Bool) (g : Gate) (o : Outcome Filled) → FilledKept spans o → FilledKept spans (past_gate g o)
-gate_kept spans Open o k = k
-gate_kept spans TooLong o k = tt
-gate_kept spans (NotAscii p) o k = tt
-gate_kept spans Short o k = tt
+gate_kept : (spans : List Bool) (g : Result Unit GateError) (o : Outcome Filled) → FilledKept spans o → FilledKept spans (past_gate g o)
+gate_kept spans (Ok tt) o k = k
+gate_kept spans (Err TooLong) o k = tt
+gate_kept spans (Err (NotAscii p)) o k = tt
+gate_kept spans (Err Short) o k = tt
 
 -- nor has 4
 room_kept : (spans : List Bool) (t : Bool) (n : ℕ) (x : Filled) → FilledKept spans (reads x) → FilledKept spans (pick t (refuses (no_room n)) (reads x))
@@ -177,11 +178,11 @@ module _ (s : List ℕ) (short : length s ≤ old_limit) where
       name_kept (accepted x) e = tt
       name_kept (unknown name) e = let h = refused_inside s name e in part_kept (part (name_place s) (name_place s + length name)) (omega (arith, h), omega (arith, h))
 
-      past : (g : Gate) → OperatorKept (past_gate g (outcome_of s (operator s)))
-      past Open = name_kept (operator s) refl
-      past TooLong = tt
-      past (NotAscii p) = tt
-      past Short = tt
+      past : (g : Result Unit GateError) → OperatorKept (past_gate g (outcome_of s (operator s)))
+      past (Ok tt) = name_kept (operator s) refl
+      past (Err TooLong) = tt
+      past (Err (NotAscii p)) = tt
+      past (Err Short) = tt
 
   -- ---- a package
 
@@ -282,9 +283,9 @@ module _ (s : List ℕ) (short : length s ≤ old_limit) where
       actions_kept (Laid.argument_end o x) (Laid.actions_in x) (omega (arith, body_long x, l, h)) (acted_from x w.0.1) (Laid.action_counts ds) _
       (acted_near (o + length (Laid.directive_text d)) ds (omega (arith, l, h)) w.1)
 
-  package_near : (m : Package.Rooms) (x : Whole.Result (List Whole.Directive)) → PackageIn s x → ResultFits (length s) x → DirectivesKept (Package.roomed m x)
-  package_near m (Whole.bad f) w h = fault_near f w
-  package_near m (Whole.good ds) w h = go (Package.lacks m ds)
+  package_near : (m : Package.Rooms) (x : Result (List Whole.Directive) Whole.Fault) → PackageIn s x → ResultFits (length s) x → DirectivesKept (Package.roomed m x)
+  package_near m (Err f) w h = fault_near f w
+  package_near m (Ok ds) w h = go (Package.lacks m ds)
     where
       go : (t : Bool) → DirectivesKept (pick t (Directing.overfull (length ds) (Laid.listed_counts ds) (Laid.action_counts ds)) (Directing.filled (Package.laid_out ds)))
       go true = tt
@@ -298,11 +299,11 @@ module _ (s : List ℕ) (short : length s ≤ old_limit) where
   unfolding Package.directives_outcome
   directives_kept v m = past (gate_of s (min (length m.text) (length m.scratch)) (length s))
     where
-      past : (g : Gate) → DirectivesKept (Directing.past_gate g (Package.roomed (Package.rooms_of m) (directives_for v s)))
-      past Open = package_near (Package.rooms_of m) (directives_for v s) (underline.directives v s) (for_holds (ResultFits (length s)) (λ l. omega arith) v s (directives_fit s))
-      past TooLong = tt
-      past (NotAscii p) = tt
-      past Short = tt
+      past : (g : Result Unit GateError) → DirectivesKept (Directing.past_gate g (Package.roomed (Package.rooms_of m) (directives_for v s)))
+      past (Ok tt) = package_near (Package.rooms_of m) (directives_for v s) (underline.directives v s) (for_holds (ResultFits (length s)) (λ l. omega arith) v s (directives_fit s))
+      past (Err TooLong) = tt
+      past (Err (NotAscii p)) = tt
+      past (Err Short) = tt
 
 pub stored_spans : StoredSpans
 stored_spans = record {

@@ -1,5 +1,12 @@
 -- The lexer's three promises are total, have no second answer, and keep to document 01's table.
 -- The idea: what a call comes to has an answer in each of its cases, and the crates' own laws tell that it is the only one.
+use Rattle.lexer.specs.declared.writing.TokensError.TheVariants as TokensError
+use Rattle.lexer.specs.declared.stepping.Found.TheVariants as Found
+use Rattle.lexer.specs.declared.stepping.StepError.TheVariants as StepError
+use Rattle.lent.specs.declared.gating.GateError.TheVariants as GateError
+use Rattle.lent.specs.declared.gating.GateError.TheVariants.{TooLong, Short, NotAscii}
+use Rattle.lent.specs.declared.gating.GateError.{GateError}
+use Rattle.std.specs.Prelude.{Result, Ok, Err}
 use mathlib.Core.Path.{◌≡◌, refl}
 use mathlib.Core.Bool.{Bool, true, false}
 use Prim.Native.Nat.{ℕ, ◌-◌}
@@ -9,13 +16,12 @@ use Rattle.ascii.specs.Choice.{pick}
 use Rattle.lent.specs.Sizes.{limit, token_words, room_for}
 use Rattle.lent.specs.Gates.{gate_of}
 use Rattle.lent.specs.Table.{given, too_long, short_buffer, no_room, bad_cursor, Outcome, refuses, reads, past_gate, Filled, text_by, records_by}
-use Rattle.lent.specs.declared.gating.Gate.{Gate}
-use Rattle.lent.specs.declared.gating.Gate.TheVariants.{Open, TooLong, NotAscii, Short}
 use Rattle.lexer.specs.Tokens as T
 use Rattle.lexer.specs.Promises as L
-use Rattle.lexer.specs.declared.stepping.Step.{Step}
-use Rattle.lexer.specs.declared.writing.Answer as Lexer
-use Rattle.lexer.specs.declared.writing.Answer.TheVariants as LexerAnswer
+use Rattle.lexer.specs.declared.writing.Read.{Read as TokensRead}
+use Rattle.lexer.specs.declared.writing.TokensError.{TokensError}
+use Rattle.lexer.specs.declared.stepping.Found.{Found}
+use Rattle.lexer.specs.declared.stepping.StepError.{StepError}
 use Rattle.lexer.proofs.GivenLaws as LexerLaws
 use Rattle.lexer.proofs.LayoutLaws.{words_length}
 use Rattle.demands.specs.Fixed.{Fixed}
@@ -27,18 +33,18 @@ use Rattle.demands.proofs.AnswerLaws.{Answered, Gated, past_gate_lem}
 
 -- ---- one token
 
-read_answer : (x : T.Step) → (r : Step) × (L.step_given r ≡ given 0 (L.step_values x))
-read_answer (T.nothing c) = (Step.Nothing c, refl)
-read_answer (T.token t e) = (Step.Token (L.lexeme t e.here), refl)
+read_answer : (x : T.Step) → (r : Result Found StepError) × (L.step_given r ≡ given 0 (L.step_values x))
+read_answer (T.nothing c) = (Ok (Found.Nothing c), refl)
+read_answer (T.token t e) = (Ok (Found.Token (L.lexeme t e.here)), refl)
 
 step_answer : (long bad short : Bool) (x : T.Step)
-    → (r : Step) × (L.step_given r ≡ L.next_given_by (pick long (refuses too_long) (pick bad (refuses bad_cursor) (pick short (refuses short_buffer) (reads x)))))
-step_answer true bad short x = (Step.TooLong, refl)
-step_answer false true short x = (Step.BadCursor, refl)
-step_answer false false true x = (Step.Short, refl)
+    → (r : Result Found StepError) × (L.step_given r ≡ L.next_given_by (pick long (refuses too_long) (pick bad (refuses bad_cursor) (pick short (refuses short_buffer) (reads x)))))
+step_answer true bad short x = (Err (StepError.Gate GateError.TooLong), refl)
+step_answer false true short x = (Err StepError.BadCursor, refl)
+step_answer false false true x = (Err (StepError.Gate GateError.Short), refl)
 step_answer false false false x = read_answer x
 
-pub step_in_fixed : Fixed Place (Wrote Step) step_in_promise
+pub step_in_fixed : Fixed Place (Wrote (Result Found StepError)) step_in_promise
 unfolding L.step_outcome
 step_in_fixed = record {
   total = λ i.
@@ -47,15 +53,15 @@ step_in_fixed = record {
   once = λ i o p x y. wrote_same o p (LexerLaws.step_in_once x y);
 }
 
-next_answer : (g : Gate) (t : Bool) (x : T.Step)
-    → (r : Step) × (L.step_given r ≡ L.next_given_by (past_gate g (pick t (refuses bad_cursor) (reads x))))
-next_answer TooLong t x = (Step.TooLong, refl)
-next_answer (NotAscii p) t x = (Step.NotAscii p, refl)
-next_answer Short t x = (Step.Short, refl)
-next_answer Open true x = (Step.BadCursor, refl)
-next_answer Open false x = read_answer x
+next_answer : (g : Result Unit GateError) (t : Bool) (x : T.Step)
+    → (r : Result Found StepError) × (L.step_given r ≡ L.next_given_by (past_gate g (pick t (refuses bad_cursor) (reads x))))
+next_answer (Err TooLong) t x = (Err (StepError.Gate GateError.TooLong), refl)
+next_answer (Err (NotAscii p)) t x = (Err (StepError.Gate (GateError.NotAscii p)), refl)
+next_answer (Err Short) t x = (Err (StepError.Gate GateError.Short), refl)
+next_answer (Ok tt) true x = (Err StepError.BadCursor, refl)
+next_answer (Ok tt) false x = read_answer x
 
-pub next_token_fixed : Fixed Place (Wrote Step) next_token_promise
+pub next_token_fixed : Fixed Place (Wrote (Result Found StepError)) next_token_promise
 unfolding L.next_outcome
 next_token_fixed = record {
   total = λ i.
@@ -70,16 +76,16 @@ abbrev AnsweredTokens : Outcome Filled → Type 0
 AnsweredTokens = Answered token_words L.answer_given
 
 room_answered : (t : Bool) (n : ℕ) (x : T.Reading) → AnsweredTokens (pick t (refuses (no_room n)) (reads (L.laid_out x)))
-room_answered true n x = record { answer = LexerAnswer.NoRoom n; is = refl; filling = tt }
+room_answered true n x = record { answer = Err (TokensError.NoRoom n); is = refl; filling = tt }
 room_answered false n x =
     record {
-      answer = LexerAnswer.Read (length x.tokens) _ x.stop.place x.stop.line x.stop.column;
+      answer = Ok (record { count = length x.tokens; text = _; place = x.stop.place; line = x.stop.line; column = x.stop.column });
       is = refl;
       filling = record { count = _; more = _; values = refl; words = words_length 0 x.tokens };
     }
 
 gated : Gated token_words L.answer_given
-gated = record { long = (LexerAnswer.TooLong, refl); high = λ p. (LexerAnswer.NotAscii p, refl); short = (LexerAnswer.Short, refl) }
+gated = record { long = (Err (TokensError.Gate GateError.TooLong), refl); high = λ p. (Err (TokensError.Gate (GateError.NotAscii p)), refl); short = (Err (TokensError.Gate GateError.Short), refl) }
 
 tokens_answered : (i : Lent) → AnsweredTokens (L.tokens_outcome i.input (length i.text) (length i.records))
 unfolding L.tokens_outcome
@@ -88,7 +94,7 @@ tokens_answered i =
     past_gate_lem token_words L.answer_given gated (gate_of i.input (length i.text) (length i.input)) _
     (room_answered (ltb (room_for token_words (length i.records)) count) count (T.reading i.input))
 
-pub tokens_fixed : Fixed Lent (Left Lexer.Answer) tokens_promise
+pub tokens_fixed : Fixed Lent (Left (Result TokensRead TokensError)) tokens_promise
 tokens_fixed = record {
   total = λ i.
       let o = L.tokens_outcome i.input (length i.text) (length i.records) in
@@ -97,5 +103,5 @@ tokens_fixed = record {
   once = λ i o p x y. left_same o p (LexerLaws.tokens_once x y);
 }
 
-pub tokens_row : (i : Lent) (o : Left Lexer.Answer) → tokens_promise i o → Row token_words (L.answer_given o.answer) i.text o.text i.records o.records
+pub tokens_row : (i : Lent) (o : Left (Result TokensRead TokensError)) → tokens_promise i o → Row token_words (L.answer_given o.answer) i.text o.text i.records o.records
 tokens_row i o x = row_of token_words (L.tokens_outcome i.input (length i.text) (length i.records)) (tokens_answered i).filling x.answer x.texts x.words

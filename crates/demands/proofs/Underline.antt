@@ -1,6 +1,7 @@
 -- The theorem of M-104: what is underlined is what was read.
 -- The idea: a site carries every part of an argument's text to bytes of the package that read as that part; so it does with the pieces
 -- of the text, and with what is read from them. A directive's arguments are tokens of its package.
+use Rattle.std.specs.Prelude.{Result, Ok, Err}
 use mathlib.Core.Path.{◌≡◌, ◌∙◌, refl, sym, ap, subst}
 use mathlib.Core.Bool.{Bool, true, false}
 use mathlib.Core.List.{List, [], ◌∷◌, map, append-nil}
@@ -143,9 +144,9 @@ module _ (s : List ℕ) where
 
   -- ---- one directive
 
-  abbrev BodyFound : Whole.Result Whole.Body → Type 0
-  BodyFound (Whole.bad f) = FaultIn s f
-  BodyFound (Whole.good x) = BodyIn s x
+  abbrev BodyFound : Result Whole.Body Whole.Fault → Type 0
+  BodyFound (Err f) = FaultIn s f
+  BodyFound (Ok x) = BodyIn s x
 
   -- a list of actions that is told of a directive with these arguments
   abbrev ActionsFound : Shape → List Token → Outcome (List (Sourced Action)) → Type 0
@@ -236,25 +237,25 @@ module _ (s : List ℕ) where
 
   -- ---- all directives
 
-  abbrev OneFound : Whole.Result Whole.Directive → Type 0
-  OneFound (Whole.bad f) = FaultIn s f
-  OneFound (Whole.good d) = DirectiveIn s d
+  abbrev OneFound : Result Whole.Directive Whole.Fault → Type 0
+  OneFound (Err f) = FaultIn s f
+  OneFound (Ok d) = DirectiveIn s d
 
-  placed_there : (l first past : ℕ) (x : Whole.Result Whole.Body) → EndsIn s (part first past) → BodyFound x → OneFound (placed l first past x)
-  placed_there l first past (Whole.bad f) e w = w
-  placed_there l first past (Whole.good x) e w = (e, w)
+  placed_there : (l first past : ℕ) (x : Result Whole.Body Whole.Fault) → EndsIn s (part first past) → BodyFound x → OneFound (placed l first past x)
+  placed_there l first past (Err f) e w = w
+  placed_there l first past (Ok x) e w = (e, w)
 
   last_in : (p : ℕ) (args : List Token) → p ≤ length s → All (Argument s) args → last_past p args ≤ length s
   unfolding last_past
   last_in p [] h nil = h
   last_in p (t ∷ ts) h (cons a w) = last_in t.past ts a.inside w
 
-  before_there : (x : Whole.Result Whole.Directive) (o : Whole.Result (List Whole.Directive)) → OneFound x → PackageIn s o → PackageIn s (before x o)
-  before_there (Whole.bad f) o h w = h
-  before_there (Whole.good d) (Whole.bad f) h w = w
-  before_there (Whole.good d) (Whole.good ds) h w = (h, w)
+  before_there : (x : Result Whole.Directive Whole.Fault) (o : Result (List Whole.Directive) Whole.Fault) → OneFound x → PackageIn s o → PackageIn s (before x o)
+  before_there (Err f) o h w = h
+  before_there (Ok d) (Err f) h w = w
+  before_there (Ok d) (Ok ds) h w = (h, w)
 
-  ending_there : (o : Whole.Result (List Whole.Directive)) → PackageIn s o → (xs : List Item) → Taken xs → PackageIn s (ending s o xs)
+  ending_there : (o : Result (List Whole.Directive) Whole.Fault) → PackageIn s o → (xs : List Item) → Taken xs → PackageIn s (ending s o xs)
   unfolding over item_read directive_of
   ending_there o w [] h = w
   ending_there o w (joined t args ∷ xs) h =
@@ -269,7 +270,7 @@ module _ (s : List ℕ) where
   unfolding end_of
   end_there n c = go (ltb c.place n)
     where
-      go : (u : Bool) → PackageIn s (pick u (Whole.bad (Whole.stopped c.line.0)) (Whole.good []))
+      go : (u : Bool) → PackageIn s (pick u (Err (Whole.stopped c.line.0)) (Ok []))
       go true = tt
       go false = tt
 

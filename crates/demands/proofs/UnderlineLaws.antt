@@ -1,5 +1,6 @@
 -- What is underlined for the pieces of a list is what is underlined for all that is read from them.
 -- The idea: a site that carries every part of a text to bytes that read as that part carries every piece, and each record has its piece's place.
+use Rattle.std.specs.Prelude.{Option, Some, None}
 use mathlib.Core.Path.{◌≡◌, ◌∙◌, refl, sym, ap}
 use mathlib.Core.Bool.{Bool, true, false}
 use mathlib.Core.List.{List, [], ◌∷◌, ◌++◌}
@@ -12,8 +13,6 @@ use Rattle.ascii.specs.Choice.{pick}
 use Rattle.lent.specs.Sources.{Part, part, Sourced, sourced, sited_by, sited_all}
 use Rattle.lent.specs.Table.{Outcome, refuses, reads, sited_outcome}
 use Rattle.names.specs.Variables.{variable_code}
-use Rattle.names.specs.declared.Lookup.{Lookup}
-use Rattle.names.specs.declared.Lookup.TheVariants.{Code, Unknown}
 use Rattle.places.specs.declared.Rule.{Rule}
 use Rattle.places.specs.Sites.{text_of, read_alone, site_of}
 use Rattle.places.proofs.SiteLaws.{site_bounds, site_some}
@@ -158,11 +157,11 @@ module _ {read : List ℕ → List ℕ} {s : List ℕ} {around : Part} {g : Part
     exclusion_there e f (Of.targets vs es) w = (w.0, ((t, (u, f (g x))), w.1))
     exclusion_there e f (Of.refused i m z) w = w
 
-    known_there : (l : Lookup) (e : List ℕ)
+    known_there : (l : Option ℕ) (e : List ℕ)
         → ((y : Part) → alone read s around n y t ≡ Of.if_known y l (Of.front_of (Of.at_colon e)) (Of.with_exclusion y e (Of.targets [] [])))
         → (ts : Of.Targets) → Met ts → Met (Of.if_known x l (Of.front_of (Of.at_colon e)) (Of.with_exclusion x e ts))
-    known_there (Code k) e f ts w = exclusion_there e f ts w
-    known_there Unknown e f ts w = (t, (u, f (g x)))
+    known_there (Some k) e f ts w = exclusion_there e f ts w
+    known_there None e f ts w = (t, (u, f (g x)))
 
   marked_there : (m : Exclusions) → m ≡ n → (x : Part) (b : ℕ) (r : List ℕ) → eqb b 33 ≡ true → Underlined read s around (g x) (b ∷ r)
       → (ts : Of.Targets) → Met ts → Met (excluding_of m x r ts)

@@ -1,4 +1,7 @@
 -- The promises of read_targets, parse_variables and parse_update_targets are total, have no second answer, and keep to document 01's table.
+use Rattle.variables.specs.declared.VariablesError.TheVariants as VariablesError
+use Rattle.lent.specs.declared.gating.GateError.TheVariants as GateError
+use Rattle.std.specs.Prelude.{Result, Ok, Err}
 use mathlib.Core.Path.{◌≡◌, refl}
 use mathlib.Core.Bool.{Bool, true, false}
 use mathlib.Core.List.{List, [], ◌∷◌}
@@ -17,8 +20,10 @@ use Rattle.lent.specs.Layout.{words_of}
 use Rattle.lent.proofs.LayoutLaws.{words_length}
 use Rattle.variables.specs.Layout.{variable_whole, exclusion_whole, variable_text, exclusion_text, selection_texts, words_from}
 use Rattle.variables.specs.Promises as Vars
-use Rattle.variables.specs.declared.Answer.{Answer}
-use Rattle.variables.specs.declared.Reached.{Reached}
+use Rattle.variables.specs.declared.Read.{Read as VariablesRead}
+use Rattle.variables.specs.declared.VariablesError.{VariablesError}
+use Rattle.variables.specs.declared.Reached.{Reached as VariablesReached}
+use Rattle.variables.specs.declared.TargetsError.{TargetsError}
 use Rattle.variables.proofs.GivenLaws.{meets_once}
 use Rattle.ascii.proofs.OneAnswer.{one_answer}
 use Rattle.demands.specs.Fixed.{Fixed}
@@ -48,28 +53,28 @@ room_told : (m : ℕ) (vs : List (Sourced Variable)) (es : List (Sourced (List �
 room_told m vs es = go (ltb (room_for variable_words m) (length vs + length es))
   where
     go : (b : Bool) → AnsweredVariables (pick b (refuses (no_room (length vs + length es))) (reads (Vars.laid_out vs es)))
-    go true = record { answer = Answer.NoRoom (length vs + length es); is = refl; filling = tt }
+    go true = record { answer = Err (VariablesError.NoRoom (length vs + length es)); is = refl; filling = tt }
     go false = record {
-      answer = Answer.Read (length vs + length es) _;
+      answer = Ok (record { count = length vs + length es; text = _ });
       is = refl;
       filling = record { count = _; more = _; values = refl; words = words_long vs es };
     }
 
 update_told : (m : ℕ) (t : Targets) → AnsweredVariables (Vars.updated m t)
 update_told m (targets vs es) = room_told m vs es
-update_told m (refused i name x) = record { answer = Answer.Unknown i (length name) (part_word x); is = refl; filling = tt }
+update_told m (refused i name x) = record { answer = Err (VariablesError.Unknown i (length name) (part_word x)); is = refl; filling = tt }
 
 hung_told : (m : ℕ) (t : Targets) → AnsweredVariables (Vars.hung m t)
 hung_told m (targets [] es) = room_told m [] []
 hung_told m (targets (v ∷ vs) es) = room_told m (v ∷ vs) es
-hung_told m (refused i name x) = record { answer = Answer.Unknown i (length name) (part_word x); is = refl; filling = tt }
+hung_told m (refused i name x) = record { answer = Err (VariablesError.Unknown i (length name) (part_word x)); is = refl; filling = tt }
 
 gated : Gated variable_words Vars.answer_given
-gated = record { long = (Answer.TooLong, refl); high = λ p. (Answer.NotAscii p, refl); short = (Answer.Short, refl) }
+gated = record { long = (Err (VariablesError.Gate GateError.TooLong), refl); high = λ p. (Err (VariablesError.Gate (GateError.NotAscii p)), refl); short = (Err (VariablesError.Gate GateError.Short), refl) }
 
 -- ---- read_targets
 
-pub read_targets_fixed : Fixed From (Left Reached) read_targets_promise
+pub read_targets_fixed : Fixed From (Left (Result VariablesReached TargetsError)) read_targets_promise
 read_targets_fixed = record {
   total = λ i. (record { answer = _; text = _; records = _ }, record { answer = refl; texts = refl; words = refl });
   once = λ i o p x y. left_same o p (one_answer x.answer y.answer, one_answer x.texts y.texts, one_answer x.words y.words);
@@ -77,17 +82,17 @@ read_targets_fixed = record {
 
 -- either parser, by what a call comes to
 module _ (o : Lent → Outcome Filled) (a : (i : Lent) → AnsweredVariables (o i)) where
-  abbrev Met : Lent → Left Answer → Type 0
+  abbrev Met : Lent → Left (Result VariablesRead VariablesError) → Type 0
   Met i l = Vars.Meets (o i) i.text l.text i.records l.records l.answer
 
-  met_fixed : Fixed Lent (Left Answer) Met
+  met_fixed : Fixed Lent (Left (Result VariablesRead VariablesError)) Met
   met_fixed = record {
     total = λ i.
         (record { answer = (a i).answer; text = text_by (o i) i.text; records = records_by (o i) i.records }, record { answer = (a i).is; texts = refl; words = refl });
     once = λ i l k x y. left_same l k (meets_once x y);
   }
 
-  met_row : (i : Lent) (l : Left Answer) → Met i l → Row variable_words (Vars.answer_given l.answer) i.text l.text i.records l.records
+  met_row : (i : Lent) (l : Left (Result VariablesRead VariablesError)) → Met i l → Row variable_words (Vars.answer_given l.answer) i.text l.text i.records l.records
   met_row i l x = row_of variable_words (o i) (a i).filling x.answer x.texts x.words
 
 -- what is told past the gate
@@ -103,10 +108,10 @@ list_answered : (i : Lent) → AnsweredVariables (list_outcome i)
 unfolding Vars.variables_outcome
 list_answered i = past_input i (hung_told (length i.records) (read_all as_written (pieces i.input)))
 
-pub parse_variables_fixed : Fixed Lent (Left Answer) parse_variables_promise
+pub parse_variables_fixed : Fixed Lent (Left (Result VariablesRead VariablesError)) parse_variables_promise
 parse_variables_fixed = met_fixed list_outcome list_answered
 
-pub parse_variables_row : (i : Lent) (o : Left Answer) → parse_variables_promise i o → Row variable_words (Vars.answer_given o.answer) i.text o.text i.records o.records
+pub parse_variables_row : (i : Lent) (o : Left (Result VariablesRead VariablesError)) → parse_variables_promise i o → Row variable_words (Vars.answer_given o.answer) i.text o.text i.records o.records
 parse_variables_row = met_row list_outcome list_answered
 
 -- ---- parse_update_targets
@@ -118,9 +123,9 @@ updates_answered : (i : Lent) → AnsweredVariables (updates_outcome i)
 unfolding Vars.update_outcome
 updates_answered i = past_input i (update_told (length i.records) (read_all looked_up (pieces i.input)))
 
-pub parse_update_targets_fixed : Fixed Lent (Left Answer) parse_update_targets_promise
+pub parse_update_targets_fixed : Fixed Lent (Left (Result VariablesRead VariablesError)) parse_update_targets_promise
 parse_update_targets_fixed = met_fixed updates_outcome updates_answered
 
-pub parse_update_targets_row : (i : Lent) (o : Left Answer) → parse_update_targets_promise i o
+pub parse_update_targets_row : (i : Lent) (o : Left (Result VariablesRead VariablesError)) → parse_update_targets_promise i o
     → Row variable_words (Vars.answer_given o.answer) i.text o.text i.records o.records
 parse_update_targets_row = met_row updates_outcome updates_answered

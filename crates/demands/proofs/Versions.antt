@@ -1,5 +1,8 @@
 -- The demand of M-108, packages before and after 2.7.
 -- The idea: what a package comes to for a version is what it comes to for 2.6, or that an id is missing; and an outcome fixes a whole call.
+use Rattle.lent.specs.declared.gating.GateError.TheVariants.{TooLong, Short, NotAscii}
+use Rattle.lent.specs.declared.gating.GateError.{GateError}
+use Rattle.std.specs.Prelude.{Result, Ok, Err}
 use mathlib.Core.Path.{◌≡◌, refl, sym, ap, ◌∙◌}
 use mathlib.Core.Logic.{◌⊎◌, inl, inr, ⊎_elim}
 use mathlib.Core.List.{List}
@@ -8,16 +11,15 @@ use native.Mathlib.Omega.{arith}
 use lib.ListN.{length}
 use Rattle.lent.specs.Table.{Given}
 use Rattle.lent.specs.Gates.{gate_of}
-use Rattle.lent.specs.declared.gating.Gate.{Gate}
-use Rattle.lent.specs.declared.gating.Gate.TheVariants.{Open, TooLong, NotAscii, Short}
-use Rattle.directives.specs.Directives.{Fault, wrong_count, untaken, stopped, id_missing, within, bad, directives}
+use Rattle.directives.specs.Directives.{Fault, wrong_count, untaken, stopped, id_missing, within, directives}
 use Rattle.directives.specs.declared.Version.{Version}
 use Rattle.directives.specs.declared.Version.TheVariants.{TwoSix, TwoSeven}
 use Rattle.directives.specs.Versions.{directives_for}
 use Rattle.directives.specs.Table.{Outcome, faulty, past_gate, given_by, text_by, scratch_by, records_by}
 use Rattle.directives.specs.Promises.{Lent, rooms_of, roomed, directives_outcome, outcome_on, answer_given}
 use Rattle.directives.specs.Calls.{Faulty, in_item, missing, at_end, items_of}
-use Rattle.directives.specs.declared.Answer.{Answer}
+use Rattle.directives.specs.declared.Read.{Read as DirectivesRead}
+use Rattle.directives.specs.declared.DirectivesError.{DirectivesError}
 use Rattle.directives.proofs.OrderLaws.{end_bad}
 use Rattle.directives.proofs.ItemLaws.{of_item}
 use Rattle.directives.proofs.VersionLaws.{for_holds, for_good}
@@ -36,8 +38,8 @@ older : (s : List ℕ) → directives_for TwoSix s ≡ directives s
 unfolding directives_for
 older s = refl
 
-unless_missing : (v : Version) (s : List ℕ) → ((l : ℕ) × (directives_for v s ≡ bad (id_missing l))) ⊎ (directives_for v s ≡ directives_for TwoSix s)
-unless_missing v s = for_holds (λ r. ((l : ℕ) × (r ≡ bad (id_missing l))) ⊎ (r ≡ directives_for TwoSix s)) (λ l. inl (l, refl)) v s (inr (sym (older s)))
+unless_missing : (v : Version) (s : List ℕ) → ((l : ℕ) × (directives_for v s ≡ Err (id_missing l))) ⊎ (directives_for v s ≡ directives_for TwoSix s)
+unless_missing v s = for_holds (λ r. ((l : ℕ) × (r ≡ Err (id_missing l))) ⊎ (r ≡ directives_for TwoSix s)) (λ l. inl (l, refl)) v s (inr (sym (older s)))
 
 -- a missing id is no item's own fault, nor the end's
 abbrev line_in_lem : Fault → ℕ
@@ -78,21 +80,21 @@ outcome_unless : (v : Version) (s : List ℕ) (m : Lent) → ((l : ℕ) × (outc
 unfolding directives_outcome
 outcome_unless v s m = go (gate_of s (min (length m.text) (length m.scratch)) (length s)) (unless_missing v s)
   where
-    go : (g : Gate) → ((l : ℕ) × (directives_for v s ≡ bad (id_missing l))) ⊎ (directives_for v s ≡ directives_for TwoSix s)
+    go : (g : Result Unit GateError) → ((l : ℕ) × (directives_for v s ≡ Err (id_missing l))) ⊎ (directives_for v s ≡ directives_for TwoSix s)
         → ((l : ℕ) × (past_gate g (roomed (rooms_of m) (directives_for v s)) ≡ faulty (id_missing l)))
         ⊎ (past_gate g (roomed (rooms_of m) (directives_for v s)) ≡ past_gate g (roomed (rooms_of m) (directives_for TwoSix s)))
-    go Open (inl h) = inl (h.0, ap (roomed (rooms_of m)) h.1)
-    go Open (inr e) = inr (ap (roomed (rooms_of m)) e)
-    go TooLong h = inr refl
-    go (NotAscii p) h = inr refl
-    go Short h = inr refl
+    go (Ok tt) (inl h) = inl (h.0, ap (roomed (rooms_of m)) h.1)
+    go (Ok tt) (inr e) = inr (ap (roomed (rooms_of m)) e)
+    go (Err TooLong) h = inr refl
+    go (Err (NotAscii p)) h = inr refl
+    go (Err Short) h = inr refl
 
 -- a number that is not 18 is that of 2.6's outcome
 not_missing : (s : List ℕ) (m : Lent) (n : ℕ) → n ≡ (given_by (outcome_on TwoSeven s m)).number → (n ≡ 18 → ⊥) → outcome_on TwoSeven s m ≡ outcome_on TwoSix s m
 not_missing s m n e h = ⊎_elim (λ k. absurd (h (e ∙ ap (λ (o : Outcome). (given_by o).number) k.1))) (λ q. q) (outcome_unless TwoSeven s m)
 
 module _ (s : List ℕ) (m : Lent) where
-  same : (old new : Answer × Lent) → directives_promise (package_of s TwoSix m) old → directives_promise (package_of s TwoSeven m) new → ((answer_given new.0).number ≡ 18 → ⊥) → old ≡ new
+  same : (old new : (Result DirectivesRead DirectivesError) × Lent) → directives_promise (package_of s TwoSix m) old → directives_promise (package_of s TwoSeven m) new → ((answer_given new.0).number ≡ 18 → ⊥) → old ≡ new
   same old new x y h =
       let e = not_missing s m (answer_given new.0).number (ap (λ (g : Given). g.number) y.answer) h in
       directives_fixed.once (package_of s TwoSix m) old new x

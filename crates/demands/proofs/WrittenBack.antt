@@ -1,5 +1,6 @@
 -- The demand of M-109, action lists written back.
 -- The idea: a call is decided by the verdict over its records, and that is fine exactly for a list whose spelling reads back to it.
+use Rattle.std.specs.Prelude.{Result}
 use mathlib.Core.Path.{◌≡◌, ◌∙◌, refl, sym, ap, subst}
 use mathlib.Core.Bool.{Bool, true, false}
 use mathlib.Core.List.{List, [], ◌∷◌}
@@ -18,7 +19,7 @@ use Rattle.actions.specs.Lists.{actions_of}
 use Rattle.actions.specs.Promises.{ParseActions}
 use Rattle.listing.specs.Promises.{writes, no_room, no_token, given_by, buffer_by}
 use Rattle.listing.specs.Promises as Listing
-use Rattle.listing.specs.declared.Answer.{Answer as Listed}
+use Rattle.listing.specs.declared.ListingError.{ListingError}
 use Rattle.spelled.specs.Spelling.{spell_all}
 use Rattle.spelled.specs.Back.{things}
 use Rattle.spelled.specs.Records.{records_of, shown}
@@ -70,7 +71,7 @@ module _ (i : ActionRecords) where
       go (fine m) e = fit (fine_writable i.words i.texts m e).0 m e (ltb room (length spelling)) refl
       go (fails k) e = failed k (λ w. fine_not (sym e ∙ (writable_fine i.words i.texts w).1)) (rw e)
 
-  module _ (o : Wrote Listed) (x : write_actions_promise i o) where
+  module _ (o : Wrote (Result ℕ ListingError)) (x : write_actions_promise i o) where
     abbrev Outcome : Type 0
     Outcome = Listing.Outcome
 

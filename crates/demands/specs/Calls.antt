@@ -1,37 +1,47 @@
 -- What the readers are lent, and what they leave.
-use Rattle.std.specs.Prelude.{ℕ, Bool, List}
+use Rattle.std.specs.Prelude.{ℕ, Bool, List, Result, Option}
 use Rattle.ascii.specs.Handed.{Standing}
 use Rattle.lent.specs.Endings.{Finished}
 use Rattle.lexer.specs.declared.Cursor.{Cursor}
 use Rattle.lexer.specs.Promises.{StepIn, NextToken, Tokens, EndReading}
-use Rattle.lexer.specs.declared.stepping.Step.{Step}
+use Rattle.lexer.specs.declared.writing.Read.{Read as TokensRead}
+use Rattle.lexer.specs.declared.writing.TokensError.{TokensError}
+use Rattle.lexer.specs.declared.stepping.Found.{Found}
+use Rattle.lexer.specs.declared.stepping.StepError.{StepError}
+use Rattle.actions.specs.declared.Read.{Read as ActionsRead}
+use Rattle.actions.specs.declared.ActionsError.{ActionsError}
+use Rattle.actions.specs.declared.Reached.{Reached as ActionsReached}
+use Rattle.actions.specs.declared.PieceError.{PieceError}
+use Rattle.variables.specs.declared.Read.{Read as VariablesRead}
+use Rattle.variables.specs.declared.VariablesError.{VariablesError}
+use Rattle.variables.specs.declared.Reached.{Reached as VariablesReached}
+use Rattle.variables.specs.declared.TargetsError.{TargetsError}
+use Rattle.operators.specs.declared.Operator.{Operator}
+use Rattle.operators.specs.declared.UnknownOperator.{UnknownOperator}
+use Rattle.operators.specs.declared.OperatorError.{OperatorError}
+use Rattle.directives.specs.declared.Read.{Read as DirectivesRead}
+use Rattle.directives.specs.declared.DirectivesError.{DirectivesError}
+use Rattle.listing.specs.declared.ListingError.{ListingError}
+use Rattle.listing.specs.declared.Stop.{Stop}
 use Rattle.lexer.specs.declared.writing.Tally.{Tally}
-use Rattle.lexer.specs.declared.writing.Answer as Lexer
 use Rattle.actions.specs.Promises.{ParseActions, SetvarAlone}
 use Rattle.actions.specs.Cores.{Normalise, ReadActions}
-use Rattle.actions.specs.declared.Answer as Actions
-use Rattle.actions.specs.declared.Reached as Acted
-use Rattle.actions.specs.declared.normalising.Normal.{Normal}
 use Rattle.variables.specs.Promises.{ParseVariables, ParseUpdateTargets}
 use Rattle.variables.specs.Cores.{ReadTargets}
-use Rattle.variables.specs.declared.Answer as Variables
-use Rattle.variables.specs.declared.Reached.{Reached}
 use Rattle.variables.specs.declared.singles.Exclusions.{Exclusions}
 use Rattle.places.specs.declared.Rule.{Rule}
 use Rattle.places.specs.Moves.{SiteWord, Resite}
 use Rattle.operators.specs.Promises.{OperatorIn, ParseOperator, OperatorArgument}
-use Rattle.operators.specs.declared.Answer as Operators
 use Rattle.directives.specs.declared.Version.{Version}
 use Rattle.directives.specs.Promises as Whole
-use Rattle.directives.specs.declared.Answer as Directives
 use Rattle.rules.specs.declared.selecting.RuleIdSelector.{RuleIdSelector}
 use Rattle.index.specs.Promises.{Adds, Removes}
 use Rattle.index.specs.declared.adding.Added.{Added}
+use Rattle.index.specs.declared.adding.AddError.{AddError}
 use Rattle.index.specs.declared.removing.Removed.{Removed}
-use Rattle.listing.specs.declared.Stop.{Stop}
+use Rattle.index.specs.declared.removing.Broken.{Broken}
 use Rattle.listing.specs.Promises.{WriteListing, WriteRefusal, WriteRefusalLine, ListText}
 use Rattle.listing.specs.Steps as Listings
-use Rattle.listing.specs.declared.Answer as Listing
 use Rattle.spelled.specs.Promises.{WriteActions}
 
 -- ---- what goes in, and what comes out
@@ -111,13 +121,13 @@ pub record Place : Type 0 where
 abbrev pub place : List ℕ → Cursor → List ℕ → Place
 place s c b = record { input = s; from = c; buffer = b }
 
-abbrev pub step_in_promise : Place → Wrote Step → Type 0
+abbrev pub step_in_promise : Place → Wrote (Result Found StepError) → Type 0
 step_in_promise i o = StepIn i.input i.from i.buffer o.buffer o.answer
 
-abbrev pub next_token_promise : Place → Wrote Step → Type 0
+abbrev pub next_token_promise : Place → Wrote (Result Found StepError) → Type 0
 next_token_promise i o = NextToken i.input i.from i.buffer o.buffer o.answer
 
-abbrev pub tokens_promise : Lent → Left Lexer.Answer → Type 0
+abbrev pub tokens_promise : Lent → Left (Result TokensRead TokensError) → Type 0
 tokens_promise i o = Tokens i.input i.text o.text i.records o.records o.answer
 
 -- end_reading: both buffers of a lexer, and what it read.
@@ -126,30 +136,30 @@ pub record Ending : Type 0 where
   pub text : List ℕ
   pub records : List ℕ
 
-abbrev pub end_reading_promise : Ending → Left Lexer.Answer → Type 0
+abbrev pub end_reading_promise : Ending → Left (Result TokensRead TokensError) → Type 0
 end_reading_promise i o = EndReading i.read i.text o.text i.records o.records o.answer
 
 -- parse_actions has a scratch buffer besides.
-abbrev pub parse_actions_promise : Lent × List ℕ → Left Actions.Answer × List ℕ → Type 0
+abbrev pub parse_actions_promise : Lent × List ℕ → Left (Result ActionsRead ActionsError) × List ℕ → Type 0
 parse_actions_promise i o =
     ParseActions i.0.input i.0.text o.0.text i.1 o.1 i.0.records o.0.records o.0.answer
 
 -- normalise: a text, and the buffer that takes it normalised.
-abbrev pub normalise_promise : List ℕ × List ℕ → Wrote Normal → Type 0
+abbrev pub normalise_promise : List ℕ × List ℕ → Wrote (Option ℕ) → Type 0
 normalise_promise i o = Normalise i.0 i.1 o.buffer o.answer
 
 -- read_actions: a normalised text, and the offset and the count of records that it starts at.
-abbrev pub read_actions_promise : Lent × (ℕ × ℕ) → Left Acted.Reached → Type 0
+abbrev pub read_actions_promise : Lent × (ℕ × ℕ) → Left (Result ActionsReached PieceError) → Type 0
 read_actions_promise i o =
     ReadActions i.0.input i.1.0 i.1.1 i.0.text o.text i.0.records o.records o.answer
 
-abbrev pub parse_setvar_promise : Lent → Left Actions.Answer → Type 0
+abbrev pub parse_setvar_promise : Lent → Left (Result ActionsRead ActionsError) → Type 0
 parse_setvar_promise i o = SetvarAlone i.input i.text o.text i.records o.records o.answer
 
-abbrev pub parse_variables_promise : Lent → Left Variables.Answer → Type 0
+abbrev pub parse_variables_promise : Lent → Left (Result VariablesRead VariablesError) → Type 0
 parse_variables_promise i o = ParseVariables i.input i.text o.text i.records o.records o.answer
 
-abbrev pub parse_update_targets_promise : Lent → Left Variables.Answer → Type 0
+abbrev pub parse_update_targets_promise : Lent → Left (Result VariablesRead VariablesError) → Type 0
 parse_update_targets_promise i o = ParseUpdateTargets i.input i.text o.text i.records o.records o.answer
 
 -- read_targets besides has what it is told of exclusions, and where it starts.
@@ -159,15 +169,15 @@ pub record From : Type 0 where
   pub offset : ℕ
   pub place : ℕ
 
-abbrev pub read_targets_promise : From → Left Reached → Type 0
+abbrev pub read_targets_promise : From → Left (Result VariablesReached TargetsError) → Type 0
 read_targets_promise i o =
     ReadTargets i.exclusions i.lent.input i.offset i.place i.lent.text o.text i.lent.records o.records o.answer
 
 -- Nothing is lent but the input.
-abbrev pub operator_in_promise : List ℕ → Operators.Answer → Type 0
+abbrev pub operator_in_promise : List ℕ → Result Operator UnknownOperator → Type 0
 operator_in_promise = OperatorIn
 
-abbrev pub parse_operator_promise : List ℕ → Operators.Answer → Type 0
+abbrev pub parse_operator_promise : List ℕ → Result Operator OperatorError → Type 0
 parse_operator_promise = ParseOperator
 
 -- the input and the argument, each where it stands in memory
@@ -183,7 +193,7 @@ pub record Package : Type 0 where
 abbrev pub package_of : List ℕ → Version → Whole.Lent → Package
 package_of s v m = record { input = s; version = v; lent = m }
 
-abbrev pub directives_promise : Package → Directives.Answer × Whole.Lent → Type 0
+abbrev pub directives_promise : Package → (Result DirectivesRead DirectivesError) × Whole.Lent → Type 0
 directives_promise i o = Whole.Directives i.version i.input i.lent o.1 o.0
 
 -- ---- the index
@@ -194,7 +204,7 @@ pub record Adding : Type 0 where
   pub actions : List ℕ
   pub line : ℕ
 
-abbrev pub add_promise : Adding → Wrote Added → Type 0
+abbrev pub add_promise : Adding → Wrote (Result Added AddError) → Type 0
 add_promise i o = Adds i.actions i.line i.index o.buffer o.answer
 
 -- remove: the index's words, and what is removed.
@@ -202,7 +212,7 @@ pub record Removing : Type 0 where
   pub index : List ℕ
   pub selector : RuleIdSelector
 
-abbrev pub remove_promise : Removing → Wrote Removed → Type 0
+abbrev pub remove_promise : Removing → Wrote (Result Removed Broken) → Type 0
 remove_promise i o = Removes i.selector i.index o.buffer o.answer
 
 -- ---- the listings
@@ -211,10 +221,10 @@ remove_promise i o = Removes i.selector i.index o.buffer o.answer
 pub record Records : Type 0 where
   pub words : List ℕ
   pub texts : List ℕ
-  pub stop : Stop
+  pub stop : Option Stop
   pub buffer : List ℕ
 
-abbrev pub write_listing_promise : Records → Wrote Listing.Answer → Type 0
+abbrev pub write_listing_promise : Records → Wrote (Result ℕ ListingError) → Type 0
 write_listing_promise i o = WriteListing i.words i.texts i.stop i.buffer o.buffer o.answer
 
 -- A refusal's number and place, and the buffer.
@@ -223,18 +233,18 @@ pub record Refusal : Type 0 where
   pub place : ℕ
   pub buffer : List ℕ
 
-abbrev pub write_refusal_promise : Refusal → Wrote Listing.Answer → Type 0
+abbrev pub write_refusal_promise : Refusal → Wrote (Result ℕ ListingError) → Type 0
 write_refusal_promise i o = WriteRefusal i.number i.place i.buffer o.buffer o.answer
 
-abbrev pub write_refusal_line_promise : Refusal → Wrote Listing.Answer → Type 0
+abbrev pub write_refusal_line_promise : Refusal → Wrote (Result ℕ ListingError) → Type 0
 write_refusal_line_promise i o = WriteRefusalLine i.number i.place i.buffer o.buffer o.answer
 
 -- The reader's buffers, and one for the line.
-abbrev pub list_text_promise : Lent × List ℕ → Left Listing.Answer × List ℕ → Type 0
+abbrev pub list_text_promise : Lent × List ℕ → Left (Result ℕ ListingError) × List ℕ → Type 0
 list_text_promise i o = ListText i.0.input i.0.text o.0.text i.0.records o.0.records i.1 o.1 o.0.answer
 
 -- finish: the buffer, and the place past what was put.
-abbrev pub finish_listing_promise : List ℕ × ℕ → Wrote Listing.Answer → Type 0
+abbrev pub finish_listing_promise : List ℕ × ℕ → Wrote (Result ℕ ListingError) → Type 0
 finish_listing_promise i o = Listings.Finished i.0 o.buffer i.1 o.answer
 
 -- digits_into: a number, and the buffer that takes its last digits, as many as there are or fit, at its end.
@@ -252,5 +262,5 @@ pub record ActionRecords : Type 0 where
 abbrev pub action_records : List ℕ → List ℕ → List ℕ → ActionRecords
 action_records w t b = record { words = w; texts = t; buffer = b }
 
-abbrev pub write_actions_promise : ActionRecords → Wrote Listing.Answer → Type 0
+abbrev pub write_actions_promise : ActionRecords → Wrote (Result ℕ ListingError) → Type 0
 write_actions_promise i o = WriteActions i.words i.texts i.buffer o.buffer o.answer

@@ -2,7 +2,7 @@
 -- It refuses by the numbers in document 01 and leaves the buffers as that table states.
 -- Said here of every public function, of its own contract and its own code (`Contracts`): its `requires` asks nothing, its `ensures` is
 -- the promise that stands here, its code meets it, and so ends; whatever goes in, something can come out, and only one thing.
-use Rattle.std.specs.Prelude.{◌≡◌, Bool, false, List, ℕ, length, drop, get_or}
+use Rattle.std.specs.Prelude.{◌≡◌, Bool, false, List, ℕ, length, drop, get_or, Result, Option}
 use Rattle.ascii.specs.Classes.{white, operator_name_end, digit}
 use Rattle.ascii.specs.Fold.{lower, upper, same, same_lowered}
 use Rattle.ascii.specs.Handed.{Standing, standing}
@@ -22,9 +22,27 @@ use Rattle.names.specs.Severities.{severity_code}
 use Rattle.lexer.specs.Cursors.{fresh}
 use Rattle.lexer.specs.Tokens.{directive}
 use Rattle.lexer.specs.Promises as Lexer
-use Rattle.lexer.specs.declared.stepping.Step.{Step}
+use Rattle.lexer.specs.declared.writing.Read.{Read as TokensRead}
+use Rattle.lexer.specs.declared.writing.TokensError.{TokensError}
+use Rattle.lexer.specs.declared.stepping.Found.{Found}
+use Rattle.lexer.specs.declared.stepping.StepError.{StepError}
+use Rattle.actions.specs.declared.Read.{Read as ActionsRead}
+use Rattle.actions.specs.declared.ActionsError.{ActionsError}
+use Rattle.actions.specs.declared.Reached.{Reached as ActionsReached}
+use Rattle.actions.specs.declared.PieceError.{PieceError}
+use Rattle.variables.specs.declared.Read.{Read as VariablesRead}
+use Rattle.variables.specs.declared.VariablesError.{VariablesError}
+use Rattle.variables.specs.declared.Reached.{Reached as VariablesReached}
+use Rattle.variables.specs.declared.TargetsError.{TargetsError}
+use Rattle.operators.specs.declared.Operator.{Operator}
+use Rattle.operators.specs.declared.UnknownOperator.{UnknownOperator}
+use Rattle.operators.specs.declared.OperatorError.{OperatorError}
+use Rattle.directives.specs.declared.Read.{Read as DirectivesRead}
+use Rattle.directives.specs.declared.DirectivesError.{DirectivesError}
+use Rattle.listing.specs.declared.ListingError.{ListingError}
+use Rattle.single_action.specs.declared.plans.Plan.{Plan}
+use Rattle.single_action.specs.declared.plans.PlanError.{PlanError}
 use Rattle.lexer.specs.declared.stepping.Lexeme.{Lexeme}
-use Rattle.lexer.specs.declared.writing.Answer as Tokens
 use Rattle.records.specs.Codes.{set_var_code, shape_of, known_by}
 use Rattle.records.specs.Marks.{marks_for}
 use Rattle.single_action.specs.Table.{row_at, rule_of}
@@ -33,26 +51,19 @@ use Rattle.single_action.specs.Setvar.{setvar, has_macro}
 use Rattle.single_action.specs.Actions.{single, setvar_action}
 use Rattle.single_action.specs.Plans.{plan_action, verdict_single, Planned, Judged}
 use Rattle.single_action.specs.declared.plans.Plan.{Plan}
-use Rattle.single_action.specs.declared.plans.Verdict.{Verdict}
 use Rattle.actions.specs.Promises as Actions
-use Rattle.actions.specs.declared.Answer as Listed
-use Rattle.actions.specs.declared.Reached as Acted
-use Rattle.actions.specs.declared.normalising.Normal.{Normal}
 use Rattle.directives.specs.Promises as Whole
-use Rattle.directives.specs.declared.Answer as Directives
 use Rattle.xml.specs.Xml.{xml_target}
 use Rattle.variables.specs.Promises as Variables
-use Rattle.variables.specs.declared.Answer as Targets
-use Rattle.variables.specs.declared.Reached.{Reached}
-use Rattle.operators.specs.declared.Answer as Operator
 use Rattle.rules.specs.Entries.{entries, first_of as first_number_of}
 use Rattle.rules.specs.Phases.{phase_of}
 use Rattle.rules.specs.Grades.{grades}
 use Rattle.rules.specs.Selectors.{matched}
 use Rattle.spans.specs.Conversion.{from_old, to_old}
 use Rattle.index.specs.declared.adding.Added.{Added}
+use Rattle.index.specs.declared.adding.AddError.{AddError}
 use Rattle.index.specs.declared.removing.Removed.{Removed}
-use Rattle.listing.specs.declared.Answer as Listing
+use Rattle.index.specs.declared.removing.Broken.{Broken}
 use Rattle.ascii.specs.contracts.ends_operator_name as EndsOperatorName
 use Rattle.ascii.proofs.ends_operator_name.Symbol as EndsOperatorNameCode
 use Rattle.ascii.specs.contracts.is_digit as IsDigit
@@ -93,14 +104,6 @@ use Rattle.lent.specs.contracts.refuse_piece as RefusePiece
 use Rattle.lent.proofs.refuse_piece.Symbol as RefusePieceCode
 use Rattle.lent.specs.contracts.starts as Starts
 use Rattle.lent.proofs.starts.Symbol as StartsCode
-use Rattle.lent.specs.contracts.clear_bytes as ClearBytes
-use Rattle.lent.proofs.clear_bytes.Symbol as ClearBytesCode
-use Rattle.lent.specs.contracts.clear_words as ClearWords
-use Rattle.lent.proofs.clear_words.Symbol as ClearWordsCode
-use Rattle.lent.specs.contracts.store_bytes as StoreBytes
-use Rattle.lent.proofs.store_bytes.Symbol as StoreBytesCode
-use Rattle.lent.specs.contracts.store_words as StoreWords
-use Rattle.lent.proofs.store_words.Symbol as StoreWordsCode
 use Rattle.lent.specs.contracts.admit as Admit
 use Rattle.lent.proofs.admit.Symbol as AdmitCode
 use Rattle.lent.specs.contracts.first_high as FirstHigh
@@ -113,8 +116,8 @@ use Rattle.lent.specs.contracts.span_length as SpanLength
 use Rattle.lent.proofs.span_length.Symbol as SpanLengthCode
 use Rattle.lent.specs.contracts.span_offset as SpanOffset
 use Rattle.lent.proofs.span_offset.Symbol as SpanOffsetCode
-use Rattle.lent.specs.contracts.flaw_number as FlawNumber
-use Rattle.lent.proofs.flaw_number.Symbol as FlawNumberCode
+use Rattle.lent.specs.contracts.refusing.U64FromFlaw.from as FlawNumber
+use Rattle.lent.proofs.refusing.U64FromFlaw.from.Symbol as FlawNumberCode
 use Rattle.names.specs.contracts.operator_code as OperatorCode
 use Rattle.names.proofs.operator_code.Symbol as OperatorCodeCode
 use Rattle.names.specs.contracts.requires_argument as RequiresArgument
@@ -137,8 +140,6 @@ use Rattle.lexer.specs.contracts.tokens as TokensOf
 use Rattle.lexer.proofs.tokens.Symbol as TokensOfCode
 use Rattle.lexer.specs.contracts.is_directive as IsDirective
 use Rattle.lexer.proofs.is_directive.Symbol as IsDirectiveCode
-use Rattle.lexer.specs.contracts.pass_gate as PassGate
-use Rattle.lexer.proofs.pass_gate.Symbol as PassGateCode
 use Rattle.lexer.specs.contracts.put_token as PutToken
 use Rattle.lexer.proofs.put_token.Symbol as PutTokenCode
 use Rattle.lexer.specs.contracts.end_reading as EndReading
@@ -169,12 +170,12 @@ use Rattle.single_action.specs.contracts.read_single as ReadSingle
 use Rattle.single_action.proofs.read_single.Symbol as ReadSingleCode
 use Rattle.single_action.specs.contracts.read_setvar as ReadSetvar
 use Rattle.single_action.proofs.read_setvar.Symbol as ReadSetvarCode
+use Rattle.single_action.specs.contracts.numbered_rule as NumberedRule
+use Rattle.single_action.proofs.numbered_rule.Symbol as NumberedRuleCode
 use Rattle.single_action.specs.contracts.is_quotation as IsQuotation
 use Rattle.single_action.proofs.is_quotation.Symbol as IsQuotationCode
 use Rattle.single_action.specs.contracts.has_macro as HasMacro
 use Rattle.single_action.proofs.has_macro.Symbol as HasMacroCode
-use Rattle.single_action.specs.contracts.numbered_rule as NumberedRule
-use Rattle.single_action.proofs.numbered_rule.Symbol as NumberedRuleCode
 use Rattle.single_action.specs.contracts.put_name as PutName
 use Rattle.single_action.proofs.put_name.Symbol as PutNameCode
 use Rattle.actions.specs.contracts.normalise as Normalise
@@ -232,6 +233,8 @@ use Rattle.listing.proofs.write_refusal_line.Symbol as WriteRefusalLineCode
 use Rattle.spelled.specs.contracts.write_actions as WriteActions
 use Rattle.spelled.proofs.write_actions.Symbol as WriteActionsCode
 use Rattle.demands.specs.Contracts.{Promises, Decides, Answers, Keeps}
+use Rattle.demands.specs.EachType.{LeadingEach, KeptLenEach, StoreEach}
+use Rattle.demands.specs.Conversions.{OfConversions}
 use Rattle.demands.specs.Calls.{Lent, lent, Left, left, Wrote, wrote, Filling, finish_promise, Placing, site_word_promise, Replacing, resite_promise, Place, place, Records, Refusal, step_in_promise, next_token_promise, tokens_promise, Ending, end_reading_promise, parse_actions_promise, normalise_promise, read_actions_promise, parse_setvar_promise, parse_variables_promise, parse_update_targets_promise, From, read_targets_promise, operator_in_promise, parse_operator_promise, operator_argument_promise, Package, package_of, directives_promise, Adding, add_promise, Removing, remove_promise, write_listing_promise, write_refusal_promise, write_refusal_line_promise, list_text_promise, finish_listing_promise, digits_into_promise, ActionRecords, action_records, write_actions_promise}
 use Rattle.demands.specs.Rows.{Row}
 use Rattle.demands.specs.DirectiveRows as Directive
@@ -253,6 +256,8 @@ pub record OfBytes : Type 3 where
 pub record OfTexts : Type 3 where
   pub is_same : Answers IsSame.ended (λ M 𝓤 𝓛. IsSame.spec 𝓛) IsSameCode.code IsSameCode.name (λ _ a. same a.0.now a.1.0.now)
   pub same_lowered_lem : Answers SameLowered.ended (λ M 𝓤 𝓛. SameLowered.spec 𝓛) SameLoweredCode.code SameLoweredCode.name (λ _ a. same_lowered a.0.now a.1.0.now)
+  pub leading : LeadingEach
+  pub kept_len : KeptLenEach
   pub leading_white_lem : Answers LeadingWhite.ended (λ M 𝓤 𝓛. LeadingWhite.spec 𝓛) LeadingWhiteCode.code LeadingWhiteCode.name (λ _ a. leading_white a.0.now)
   pub trimmed_len : Answers TrimmedLen.ended (λ M 𝓤 𝓛. TrimmedLen.spec 𝓛) TrimmedLenCode.code TrimmedLenCode.name (λ _ a. length (trim_end a.0.now))
   pub trim_start : Keeps TrimStart.ended (λ M 𝓤 𝓛. TrimStart.spec 𝓛) TrimStartCode.code TrimStartCode.name Standing Standing (λ s r. r ≡ trim_start_of s) (λ _ a. standing a.0) (λ _ r e. standing r)
@@ -275,12 +280,8 @@ pub record OfLent : Type 3 where
   pub span_offset_lem : Answers SpanOffset.ended (λ M 𝓤 𝓛. SpanOffset.spec 𝓛) SpanOffsetCode.code SpanOffsetCode.name (λ _ a. span_offset a.0)
   pub span_length_lem : Answers SpanLength.ended (λ M 𝓤 𝓛. SpanLength.spec 𝓛) SpanLengthCode.code SpanLengthCode.name (λ _ a. span_length a.0)
   pub room : Answers Room.ended (λ M 𝓤 𝓛. Room.spec 𝓛) RoomCode.code RoomCode.name (λ _ a. room_for a.1.0 a.0)
-  pub clear_bytes : Keeps ClearBytes.ended (λ M 𝓤 𝓛. ClearBytes.spec 𝓛) ClearBytesCode.code ClearBytesCode.name (List ℕ) (List ℕ) (λ out o. o ≡ zeros (length out)) (λ _ a. a.0.now) (λ _ r e. e.0.now)
-  pub clear_words : Keeps ClearWords.ended (λ M 𝓤 𝓛. ClearWords.spec 𝓛) ClearWordsCode.code ClearWordsCode.name (List ℕ) (List ℕ) (λ out o. o ≡ zeros (length out)) (λ _ a. a.0.now) (λ _ r e. e.0.now)
-  pub store_bytes : Keeps StoreBytes.ended (λ M 𝓤 𝓛. StoreBytes.spec 𝓛) StoreBytesCode.code StoreBytesCode.name (List ℕ × ℕ × List ℕ) (List ℕ) (λ i o. o ≡ stored i.0 i.1 i.2)
-      (λ _ a. (a.0.now, a.1.0, a.1.1.0.now)) (λ _ r e. e.0.now)
-  pub store_words : Keeps StoreWords.ended (λ M 𝓤 𝓛. StoreWords.spec 𝓛) StoreWordsCode.code StoreWordsCode.name (List ℕ × ℕ × List ℕ) (List ℕ) (λ i o. o ≡ stored i.0 i.1 i.2)
-      (λ _ a. (a.0.now, a.1.0, a.1.1.0.now)) (λ _ r e. e.0.now)
+  -- a text, or a record's words, stored at a place: one function for both
+  pub store : StoreEach
   -- where a reader may start, how it ends, and what a refusal by name leaves of both buffers
   pub starts : Answers Starts.ended (λ M 𝓤 𝓛. Starts.spec 𝓛) StartsCode.code StartsCode.name (λ _ a. starts_at a.0 a.1.0 a.1.1.0 a.1.1.1.0)
   pub finish : Keeps Finish.ended (λ M 𝓤 𝓛. Finish.spec 𝓛) FinishCode.code FinishCode.name Filling (Left Bool) finish_promise
@@ -317,26 +318,25 @@ pub record OfSpans : Type 3 where
 -- Both lexers, what they begin and end with, and the reader that holds a reference to its text, of whatever kind.
 pub record OfLexer : Type 3 where
   pub start : Answers Start.ended (λ M 𝓤 𝓛. Start.spec 𝓛) StartCode.code StartCode.name (λ _ a. fresh)
-  pub step_in : Keeps StepIn.ended (λ M 𝓤 𝓛. StepIn.spec 𝓛) StepInCode.code StepInCode.name Place (Wrote Step) step_in_promise (λ _ a. place a.0.now a.1.0 a.1.1.0.now) (λ _ r e. wrote r e.1.1.0.now)
-  pub next_token : Keeps NextToken.ended (λ M 𝓤 𝓛. NextToken.spec 𝓛) NextTokenCode.code NextTokenCode.name Place (Wrote Step) next_token_promise
+  pub step_in : Keeps StepIn.ended (λ M 𝓤 𝓛. StepIn.spec 𝓛) StepInCode.code StepInCode.name Place (Wrote (Result Found StepError)) step_in_promise (λ _ a. place a.0.now a.1.0 a.1.1.0.now) (λ _ r e. wrote r e.1.1.0.now)
+  pub next_token : Keeps NextToken.ended (λ M 𝓤 𝓛. NextToken.spec 𝓛) NextTokenCode.code NextTokenCode.name Place (Wrote (Result Found StepError)) next_token_promise
       (λ _ a. place a.0.now a.1.0 a.1.1.0.now) (λ _ r e. wrote r e.1.1.0.now)
-  pub tokens : Keeps TokensOf.ended (λ M 𝓤 𝓛. TokensOf.spec 𝓛) TokensOfCode.code TokensOfCode.name Lent (Left Tokens.Answer) tokens_promise
+  pub tokens : Keeps TokensOf.ended (λ M 𝓤 𝓛. TokensOf.spec 𝓛) TokensOfCode.code TokensOfCode.name Lent (Left (Result TokensRead TokensError)) tokens_promise
       (λ _ a. lent a.0.now a.1.0.now a.1.1.0.now) (λ _ r e. left r e.1.0.now e.1.1.0.now)
-  pub plain_tokens : Keeps PlainTokens.ended (λ M 𝓤 𝓛. PlainTokens.spec 𝓛) PlainTokensCode.code PlainTokensCode.name Lent (Left Tokens.Answer) tokens_promise
+  pub plain_tokens : Keeps PlainTokens.ended (λ M 𝓤 𝓛. PlainTokens.spec 𝓛) PlainTokensCode.code PlainTokensCode.name Lent (Left (Result TokensRead TokensError)) tokens_promise
       (λ _ a. lent a.0.now a.1.0.now a.1.1.0.now) (λ _ r e. left r e.1.0.now e.1.1.0.now)
-  pub pass_gate : Answers PassGate.ended (λ M 𝓤 𝓛. PassGate.spec 𝓛) PassGateCode.code PassGateCode.name (λ _ a. Lexer.passed_by (gate_of a.0.now a.1.0 (length a.0.now)))
   pub is_directive : Answers IsDirective.ended (λ M 𝓤 𝓛. IsDirective.spec 𝓛) IsDirectiveCode.code IsDirectiveCode.name (λ _ a. directive a.0.now)
   pub put_token : Keeps PutToken.ended (λ M 𝓤 𝓛. PutToken.spec 𝓛) PutTokenCode.code PutTokenCode.name (List ℕ × ℕ × ℕ × Lexeme) (List ℕ) (λ i o. o ≡ Lexer.token_stored i.0 i.1 i.2 i.3)
       (λ _ a. (a.0.now, a.1.0, a.1.1.0, a.1.1.1.0)) (λ _ r e. e.0.now)
-  pub end_reading : Keeps EndReading.ended (λ M 𝓤 𝓛. EndReading.spec 𝓛) EndReadingCode.code EndReadingCode.name Ending (Left Tokens.Answer) end_reading_promise
+  pub end_reading : Keeps EndReading.ended (λ M 𝓤 𝓛. EndReading.spec 𝓛) EndReadingCode.code EndReadingCode.name Ending (Left (Result TokensRead TokensError)) end_reading_promise
       (λ _ a. record { read = a.0; text = a.1.0.now; records = a.1.1.0.now }) (λ _ r e. left r e.1.0.now e.1.1.0.now)
   pub reader_of : Decides ReaderOf.ended (λ M 𝓤 𝓛. ReaderOf.spec 𝓛) ReaderOfCode.code ReaderOfCode.name (λ _ a r. (r.text ≡ a.0) × (r.cursor ≡ fresh))
   pub reader_at : Decides ReaderAt.ended (λ M 𝓤 𝓛. ReaderAt.spec 𝓛) ReaderAtCode.code ReaderAtCode.name (λ _ a r. (r.text ≡ a.0.text) × (r.cursor ≡ a.1.0))
-  pub next_of : Keeps NextOf.ended (λ M 𝓤 𝓛. NextOf.spec 𝓛) NextOfCode.code NextOfCode.name Place (Wrote Step) next_token_promise
+  pub next_of : Keeps NextOf.ended (λ M 𝓤 𝓛. NextOf.spec 𝓛) NextOfCode.code NextOfCode.name Place (Wrote (Result Found StepError)) next_token_promise
       (λ _ a. place a.0.text.now a.0.cursor a.1.0.now) (λ _ r e. wrote r e.1.0.now)
-  pub token_at_lem : Keeps TokenAt.ended (λ M 𝓤 𝓛. TokenAt.spec 𝓛) TokenAtCode.code TokenAtCode.name Place (Wrote Step) next_token_promise
+  pub token_at_lem : Keeps TokenAt.ended (λ M 𝓤 𝓛. TokenAt.spec 𝓛) TokenAtCode.code TokenAtCode.name Place (Wrote (Result Found StepError)) next_token_promise
       (λ _ a. place a.0.now a.1.0 a.1.1.0.now) (λ _ r e. wrote r e.1.1.0.now)
-  pub first_token : Keeps FirstToken.ended (λ M 𝓤 𝓛. FirstToken.spec 𝓛) FirstTokenCode.code FirstTokenCode.name Place (Wrote Step) next_token_promise
+  pub first_token : Keeps FirstToken.ended (λ M 𝓤 𝓛. FirstToken.spec 𝓛) FirstTokenCode.code FirstTokenCode.name Place (Wrote (Result Found StepError)) next_token_promise
       (λ _ a. place a.0.now fresh a.1.0.now) (λ _ r e. wrote r e.1.0.now)
 
 -- Where the bytes of a text came from: a part of it, one span word, and the last words of records.
@@ -362,7 +362,7 @@ pub record OfPlaces : Type 3 where
 -- So these two are the exception: their promise says what a verdict means, and any two verdicts that meet it mean the same.
 pub record OfSingles : Type 3 where
   pub read_single : Promises ReadSingle.ended (λ M 𝓤 𝓛. ReadSingle.spec 𝓛) ReadSingleCode.code ReadSingleCode.name (λ _ a r e. Judged a.0.now r (single a.0.now))
-  pub single_once : (s : List ℕ) (v w : Verdict) → Judged s v (single s) → Judged s w (single s) → verdict_single s v ≡ verdict_single s w
+  pub single_once : (s : List ℕ) (v w : Result Plan PlanError) → Judged s v (single s) → Judged s w (single s) → verdict_single s v ≡ verdict_single s w
   pub read_setvar : Promises ReadSetvar.ended (λ M 𝓤 𝓛. ReadSetvar.spec 𝓛) ReadSetvarCode.code ReadSetvarCode.name (λ _ a r e. Planned a.0.now r (setvar_action set_var_code (setvar a.0.now)))
   pub setvar_once : (s : List ℕ) (p q : Plan) → Planned s p (setvar_action set_var_code (setvar s)) → Planned s q (setvar_action set_var_code (setvar s)) → plan_action s p ≡ plan_action s q
   pub put_name : Keeps PutName.ended (λ M 𝓤 𝓛. PutName.spec 𝓛) PutNameCode.code PutNameCode.name (ℕ × List ℕ) (List ℕ × ℕ)
@@ -370,20 +370,20 @@ pub record OfSingles : Type 3 where
       (λ _ a. (a.0, a.1.0.now)) (λ _ r e. (e.1.0.now, r))
 
 pub record OfParsers : Type 3 where
-  pub parse_actions : Keeps ParseActions.ended (λ M 𝓤 𝓛. ParseActions.spec 𝓛) ParseActionsCode.code ParseActionsCode.name (Lent × List ℕ) (Left Listed.Answer × List ℕ) parse_actions_promise
+  pub parse_actions : Keeps ParseActions.ended (λ M 𝓤 𝓛. ParseActions.spec 𝓛) ParseActionsCode.code ParseActionsCode.name (Lent × List ℕ) (Left (Result ActionsRead ActionsError) × List ℕ) parse_actions_promise
       (λ _ a. (lent a.0.now a.1.0.now a.1.1.1.0.now, a.1.1.0.now))
       (λ _ r e. (left r e.1.0.now e.1.1.1.0.now, e.1.1.0.now))
-  pub normalise : Keeps Normalise.ended (λ M 𝓤 𝓛. Normalise.spec 𝓛) NormaliseCode.code NormaliseCode.name (List ℕ × List ℕ) (Wrote Normal) normalise_promise (λ _ a. (a.0.now, a.1.0.now)) (λ _ r e. wrote r e.1.0.now)
-  pub read_actions : Keeps ReadActions.ended (λ M 𝓤 𝓛. ReadActions.spec 𝓛) ReadActionsCode.code ReadActionsCode.name (Lent × (ℕ × ℕ)) (Left Acted.Reached) read_actions_promise
+  pub normalise : Keeps Normalise.ended (λ M 𝓤 𝓛. Normalise.spec 𝓛) NormaliseCode.code NormaliseCode.name (List ℕ × List ℕ) (Wrote (Option ℕ)) normalise_promise (λ _ a. (a.0.now, a.1.0.now)) (λ _ r e. wrote r e.1.0.now)
+  pub read_actions : Keeps ReadActions.ended (λ M 𝓤 𝓛. ReadActions.spec 𝓛) ReadActionsCode.code ReadActionsCode.name (Lent × (ℕ × ℕ)) (Left (Result ActionsReached PieceError)) read_actions_promise
       (λ _ a. (lent a.0.now a.1.0.now a.1.1.1.0.now, (a.1.1.0, a.1.1.1.1.0)))
       (λ _ r e. left r e.1.0.now e.1.1.1.0.now)
-  pub parse_setvar : Keeps ParseSetvar.ended (λ M 𝓤 𝓛. ParseSetvar.spec 𝓛) ParseSetvarCode.code ParseSetvarCode.name Lent (Left Listed.Answer) parse_setvar_promise
+  pub parse_setvar : Keeps ParseSetvar.ended (λ M 𝓤 𝓛. ParseSetvar.spec 𝓛) ParseSetvarCode.code ParseSetvarCode.name Lent (Left (Result ActionsRead ActionsError)) parse_setvar_promise
       (λ _ a. lent a.0.now a.1.0.now a.1.1.0.now) (λ _ r e. left r e.1.0.now e.1.1.0.now)
-  pub parse_variables : Keeps ParseVariables.ended (λ M 𝓤 𝓛. ParseVariables.spec 𝓛) ParseVariablesCode.code ParseVariablesCode.name Lent (Left Targets.Answer) parse_variables_promise
+  pub parse_variables : Keeps ParseVariables.ended (λ M 𝓤 𝓛. ParseVariables.spec 𝓛) ParseVariablesCode.code ParseVariablesCode.name Lent (Left (Result VariablesRead VariablesError)) parse_variables_promise
       (λ _ a. lent a.0.now a.1.0.now a.1.1.0.now) (λ _ r e. left r e.1.0.now e.1.1.0.now)
-  pub parse_update_targets : Keeps ParseUpdateTargets.ended (λ M 𝓤 𝓛. ParseUpdateTargets.spec 𝓛) ParseUpdateTargetsCode.code ParseUpdateTargetsCode.name Lent (Left Targets.Answer) parse_update_targets_promise
+  pub parse_update_targets : Keeps ParseUpdateTargets.ended (λ M 𝓤 𝓛. ParseUpdateTargets.spec 𝓛) ParseUpdateTargetsCode.code ParseUpdateTargetsCode.name Lent (Left (Result VariablesRead VariablesError)) parse_update_targets_promise
       (λ _ a. lent a.0.now a.1.0.now a.1.1.0.now) (λ _ r e. left r e.1.0.now e.1.1.0.now)
-  pub read_targets : Keeps ReadTargets.ended (λ M 𝓤 𝓛. ReadTargets.spec 𝓛) ReadTargetsCode.code ReadTargetsCode.name From (Left Reached) read_targets_promise
+  pub read_targets : Keeps ReadTargets.ended (λ M 𝓤 𝓛. ReadTargets.spec 𝓛) ReadTargetsCode.code ReadTargetsCode.name From (Left (Result VariablesReached TargetsError)) read_targets_promise
       (λ _ a.
       record {
         lent = lent a.0.now a.1.1.0.now a.1.1.1.1.0.now;
@@ -392,34 +392,34 @@ pub record OfParsers : Type 3 where
         place = a.1.1.1.1.1.0;
       })
       (λ _ r e. left r e.1.1.0.now e.1.1.1.1.0.now)
-  pub operator_in : Keeps OperatorIn.ended (λ M 𝓤 𝓛. OperatorIn.spec 𝓛) OperatorInCode.code OperatorInCode.name (List ℕ) Operator.Answer operator_in_promise (λ _ a. a.0.now) (λ _ r e. r)
-  pub parse_operator : Keeps ParseOperator.ended (λ M 𝓤 𝓛. ParseOperator.spec 𝓛) ParseOperatorCode.code ParseOperatorCode.name (List ℕ) Operator.Answer parse_operator_promise (λ _ a. a.0.now) (λ _ r e. r)
+  pub operator_in : Keeps OperatorIn.ended (λ M 𝓤 𝓛. OperatorIn.spec 𝓛) OperatorInCode.code OperatorInCode.name (List ℕ) (Result Operator UnknownOperator) operator_in_promise (λ _ a. a.0.now) (λ _ r e. r)
+  pub parse_operator : Keeps ParseOperator.ended (λ M 𝓤 𝓛. ParseOperator.spec 𝓛) ParseOperatorCode.code ParseOperatorCode.name (List ℕ) (Result Operator OperatorError) parse_operator_promise (λ _ a. a.0.now) (λ _ r e. r)
   pub operator_argument : Keeps OperatorArgument.ended (λ M 𝓤 𝓛. OperatorArgument.spec 𝓛) OperatorArgumentCode.code OperatorArgumentCode.name Standing Standing operator_argument_promise (λ _ a. standing a.0) (λ _ r e. standing r)
 
 -- Whole directives.
 pub record OfDirectives : Type 3 where
-  pub directives : Keeps DirectivesOf.ended (λ M 𝓤 𝓛. DirectivesOf.spec 𝓛) DirectivesOfCode.code DirectivesOfCode.name Package (Directives.Answer × Whole.Lent) directives_promise
+  pub directives : Keeps DirectivesOf.ended (λ M 𝓤 𝓛. DirectivesOf.spec 𝓛) DirectivesOfCode.code DirectivesOfCode.name Package ((Result DirectivesRead DirectivesError) × Whole.Lent) directives_promise
       (λ _ a. package_of a.0.now a.1.0 (Whole.lent_of a.1.1.0.now a.1.1.1.0.now a.1.1.1.1.0.now a.1.1.1.1.1.0.now a.1.1.1.1.1.1.0.now))
       (λ _ r e. (r, Whole.lent_of e.1.1.0.now e.1.1.1.0.now e.1.1.1.1.0.now e.1.1.1.1.1.0.now e.1.1.1.1.1.1.0.now))
 
 -- The index of ids.
 pub record OfIndex : Type 3 where
-  pub add : Keeps Add.ended (λ M 𝓤 𝓛. Add.spec 𝓛) AddCode.code AddCode.name Adding (Wrote Added) add_promise
+  pub add : Keeps Add.ended (λ M 𝓤 𝓛. Add.spec 𝓛) AddCode.code AddCode.name Adding (Wrote (Result Added AddError)) add_promise
       (λ _ a. record { index = a.0.now; actions = a.1.0.now; line = a.1.1.0 }) (λ _ r e. wrote r e.0.now)
-  pub remove : Keeps Remove.ended (λ M 𝓤 𝓛. Remove.spec 𝓛) RemoveCode.code RemoveCode.name Removing (Wrote Removed) remove_promise
+  pub remove : Keeps Remove.ended (λ M 𝓤 𝓛. Remove.spec 𝓛) RemoveCode.code RemoveCode.name Removing (Wrote (Result Removed Broken)) remove_promise
       (λ _ a. record { index = a.0.now; selector = a.1.0 }) (λ _ r e. wrote r e.0.now)
 
 pub record OfListing : Type 3 where
-  pub write_listing : Keeps WriteListing.ended (λ M 𝓤 𝓛. WriteListing.spec 𝓛) WriteListingCode.code WriteListingCode.name Records (Wrote Listing.Answer) write_listing_promise
+  pub write_listing : Keeps WriteListing.ended (λ M 𝓤 𝓛. WriteListing.spec 𝓛) WriteListingCode.code WriteListingCode.name Records (Wrote (Result ℕ ListingError)) write_listing_promise
       (λ _ a. record { words = a.0.now; texts = a.1.0.now; stop = a.1.1.0; buffer = a.1.1.1.0.now }) (λ _ r e. wrote r e.1.1.1.0.now)
-  pub write_refusal : Keeps WriteRefusal.ended (λ M 𝓤 𝓛. WriteRefusal.spec 𝓛) WriteRefusalCode.code WriteRefusalCode.name Refusal (Wrote Listing.Answer) write_refusal_promise
+  pub write_refusal : Keeps WriteRefusal.ended (λ M 𝓤 𝓛. WriteRefusal.spec 𝓛) WriteRefusalCode.code WriteRefusalCode.name Refusal (Wrote (Result ℕ ListingError)) write_refusal_promise
       (λ _ a. record { number = a.0; place = a.1.0; buffer = a.1.1.0.now }) (λ _ r e. wrote r e.1.1.0.now)
-  pub write_refusal_line : Keeps WriteRefusalLine.ended (λ M 𝓤 𝓛. WriteRefusalLine.spec 𝓛) WriteRefusalLineCode.code WriteRefusalLineCode.name Refusal (Wrote Listing.Answer) write_refusal_line_promise
+  pub write_refusal_line : Keeps WriteRefusalLine.ended (λ M 𝓤 𝓛. WriteRefusalLine.spec 𝓛) WriteRefusalLineCode.code WriteRefusalLineCode.name Refusal (Wrote (Result ℕ ListingError)) write_refusal_line_promise
       (λ _ a. record { number = a.0; place = a.1.0; buffer = a.1.1.0.now }) (λ _ r e. wrote r e.1.1.0.now)
-  pub list_text_lem : Keeps ListText.ended (λ M 𝓤 𝓛. ListText.spec 𝓛) ListTextCode.code ListTextCode.name (Lent × List ℕ) (Left Listing.Answer × List ℕ) list_text_promise
+  pub list_text_lem : Keeps ListText.ended (λ M 𝓤 𝓛. ListText.spec 𝓛) ListTextCode.code ListTextCode.name (Lent × List ℕ) (Left (Result ℕ ListingError) × List ℕ) list_text_promise
       (λ _ a. (lent a.0.now a.1.0.now a.1.1.0.now, a.1.1.1.0.now))
       (λ _ r e. (left r e.1.0.now e.1.1.0.now, e.1.1.1.0.now))
-  pub finish : Keeps FinishListing.ended (λ M 𝓤 𝓛. FinishListing.spec 𝓛) FinishListingCode.code FinishListingCode.name (List ℕ × ℕ) (Wrote Listing.Answer) finish_listing_promise
+  pub finish : Keeps FinishListing.ended (λ M 𝓤 𝓛. FinishListing.spec 𝓛) FinishListingCode.code FinishListingCode.name (List ℕ × ℕ) (Wrote (Result ℕ ListingError)) finish_listing_promise
       (λ _ a. (a.0.now, a.1.0)) (λ _ r e. wrote r e.0.now)
 
 -- action records, and the rules of their table
@@ -431,7 +431,7 @@ pub record OfRecords : Type 3 where
 
 -- Action lists written back.
 pub record OfSpelled : Type 3 where
-  pub write_actions : Keeps WriteActions.ended (λ M 𝓤 𝓛. WriteActions.spec 𝓛) WriteActionsCode.code WriteActionsCode.name ActionRecords (Wrote Listing.Answer) write_actions_promise
+  pub write_actions : Keeps WriteActions.ended (λ M 𝓤 𝓛. WriteActions.spec 𝓛) WriteActionsCode.code WriteActionsCode.name ActionRecords (Wrote (Result ℕ ListingError)) write_actions_promise
       (λ _ a. action_records a.0.now a.1.0.now a.1.1.0.now) (λ _ r e. wrote r e.1.1.0.now)
   -- the digits of a number, which the listing writes too
   pub digits_into : Keeps DigitsInto.ended (λ M 𝓤 𝓛. DigitsInto.spec 𝓛) DigitsIntoCode.code DigitsIntoCode.name (ℕ × List ℕ) (Wrote ℕ) digits_into_promise
@@ -441,17 +441,17 @@ pub record OfSpelled : Type 3 where
 
 -- Each reader that fills two buffers comes to a row of document 01's table, whatever is lent; that of whole directives to one of document 02's.
 pub record ByTable : Type 0 where
-  pub tokens : (i : Lent) (o : Left Tokens.Answer) → tokens_promise i o
+  pub tokens : (i : Lent) (o : Left (Result TokensRead TokensError)) → tokens_promise i o
       → Row token_words (Lexer.answer_given o.answer) i.text o.text i.records o.records
-  pub parse_actions : (i : Lent × List ℕ) (o : Left Listed.Answer × List ℕ) → parse_actions_promise i o
+  pub parse_actions : (i : Lent × List ℕ) (o : Left (Result ActionsRead ActionsError) × List ℕ) → parse_actions_promise i o
       → Row action_words (Actions.answer_given o.0.answer) i.0.text o.0.text i.0.records o.0.records
-  pub parse_setvar : (i : Lent) (o : Left Listed.Answer) → parse_setvar_promise i o
+  pub parse_setvar : (i : Lent) (o : Left (Result ActionsRead ActionsError)) → parse_setvar_promise i o
       → Row action_words (Actions.answer_given o.answer) i.text o.text i.records o.records
-  pub parse_variables : (i : Lent) (o : Left Targets.Answer) → parse_variables_promise i o
+  pub parse_variables : (i : Lent) (o : Left (Result VariablesRead VariablesError)) → parse_variables_promise i o
       → Row variable_words (Variables.answer_given o.answer) i.text o.text i.records o.records
-  pub parse_update_targets : (i : Lent) (o : Left Targets.Answer) → parse_update_targets_promise i o
+  pub parse_update_targets : (i : Lent) (o : Left (Result VariablesRead VariablesError)) → parse_update_targets_promise i o
       → Row variable_words (Variables.answer_given o.answer) i.text o.text i.records o.records
-  pub directives : (i : Package) (o : Directives.Answer × Whole.Lent) → directives_promise i o
+  pub directives : (i : Package) (o : (Result DirectivesRead DirectivesError) × Whole.Lent) → directives_promise i o
       → Directive.Row (Whole.answer_given o.0) i.lent o.1
 
 pub record Demand1 : Type 3 where
@@ -470,5 +470,6 @@ pub record Demand1 : Type 3 where
   pub of_listing : OfListing
   pub of_records : OfRecords
   pub of_spelled : OfSpelled
+  pub of_conversions : OfConversions
   pub of_library : OfLibrary
   pub by_table : ByTable

@@ -5,7 +5,7 @@
 -- is given exactly when documents 01 and 02 say so (`Exact`). Where the Rust has one error for an action's argument, document 02 has three
 -- numbers: these are mapped to it (`OneError`). What M-104 added, the last word of a record and the last value of a refusal, the Rust has not:
 -- all else is held against its rules, which know of no places, and these are the pieces' places by their definition (`Sources`).
-use Rattle.std.specs.Prelude.{◌≡◌, List, [], ◌∷◌, ◌++◌, map, ◌↔◌, ℕ, ◌+◌, ◌≤◌, ◌<◌, min, length, drop, ltb}
+use Rattle.std.specs.Prelude.{◌≡◌, List, [], ◌∷◌, ◌++◌, map, ◌↔◌, ℕ, ◌+◌, ◌≤◌, ◌<◌, min, length, drop, ltb, Result}
 use Rattle.ascii.specs.Choice.{pick}
 use Rattle.ascii.specs.Handed.{Standing}
 use Rattle.lent.specs.Sizes.{limit, token_words, action_words, variable_words, room_for}
@@ -17,8 +17,16 @@ use Rattle.lent.specs.declared.refusing.Flaw.{Flaw}
 use Rattle.lexer.specs.Tokens.{next, reading}
 use Rattle.lexer.specs.Calls.{Fit, Astray, needed}
 use Rattle.lexer.specs.Promises as Lexer
-use Rattle.lexer.specs.declared.stepping.Step.{Step}
-use Rattle.lexer.specs.declared.writing.Answer as Tokens
+use Rattle.lexer.specs.declared.writing.Read.{Read as TokensRead}
+use Rattle.lexer.specs.declared.writing.TokensError.{TokensError}
+use Rattle.lexer.specs.declared.stepping.Found.{Found}
+use Rattle.lexer.specs.declared.stepping.StepError.{StepError}
+use Rattle.actions.specs.declared.Read.{Read as ActionsRead}
+use Rattle.actions.specs.declared.ActionsError.{ActionsError}
+use Rattle.variables.specs.declared.Read.{Read as VariablesRead}
+use Rattle.variables.specs.declared.VariablesError.{VariablesError}
+use Rattle.operators.specs.declared.Operator.{Operator}
+use Rattle.operators.specs.declared.OperatorError.{OperatorError}
 use Rattle.actions.specs.Normal.{normalised}
 use Rattle.actions.specs.Pieces as Action
 use Rattle.single_action.specs.Table.{Row}
@@ -28,7 +36,6 @@ use Rattle.actions.specs.Lists.{normal_site, actions_of}
 use Rattle.actions.specs.Layout.{action_record, full_record}
 use Rattle.actions.specs.Calls.{AllDone, FirstRefused}
 use Rattle.actions.specs.Promises as Actions
-use Rattle.actions.specs.declared.Answer as Listed
 use Rattle.variables.specs.Parts as Variable
 use Rattle.variables.specs.Variables as Of
 use Rattle.variables.specs.Variables.{as_written, looked_up, read_all}
@@ -36,13 +43,11 @@ use Rattle.variables.specs.Layout.{variable_record, exclusion_record, variable_w
 use Rattle.variables.specs.Steps.{excluding_of}
 use Rattle.variables.specs.Calls as Targets
 use Rattle.variables.specs.Promises as Variables
-use Rattle.variables.specs.declared.Answer as Read
 use Rattle.variables.specs.declared.singles.Exclusions.{Exclusions}
 use Rattle.variables.specs.declared.singles.Exclusions.TheVariants.{AsWritten, LookedUp}
 use Rattle.operators.specs.Operators.{operator}
 use Rattle.operators.specs.Calls as Operator
 use Rattle.operators.specs.Promises as Operators
-use Rattle.operators.specs.declared.Answer as Parsed
 use Rattle.listing.specs.Grammar.{JsonText}
 use Rattle.listing.specs.Listings.{line_of, printed}
 use Rattle.demands.specs.Sourceless.{action_texts, variable_texts, sources, bare, rust_actions, bare_targets, rust_targets, variable_places, exclusion_places}
@@ -63,24 +68,24 @@ tokens_in m s =
 
 -- Within the limit, in ASCII, and with buffers as long as asked (`Opened`), whatever the record buffer.
 pub record Equal : Type 0 where
-  pub tokens : (i : Lent) (o : Left Tokens.Answer) → tokens_promise i o → Opened i.input (length i.text) (length i.input)
+  pub tokens : (i : Lent) (o : Left (Result TokensRead TokensError)) → tokens_promise i o → Opened i.input (length i.text) (length i.input)
       → Equals (tokens_in (length i.records) i.input) (Lexer.answer_given o.answer) i.text o.text i.records o.records
   -- at every cursor that fits; the text is written at the buffer's front, and nothing beyond is touched
-  pub next_token : (i : Place) (o : Wrote Step) → next_token_promise i o → Opened i.input (length i.buffer) (length i.input) → Fit i.input i.from
+  pub next_token : (i : Place) (o : Wrote (Result Found StepError)) → next_token_promise i o → Opened i.input (length i.buffer) (length i.input) → Fit i.input i.from
       → (Lexer.step_given o.answer ≡ given 0 (Lexer.step_values (next (drop i.from.place i.input) i.from)))
       × (o.buffer ≡ Lexer.step_text (next (drop i.from.place i.input) i.from) ++ drop (length (Lexer.step_text (next (drop i.from.place i.input) i.from))) i.buffer)
   -- with the normalised text in the scratch buffer, on a refusal too
-  pub parse_actions : (i : Lent × List ℕ) (o : Left Listed.Answer × List ℕ) → parse_actions_promise i o
+  pub parse_actions : (i : Lent × List ℕ) (o : Left (Result ActionsRead ActionsError) × List ℕ) → parse_actions_promise i o
       → Opened i.0.input (min (length i.0.text) (length i.1)) (length i.0.input)
       → Equals (Actions.roomed (length i.0.records) (actions_of i.0.input)) (Actions.answer_given o.0.answer) i.0.text o.0.text i.0.records o.0.records
       × (o.1 ≡ padded (length i.1) (normalised i.0.input))
-  pub parse_setvar : (i : Lent) (o : Left Listed.Answer) → parse_setvar_promise i o → Opened i.input (length i.text) (length i.input + 3)
+  pub parse_setvar : (i : Lent) (o : Left (Result ActionsRead ActionsError)) → parse_setvar_promise i o → Opened i.input (length i.text) (length i.input + 3)
       → Equals (Actions.roomed (length i.records) (reads (Actions.setvar_alone i.input))) (Actions.answer_given o.answer) i.text o.text i.records o.records
-  pub parse_variables : (i : Lent) (o : Left Read.Answer) → parse_variables_promise i o → Opened i.input (length i.text) (length i.input)
+  pub parse_variables : (i : Lent) (o : Left (Result VariablesRead VariablesError)) → parse_variables_promise i o → Opened i.input (length i.text) (length i.input)
       → Equals (Variables.hung (length i.records) (read_all as_written (Variable.pieces i.input))) (Variables.answer_given o.answer) i.text o.text i.records o.records
-  pub parse_update_targets : (i : Lent) (o : Left Read.Answer) → parse_update_targets_promise i o → Opened i.input (length i.text) (length i.input)
+  pub parse_update_targets : (i : Lent) (o : Left (Result VariablesRead VariablesError)) → parse_update_targets_promise i o → Opened i.input (length i.text) (length i.input)
       → Equals (Variables.updated (length i.records) (read_all looked_up (Variable.pieces i.input))) (Variables.answer_given o.answer) i.text o.text i.records o.records
-  pub parse_operator : (s : List ℕ) (r : Parsed.Answer) → parse_operator_promise s r → Opened s 0 0
+  pub parse_operator : (s : List ℕ) (r : Result Operator OperatorError) → parse_operator_promise s r → Opened s 0 0
       → Operators.answer_given r ≡ Operators.given_by s (Operators.outcome_of s (operator s))
   pub operator_argument : (s part : Standing) → operator_argument_promise s part → Opened s.bytes 0 0
       → part ≡ Operators.argument_of s (Operators.outcome_of s.bytes (operator s.bytes))
@@ -141,17 +146,17 @@ pub record OperatorExact (s : List ℕ) (n : ℕ) : Type 0 where
   pub zero : Past s 0 0 n 0 (Operator.Meant s)
 
 pub record Exact : Type 0 where
-  pub tokens : (i : Lent) (o : Left Tokens.Answer) → tokens_promise i o → TokensExact i.input i.text i.records (Lexer.answer_given o.answer).number
-  pub next_token : (i : Place) (o : Wrote Step) → next_token_promise i o → StepExact i (Lexer.step_given o.answer).number
-  pub parse_actions : (i : Lent × List ℕ) (o : Left Listed.Answer × List ℕ) → parse_actions_promise i o
+  pub tokens : (i : Lent) (o : Left (Result TokensRead TokensError)) → tokens_promise i o → TokensExact i.input i.text i.records (Lexer.answer_given o.answer).number
+  pub next_token : (i : Place) (o : Wrote (Result Found StepError)) → next_token_promise i o → StepExact i (Lexer.step_given o.answer).number
+  pub parse_actions : (i : Lent × List ℕ) (o : Left (Result ActionsRead ActionsError) × List ℕ) → parse_actions_promise i o
       → ActionsExact i.0.input (min (length i.0.text) (length i.1)) (length i.0.records) (Actions.answer_given o.0.answer).number
-  pub parse_setvar : (i : Lent) (o : Left Listed.Answer) → parse_setvar_promise i o
+  pub parse_setvar : (i : Lent) (o : Left (Result ActionsRead ActionsError)) → parse_setvar_promise i o
       → SetvarExact i.input (length i.text) (length i.records) (Actions.answer_given o.answer).number
-  pub parse_variables : (i : Lent) (o : Left Read.Answer) → parse_variables_promise i o
+  pub parse_variables : (i : Lent) (o : Left (Result VariablesRead VariablesError)) → parse_variables_promise i o
       → TargetsExact AsWritten i.input (length i.text) (length i.records) (Variables.answer_given o.answer).number
-  pub parse_update_targets : (i : Lent) (o : Left Read.Answer) → parse_update_targets_promise i o
+  pub parse_update_targets : (i : Lent) (o : Left (Result VariablesRead VariablesError)) → parse_update_targets_promise i o
       → TargetsExact LookedUp i.input (length i.text) (length i.records) (Variables.answer_given o.answer).number
-  pub parse_operator : (s : List ℕ) (r : Parsed.Answer) → parse_operator_promise s r → OperatorExact s (Operators.answer_given r).number
+  pub parse_operator : (s : List ℕ) (r : Result Operator OperatorError) → parse_operator_promise s r → OperatorExact s (Operators.answer_given r).number
   -- which of 10, 11 and 12 a piece is refused by: no argument where one is wanted, one that denotes no number, one that denotes a number past its width
   pub flaws : (piece name : List ℕ) (flaw : Flaw) → (single piece ≡ bad flaw name) ↔ Flawed piece name flaw
 
@@ -169,7 +174,7 @@ pub record FirstInvalid (ps : List Action.Piece) : Type 0 where
 
 pub record OneError : Type 0 where
   -- one of the three is given exactly where the Rust's first error is that one
-  pub parse_actions : (i : Lent × List ℕ) (o : Left Listed.Answer × List ℕ) → parse_actions_promise i o
+  pub parse_actions : (i : Lent × List ℕ) (o : Left (Result ActionsRead ActionsError) × List ℕ) → parse_actions_promise i o
       → ((flaw : Flaw) × ((Actions.answer_given o.0.answer).number ≡ flaw_number flaw))
       ↔ (Opened i.0.input (min (length i.0.text) (length i.1)) (length i.0.input) × FirstInvalid (Action.pieces (normalised i.0.input)))
   -- that a severity word is looked for only where the text denotes no number changes nothing: the Rust's parse_severity, to the letter

@@ -1,5 +1,7 @@
 pub mod Fixed
 pub mod Contracts
+pub mod EachType
+pub mod Conversions
 pub mod Calls
 pub mod Rows
 pub mod DirectiveRows

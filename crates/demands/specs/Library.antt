@@ -1,5 +1,5 @@
 -- Demand 1 of the C functions: what each is lent and leaves, of its own contract and its own code.
-use Rattle.std.specs.Prelude.{List, ℕ, length}
+use Rattle.std.specs.Prelude.{List, ℕ, length, Result}
 use Rattle.lent.specs.Table.{Outcome, Filled}
 use Rattle.lexer.specs.Cursors.{cursor}
 use Rattle.lexer.specs.Promises.{tokens_outcome}
@@ -13,7 +13,7 @@ use Rattle.rules.specs.Grades.{grades}
 use Rattle.rules.specs.Selectors.{matched}
 use Rattle.spans.specs.Conversion.{from_old, to_old}
 use Rattle.spans.specs.Promises as Spans
-use Rattle.spans.specs.declared.converting.Answer.{Answer as Converted}
+use Rattle.spans.specs.declared.converting.TooFar.{TooFar}
 use Rattle.directives.specs.Promises as Whole
 use Rattle.listing.specs.Listings.{refusal}
 use Rattle.listing.specs.Promises as Listing
@@ -97,7 +97,7 @@ abbrev pub operator_promise : With (List ℕ) → With ℕ → Type 0
 operator_promise i o = Told (Operators.given_by i.0 (Operators.operator_outcome i.0)) i.1 o.1 o.0
 
 -- a stored span word, by what it is in the other form
-abbrev pub converts_promise : (ℕ → Converted) → With ℕ → With ℕ → Type 0
+abbrev pub converts_promise : (ℕ → Result ℕ TooFar) → With ℕ → With ℕ → Type 0
 converts_promise to i o = Told (Spans.answer_given (to i.0)) i.1 o.1 o.0
 
 -- the index, and the words for values

@@ -1,13 +1,11 @@
 -- The Rust's loops over the pieces of a list, by the pieces' texts alone: they know of no places. Demand 2 holds against them all that a
 -- call gives but what M-104 added, the last word of a record and the last value of a refusal.
-use Rattle.std.specs.Prelude.{ℕ, suc, List, [], ◌∷◌, map, eqb}
+use Rattle.std.specs.Prelude.{ℕ, suc, List, [], ◌∷◌, map, eqb, Option, Some, None}
 use Rattle.ascii.specs.Choice.{pick}
 use Rattle.ascii.specs.Trim.{trim_ends}
 use Rattle.lent.specs.Sources.{Part, part, Sourced}
 use Rattle.lent.specs.Table.{unknown_action, bad_argument, resited, Outcome, refuses, reads}
 use Rattle.names.specs.Variables.{variable_code}
-use Rattle.names.specs.declared.Lookup.{Lookup}
-use Rattle.names.specs.declared.Lookup.TheVariants.{Code, Unknown}
 use Rattle.single_action.specs.Actions.{Action, Single, done, bad, unknown, single}
 use Rattle.actions.specs.Pieces.{outside, parts_from}
 use Rattle.variables.specs.Parts.{cut, Piece}
@@ -83,9 +81,9 @@ abbrev pub exclusion_before : List ℕ → Targets → Targets
 exclusion_before e (targets vs es) = targets vs (e ∷ es)
 exclusion_before e (refused i n) = refused (suc i) n
 
-abbrev pub known_before : Lookup → List ℕ → Targets → Targets
-known_before (Code c) n ts = ts
-known_before Unknown n ts = refused 0 n
+abbrev pub known_before : Option ℕ → List ℕ → Targets → Targets
+known_before (Some c) n ts = ts
+known_before None n ts = refused 0 n
 
 abbrev pub marked_before : Exclusions → List ℕ → Targets → Targets
 marked_before AsWritten e ts = exclusion_before e ts

@@ -1,16 +1,17 @@
 -- The theorem of M-106: after any calls from an index of zeros, the slice is the index built afresh from the rules then standing, those
 -- accepted and not since removed; each call answers by those rules alone; and no two of them have one id, at the full width of an id.
-use Rattle.std.specs.Prelude.{◌≡◌, ◌↔◌, List, [], ◌∷◌, ◌++◌, ℕ, ◌+◌, ◌≤◌, length}
+use Rattle.std.specs.Prelude.{◌≡◌, ◌↔◌, List, [], ◌∷◌, ◌++◌, ℕ, ◌+◌, ◌≤◌, length, Result, Some, None}
 use Rattle.lent.specs.Buffers.{zeros}
 use Rattle.lent.specs.Table.{given}
 use Rattle.rules.specs.Entries.{entries}
-use Rattle.rules.specs.declared.finding.Found.TheVariants.{Number, Nothing}
 use Rattle.rules.specs.declared.selecting.RuleIdSelector.{RuleIdSelector}
 use Rattle.index.specs.Standing.{name_of, line_of, Distinct, afresh, verdict}
 use Rattle.index.specs.Words.{laid, places_in, rules_in, Index}
 use Rattle.index.specs.Promises.{Adds, Removes, added_given, removed_given}
 use Rattle.index.specs.declared.adding.Added.{Added}
+use Rattle.index.specs.declared.adding.AddError.{AddError}
 use Rattle.index.specs.declared.removing.Removed.{Removed}
+use Rattle.index.specs.declared.removing.Broken.{Broken}
 use Rattle.index.specs.Histories.{Event, accepted, removed, standing, accepting, added_told, removed_told}
 use Rattle.index.specs.Runs.{unless, Ran}
 use Rattle.demands.specs.Calls.{Wrote, Adding, Removing}
@@ -40,21 +41,21 @@ pub record After (n : ℕ) (h : List Event) (s : List ℕ) : Type 0 where
   -- no two of them have one id
   pub apart : Distinct (standing h)
   -- the next call's number and values are by the rules that stand
-  pub adding : (actions new : List ℕ) (line : ℕ) (r : Added) → Adds actions line s new r
+  pub adding : (actions new : List ℕ) (line : ℕ) (r : Result Added AddError) → Adds actions line s new r
       → added_given r ≡ added_told (places_in n) (length (standing h)) (verdict (places_in n) (standing h) (name_of (entries actions)) line)
-  pub removing : (selector : RuleIdSelector) (new : List ℕ) (r : Removed) → Removes selector s new r → removed_given r ≡ removed_told selector (standing h)
+  pub removing : (selector : RuleIdSelector) (new : List ℕ) (r : Result Removed Broken) → Removes selector s new r → removed_given r ≡ removed_told selector (standing h)
   -- a new id is refused exactly if as many rules with ids stand as there are places; one that is there, with the line it has
-  pub full : (actions new : List ℕ) (line id : ℕ) (r : Added) → Adds actions line s new r → name_of (entries actions) ≡ Number id → line_of id (standing h) ≡ Nothing
+  pub full : (actions new : List ℕ) (line id : ℕ) (r : Result Added AddError) → Adds actions line s new r → name_of (entries actions) ≡ Some id → line_of id (standing h) ≡ None
       → ((added_given r).number ≡ 17) ↔ (length (standing h) ≡ places_in n)
-  pub taken : (actions new : List ℕ) (line id l : ℕ) (r : Added) → Adds actions line s new r → name_of (entries actions) ≡ Number id
-      → (added_given r ≡ given 16 (l ∷ [])) ↔ (line_of id (standing h) ≡ Number l)
+  pub taken : (actions new : List ℕ) (line id l : ℕ) (r : Result Added AddError) → Adds actions line s new r → name_of (entries actions) ≡ Some id
+      → (added_given r ≡ given 16 (l ∷ [])) ↔ (line_of id (standing h) ≡ Some l)
 
 -- Of any words that are lent.
 pub record OnAny : Type 0 where
-  pub add_broken : (s actions new : List ℕ) (line : ℕ) (r : Added) → Adds actions line s new r → ((added_given r).number ≡ 20) ↔ (Index s → ⊥)
-  pub remove_broken : (s new : List ℕ) (selector : RuleIdSelector) (r : Removed) → Removes selector s new r → ((removed_given r).number ≡ 20) ↔ (Index s → ⊥)
-  pub add_unchanged : (s actions new : List ℕ) (line : ℕ) (r : Added) → Adds actions line s new r → ((added_given r).number ≡ 0 → ⊥) → new ≡ s
-  pub remove_unchanged : (s new : List ℕ) (selector : RuleIdSelector) (r : Removed) → Removes selector s new r → ((removed_given r).number ≡ 0 → ⊥) → new ≡ s
+  pub add_broken : (s actions new : List ℕ) (line : ℕ) (r : Result Added AddError) → Adds actions line s new r → ((added_given r).number ≡ 20) ↔ (Index s → ⊥)
+  pub remove_broken : (s new : List ℕ) (selector : RuleIdSelector) (r : Result Removed Broken) → Removes selector s new r → ((removed_given r).number ≡ 20) ↔ (Index s → ⊥)
+  pub add_unchanged : (s actions new : List ℕ) (line : ℕ) (r : Result Added AddError) → Adds actions line s new r → ((added_given r).number ≡ 0 → ⊥) → new ≡ s
+  pub remove_unchanged : (s new : List ℕ) (selector : RuleIdSelector) (r : Result Removed Broken) → Removes selector s new r → ((removed_given r).number ≡ 0 → ⊥) → new ≡ s
   pub apart : (s : List ℕ) → Index s → Distinct (rules_in s)
 
 pub record StandingRules : Type 0 where

@@ -1,6 +1,6 @@
 -- The theorem of M-105: span words that hosts have stored. A word is refused exactly when its offset or its length is above 65,535; one
 -- that is not comes back as it was, from either form; and no word is refused that a reader gave when an input had 16,384 bytes at most.
-use Rattle.std.specs.Prelude.{◌≡◌, Bool, true, false, ◌↔◌, List, [], ◌∷◌, ℕ, zero, suc, ◌/◌, ◌%◌, ◌≤◌, length, drop, get_or}
+use Rattle.std.specs.Prelude.{◌≡◌, Bool, true, false, ◌↔◌, List, [], ◌∷◌, ℕ, zero, suc, ◌/◌, ◌%◌, ◌≤◌, length, drop, get_or, Ok, Err}
 use Rattle.lent.specs.Sizes.{span_offset, span_length}
 use Rattle.lent.specs.Sources.{part_word}
 use Rattle.lent.specs.Table.{Refusal, too_long, not_ascii, short_buffer, no_room, named, unknown_operator, bad_cursor, Outcome, refuses, reads, Filled}
@@ -14,7 +14,7 @@ use Rattle.directives.specs.declared.Version.{Version}
 use Rattle.directives.specs.Table as Directing
 use Rattle.directives.specs.Promises.{Lent, outcome_on}
 use Rattle.spans.specs.Conversion.{old_base, old_word, from_old, to_old, Far}
-use Rattle.spans.specs.declared.converting.Answer.TheVariants.{Word, TooFar}
+use Rattle.spans.specs.Conversion.{too_far}
 
 -- The longest input then.
 abbrev pub old_limit : ℕ
@@ -26,8 +26,8 @@ old_form w = old_word (span_offset w) (span_length w)
 
 -- Neither conversion refuses it, and each gives the other.
 pub record Kept (w : ℕ) : Type 0 where
-  pub there : from_old (old_form w) ≡ Word w
-  pub back : to_old w ≡ Word (old_form w)
+  pub there : from_old (old_form w) ≡ Ok w
+  pub back : to_old w ≡ Ok (old_form w)
 
 -- ---- what readers give
 
@@ -96,10 +96,10 @@ DirectivesKept (Directing.filled x) = PackageKept x
 -- ---- the theorem
 
 pub record StoredSpans : Type 0 where
-  pub from_refused : (v : ℕ) → (from_old v ≡ TooFar) ↔ Far (v / old_base) (v % old_base)
-  pub to_refused : (w : ℕ) → (to_old w ≡ TooFar) ↔ Far (span_offset w) (span_length w)
-  pub from_and_back : (v w : ℕ) → from_old v ≡ Word w → to_old w ≡ Word v
-  pub to_and_back : (v w : ℕ) → to_old w ≡ Word v → from_old v ≡ Word w
+  pub from_refused : (v : ℕ) → (from_old v ≡ Err too_far) ↔ Far (v / old_base) (v % old_base)
+  pub to_refused : (w : ℕ) → (to_old w ≡ Err too_far) ↔ Far (span_offset w) (span_length w)
+  pub from_and_back : (v w : ℕ) → from_old v ≡ Ok w → to_old w ≡ Ok v
+  pub to_and_back : (v w : ℕ) → to_old w ≡ Ok v → from_old v ≡ Ok w
   -- whatever is lent to the reader of an input that was within the limit then
   pub tokens : (s : List ℕ) (n m : ℕ) → length s ≤ old_limit → FilledKept token_spans (tokens_outcome s n m)
   pub parse_actions : (s : List ℕ) (n k m : ℕ) → length s ≤ old_limit → FilledKept action_spans (actions_outcome s n k m)

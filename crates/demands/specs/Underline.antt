@@ -1,7 +1,7 @@
 -- The theorem of M-104: what is underlined is what was read. For every list of actions or variables by itself, and for every package: the
 -- span of a record or of a refused piece is not empty and stands where it must, and the bytes there, read by themselves, are the piece
 -- again, so that they give that very action, variable, exclusion or refusal.
-use Rattle.std.specs.Prelude.{◌≡◌, List, [], ◌∷◌, ℕ, ◌+◌, ◌-◌, ◌≤◌, ◌<◌, length, take, drop}
+use Rattle.std.specs.Prelude.{◌≡◌, List, [], ◌∷◌, ℕ, ◌+◌, ◌-◌, ◌≤◌, ◌<◌, length, take, drop, Result, Ok, Err}
 use Rattle.ascii.specs.Trim.{trim_ends, trimmed_part}
 use Rattle.lent.specs.Sources.{Part, part, Sourced}
 use Rattle.lent.specs.Buffers.{padded}
@@ -16,7 +16,12 @@ use Rattle.actions.specs.Normal.{normalised}
 use Rattle.actions.specs.Lists.{normal_site, actions_of}
 use Rattle.actions.specs.Layout.{words_from}
 use Rattle.actions.specs.Promises as Actions
-use Rattle.actions.specs.declared.Answer as Listed
+use Rattle.actions.specs.declared.Read.{Read as ActionsRead}
+use Rattle.actions.specs.declared.ActionsError.{ActionsError}
+use Rattle.variables.specs.declared.Read.{Read as VariablesRead}
+use Rattle.variables.specs.declared.VariablesError.{VariablesError}
+use Rattle.directives.specs.declared.Read.{Read as DirectivesRead}
+use Rattle.directives.specs.declared.DirectivesError.{DirectivesError}
 use Rattle.variables.specs.Parts.{pieces}
 use Rattle.variables.specs.Variables as Of
 use Rattle.variables.specs.Steps.{excluding_of}
@@ -24,7 +29,6 @@ use Rattle.variables.specs.declared.singles.Exclusions.{Exclusions}
 use Rattle.variables.specs.declared.singles.Exclusions.TheVariants.{AsWritten, LookedUp}
 use Rattle.variables.specs.Layout as Spread
 use Rattle.variables.specs.Promises as Targets
-use Rattle.variables.specs.declared.Answer as Read
 use Rattle.operators.specs.Operators as Operator
 use Rattle.operators.specs.Places.{name_place}
 use Rattle.directives.specs.Directives as Whole
@@ -34,7 +38,6 @@ use Rattle.directives.specs.Directives.{site_at, standing}
 use Rattle.directives.specs.Layout as Laid
 use Rattle.directives.specs.Table.{fault_given}
 use Rattle.directives.specs.Promises as Package
-use Rattle.directives.specs.declared.Answer as Reply
 use Rattle.demands.specs.Calls as Called
 use Rattle.demands.specs.Calls.{Lent, Left, parse_actions_promise, parse_variables_promise, parse_update_targets_promise, directives_promise}
 
@@ -199,9 +202,9 @@ module _ (s : List ℕ) where
   FaultIn (Whole.id_missing l) = Unit {0}
   FaultIn (Whole.within l f) = RefusalIn f
 
-  abbrev pub PackageIn : Whole.Result (List Whole.Directive) → Type 0
-  PackageIn (Whole.bad f) = FaultIn f
-  PackageIn (Whole.good ds) = Each DirectiveIn ds
+  abbrev pub PackageIn : Result (List Whole.Directive) Whole.Fault → Type 0
+  PackageIn (Err f) = FaultIn f
+  PackageIn (Ok ds) = Each DirectiveIn ds
 
 -- ---- calls
 
@@ -214,14 +217,14 @@ pub data Tells {R A : Type 0} (F : R → Type 0) (told : R → Given) (P Kept : 
   read_there : (x : A) → P x → g.number ≡ 0 → Kept x → Tells F told P Kept g
 
 -- parse_actions: the list without its line continuations.
-abbrev pub ActionsTold : Lent × List ℕ → Left Listed.Answer × List ℕ → Type 0
+abbrev pub ActionsTold : Lent × List ℕ → Left (Result ActionsRead ActionsError) × List ℕ → Type 0
 ActionsTold i o =
     let s = i.0.input in
     Tells (PieceThere normalised s (whole s)) refused (Each (ActionThere normalised s (whole s)))
     (λ (xs : List (Sourced Action)). o.0.records ≡ padded (length i.0.records) (words_from 0 xs)) (Actions.answer_given o.0.answer)
 
 -- parse_variables and parse_update_targets: the list as it is.
-abbrev pub TargetsTold : Exclusions → Lent → Left Read.Answer → Type 0
+abbrev pub TargetsTold : Exclusions → Lent → Left (Result VariablesRead VariablesError) → Type 0
 TargetsTold n i o =
     let s = i.input in
     Tells (NamedThere as_they_are s (whole s) n) refused
@@ -229,7 +232,7 @@ TargetsTold n i o =
     (λ (x : List (Sourced Of.Variable) × List (Sourced (List ℕ))). o.records ≡ padded (length i.records) (Spread.words_from 0 x.0 x.1)) (Targets.answer_given o.answer)
 
 -- directives: both buffers with spans.
-abbrev pub PackageTold : Called.Package → Reply.Answer × Package.Lent → Type 0
+abbrev pub PackageTold : Called.Package → (Result DirectivesRead DirectivesError) × Package.Lent → Type 0
 PackageTold i o =
     Tells (FaultIn i.input) fault_given (Each (DirectiveIn i.input))
     (λ (ds : List Whole.Directive).
@@ -254,7 +257,7 @@ pub record Underline : Type 0 where
   -- so every record of its directives, or the piece that it is refused for
   pub directives : (v : Version) (s : List ℕ) → PackageIn s (directives_for v s)
   -- and over promises: what every call tells
-  pub actions_called : (i : Lent × List ℕ) (o : Left Listed.Answer × List ℕ) → parse_actions_promise i o → ActionsTold i o
-  pub variables_called : (i : Lent) (o : Left Read.Answer) → parse_variables_promise i o → TargetsTold AsWritten i o
-  pub update_targets_called : (i : Lent) (o : Left Read.Answer) → parse_update_targets_promise i o → TargetsTold LookedUp i o
-  pub directives_called : (i : Called.Package) (o : Reply.Answer × Package.Lent) → directives_promise i o → PackageTold i o
+  pub actions_called : (i : Lent × List ℕ) (o : Left (Result ActionsRead ActionsError) × List ℕ) → parse_actions_promise i o → ActionsTold i o
+  pub variables_called : (i : Lent) (o : Left (Result VariablesRead VariablesError)) → parse_variables_promise i o → TargetsTold AsWritten i o
+  pub update_targets_called : (i : Lent) (o : Left (Result VariablesRead VariablesError)) → parse_update_targets_promise i o → TargetsTold LookedUp i o
+  pub directives_called : (i : Called.Package) (o : (Result DirectivesRead DirectivesError) × Package.Lent) → directives_promise i o → PackageTold i o

@@ -2,7 +2,7 @@
 -- are what the definitions say, and each number is given exactly when document 02 says so. And for a text cut as in demand 3, whose line
 -- is blank (spaces, tabs, CRs) or blanks and then a comment: another such line in its place changes no number, value, line, text or word
 -- but spans in the input; of a refusal, nothing but the span.
-use Rattle.std.specs.Prelude.{◌≡◌, List, ◌++◌, ◌⊎◌, ℕ, ◌≤◌, ◌<◌, min, length}
+use Rattle.std.specs.Prelude.{◌≡◌, List, ◌++◌, ◌⊎◌, ℕ, ◌≤◌, ◌<◌, min, length, Result}
 use Rattle.lent.specs.Sizes.{directive_words, variable_words, action_words, room_for}
 use Rattle.lent.specs.Table.{Given, no_action, no_argument, no_variable}
 use Rattle.lent.specs.Admission.{Opened}
@@ -16,7 +16,8 @@ use Rattle.directives.specs.Table.{Outcome, given_by}
 use Rattle.directives.specs.Promises.{Lent, rooms_of, roomed, left_by, answer_given}
 use Rattle.directives.specs.Calls.{Lined, Named, Unoperated, Missing, Early, Faultless}
 use Rattle.directives.specs.Parts.{Idle, Unmoved, Called, Alike, SameTold}
-use Rattle.directives.specs.declared.Answer.{Answer}
+use Rattle.directives.specs.declared.Read.{Read as DirectivesRead}
+use Rattle.directives.specs.declared.DirectivesError.{DirectivesError}
 use Rattle.demands.specs.Calls.{Package, directives_promise}
 use Rattle.demands.specs.Demand2.{ByGate, Past}
 
@@ -68,9 +69,9 @@ pub record Exact (v : Version) (s : List ℕ) (m : Lent) (n : ℕ) : Type 0 wher
 
 pub record WholeDirectives : Type 0 where
   -- within the limit, in ASCII, and with byte buffers as long as asked, whatever the record buffers
-  pub equal : (i : Package) (o : Answer × Lent) → directives_promise i o → Opened i.input (least i.lent) (length i.input)
+  pub equal : (i : Package) (o : (Result DirectivesRead DirectivesError) × Lent) → directives_promise i o → Opened i.input (least i.lent) (length i.input)
       → Equals (roomed (rooms_of i.lent) (directives_for i.version i.input)) (answer_given o.0) i.lent o.1
-  pub exact : (i : Package) (o : Answer × Lent) → directives_promise i o → Exact i.version i.input i.lent (answer_given o.0).number
+  pub exact : (i : Package) (o : (Result DirectivesRead DirectivesError) × Lent) → directives_promise i o → Exact i.version i.input i.lent (answer_given o.0).number
   -- over the definitions: another blank or comment line in such a line's place
   pub replaced : (front line line' rest : List ℕ) → Closed front → Idle line → Idle line' → Unmoved front line line' rest
   -- over the promise of `directives`: what two calls tell, on buffers of the same lengths

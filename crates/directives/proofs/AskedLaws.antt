@@ -1,4 +1,5 @@
 -- What is asked of rules, in plain words: which rule lacks its id, and that the first such is the answer unless a fault stands before it.
+use Rattle.std.specs.Prelude.{Result, Ok, Err}
 use mathlib.Core.Path.{◌≡◌, refl, sym, ap, ◌∙◌, subst}
 use mathlib.Core.Logic.{◌↔◌, ◌⊎◌, inl, inr, ⊎_elim}
 use Prim.Native.Nat.{ℕ}
@@ -15,7 +16,7 @@ use Rattle.records.specs.Actions.{Action}
 use Rattle.records.specs.Codes.{id_code, chain_code}
 use Rattle.actions.specs.Having.{has}
 use Rattle.directives.specs.Groups.{Item, items}
-use Rattle.directives.specs.Directives.{Directive as Entry, Fault, id_missing, Result, bad, good, item_read, over, end_of, directives}
+use Rattle.directives.specs.Directives.{Directive as Entry, Fault, id_missing, item_read, over, end_of, directives}
 use Rattle.directives.specs.Layout.{actions_in}
 use Rattle.directives.specs.Versions.{Version, TwoSix, TwoSeven, is_rule, chained_on, lacks_id, asked, lead_by, leading, directives_for}
 use Rattle.directives.specs.Steps.{chained_by}
@@ -128,12 +129,12 @@ data Passing : Bool → List Entry → Type 0 where
   all : {c : Bool} → Passing c []
   more : {c : Bool} {d : Entry} {ds : List Entry} → lacks_id c d.body ≡ false → Passing (chained_on c d.body) ds → Passing c (d ∷ ds)
 
-asked_front : {A : Type 0} (o : Result A) (ds : List Entry) {c : Bool} {es : List Entry} → Passing c es → asked c (es ++ ds) o ≡ asked (chained_by c es) ds o
+asked_front : {A : Type 0} (o : Result A Fault) (ds : List Entry) {c : Bool} {es : List Entry} → Passing c es → asked c (es ++ ds) o ≡ asked (chained_by c es) ds o
 unfolding asked chained_by
 asked_front o ds all = refl
 asked_front o ds (more e p) = rw e (asked_front o ds p)
 
-asked_all : {A : Type 0} (o : Result A) {c : Bool} {es : List Entry} → Passing c es → asked c es o ≡ o
+asked_all : {A : Type 0} (o : Result A Fault) {c : Bool} {es : List Entry} → Passing c es → asked c es o ≡ o
 unfolding asked
 asked_all o all = refl
 asked_all o (more e p) = rw e (asked_all o p)
@@ -172,7 +173,7 @@ passing_identified ds p passed d after e u = go (passing_behind passed (subst (P
 identified_passing : (ds : List Entry) → Identified ds → Passing false ds
 identified_passing ds h = ⊎_elim (λ p. p) (λ k. absurd (h k.passed k.first k.after k.list (lacks_there k.passed k.first k.lacks))) (decide false ds)
 
-asked_lacking : {A : Type 0} (o : Result A) {c : Bool} {ds : List Entry} (k : Lacking c ds) → asked c ds o ≡ bad (id_missing k.first.line)
+asked_lacking : {A : Type 0} (o : Result A Fault) {c : Bool} {ds : List Entry} (k : Lacking c ds) → asked c ds o ≡ Err (id_missing k.first.line)
 unfolding asked
 asked_lacking o {c} k = ap (λ (l : List Entry). asked c l o) k.list ∙ asked_front o (k.first ∷ k.after) k.passing ∙ rw k.lacks
 
@@ -191,11 +192,11 @@ module _ (s : List ℕ) where
   unfolding over
   lead_good {xs} {ds} a = ap lead (sym (append-nil xs)) ∙ lead_front [] a ∙ append-nil ds
 
-  lead_bad : (passed : List Item) (this : Item) (after : List Item) {ds : List Entry} {f : Fault} → AllGood s passed ds → item_read s this ≡ bad f → lead (passed ++ this ∷ after) ≡ ds
+  lead_bad : (passed : List Item) (this : Item) (after : List Item) {ds : List Entry} {f : Fault} → AllGood s passed ds → item_read s this ≡ Err f → lead (passed ++ this ∷ after) ≡ ds
   unfolding over
   lead_bad passed item after {ds} a q = lead_front (item ∷ after) a ∙ rw q (append-nil ds)
 
-  lead_more : (passed : List Item) (this : Item) (after : List Item) {ds : List Entry} {d : Entry} → AllGood s passed ds → item_read s this ≡ good d → lead (passed ++ this ∷ after) ≡ ds ++ d ∷ lead after
+  lead_more : (passed : List Item) (this : Item) (after : List Item) {ds : List Entry} {d : Entry} → AllGood s passed ds → item_read s this ≡ Ok d → lead (passed ++ this ∷ after) ≡ ds ++ d ∷ lead after
   unfolding over
   lead_more passed item after a q = lead_front (item ∷ after) a ∙ rw q
 
@@ -206,7 +207,7 @@ module _ (s : List ℕ) where
     pub after : List Item
     pub list : xs ≡ passed ++ item ∷ after
     pub good_before : AllGood s passed es
-    pub read : item_read s item ≡ good d
+    pub read : item_read s item ≡ Ok d
 
   lead_split : (xs : List Item) (es : List Entry) (d : Entry) (after : List Entry) → lead xs ≡ es ++ d ∷ after → Split xs es d
   unfolding over
@@ -229,12 +230,12 @@ module _ (s : List ℕ) where
       rest [] = []
       rest (z ∷ zs) = zs
 
-      go : (r : Result Entry) → item_read s x ≡ r → (es : List Entry) → lead_by r (lead xs) ≡ es ++ d ∷ after → ((fs : List Entry) → lead xs ≡ fs ++ d ∷ after → Split xs fs d) → Split (x ∷ xs) es d
-      go (bad f) q es e next = absurd (nothing es e)
-      go (good y) q [] e next = record { passed = []; item = x; after = xs; list = refl; good_before = none; read = q ∙ ap (λ (l : List Entry). good (head y l)) e }
-      go (good y) q (z ∷ fs) e next =
+      go : (r : Result Entry Fault) → item_read s x ≡ r → (es : List Entry) → lead_by r (lead xs) ≡ es ++ d ∷ after → ((fs : List Entry) → lead xs ≡ fs ++ d ∷ after → Split xs fs d) → Split (x ∷ xs) es d
+      go (Err f) q es e next = absurd (nothing es e)
+      go (Ok y) q [] e next = record { passed = []; item = x; after = xs; list = refl; good_before = none; read = q ∙ ap (λ (l : List Entry). Ok (head y l)) e }
+      go (Ok y) q (z ∷ fs) e next =
           let k = next fs (ap rest e) in
-          record { passed = x ∷ k.passed; item = k.item; after = k.after; list = ap (λ (l : List Item). x ∷ l) k.list; good_before = also (q ∙ ap (λ (l : List Entry). good (head y l)) e) k.good_before; read = k.read }
+          record { passed = x ∷ k.passed; item = k.item; after = k.after; list = ap (λ (l : List Item). x ∷ l) k.list; good_before = also (q ∙ ap (λ (l : List Entry). Ok (head y l)) e) k.good_before; read = k.read }
 
 -- ---- a whole text
 
@@ -242,7 +243,7 @@ module _ (s : List ℕ) where
   abbrev all_items : List Item
   all_items = items false (reading s).tokens
 
-  abbrev end : Result (List Entry)
+  abbrev end : Result (List Entry) Fault
   end = end_of (length s) (reading s).stop
 
   leading_is : leading s ≡ over lead_by s [] all_items
@@ -294,7 +295,7 @@ module _ (s : List ℕ) where
         },
       )
 
-  missed : (l : ℕ) → FirstMissing s all_items l → directives_for TwoSeven s ≡ bad (id_missing l)
+  missed : (l : ℕ) → FirstMissing s all_items l → directives_for TwoSeven s ≡ Err (id_missing l)
   missed l m =
       let k : Lacking false (over lead_by s [] all_items) =
       record {
@@ -305,20 +306,20 @@ module _ (s : List ℕ) where
         passing = identified_passing m.entries m.identified_before;
         lacks = lacks_back m.entries m.entry m.unidentified;
       } in
-      seven_is ∙ asked_lacking (directives s) k ∙ ap (λ (n : ℕ). bad (id_missing n)) m.line
+      seven_is ∙ asked_lacking (directives s) k ∙ ap (λ (n : ℕ). Err (id_missing n)) m.line
 
-  seven_faulty : (f : Fault) → directives_for TwoSeven s ≡ bad f → Faulty TwoSeven s end all_items f
+  seven_faulty : (f : Fault) → directives_for TwoSeven s ≡ Err f → Faulty TwoSeven s end all_items f
   unfolding lacked
   seven_faulty f e =
       ⊎_elim (λ p. kept f p ((Order.text_faulty s f).0 (sym (seven_is ∙ asked_all (directives s) p) ∙ e)))
       (λ k. let m = lacked k in missing m.0 tt m.1 (ap fault_in_lem (sym e ∙ seven_is ∙ asked_lacking (directives s) k)))
       (decide false (over lead_by s [] all_items))
     where
-      fault_in_lem : Result (List Entry) → Fault
-      fault_in_lem (bad g) = g
-      fault_in_lem (good ds) = id_missing 0
+      fault_in_lem : Result (List Entry) Fault → Fault
+      fault_in_lem (Err g) = g
+      fault_in_lem (Ok ds) = id_missing 0
 
-  faulty_seven : (f : Fault) → Faulty TwoSeven s end all_items f → directives_for TwoSeven s ≡ bad f
+  faulty_seven : (f : Fault) → Faulty TwoSeven s end all_items f → directives_for TwoSeven s ≡ Err f
   faulty_seven f (in_item x) =
       unasked (ap (over lead_by s []) x.list ∙ lead_bad s x.passed x.this x.after x.good_before x.fault) x.sound_before
       ∙ (Order.text_faulty s f).1 (in_item (record {
@@ -331,27 +332,27 @@ module _ (s : List ℕ) where
         sound_before = tt;
         fault = x.fault;
       }))
-  faulty_seven f (missing l h m e) = missed l m ∙ ap (λ (g : Fault). bad g) (sym e)
+  faulty_seven f (missing l h m e) = missed l m ∙ ap (λ (g : Fault). Err g) (sym e)
   faulty_seven f (at_end ds a h e) = unasked (lead_good s a) h ∙ (Order.text_faulty s f).1 (at_end ds a tt e)
 
   -- a fault is the answer exactly when it is the first in text order
-  pub text_faulty : (v : Version) (f : Fault) → (directives_for v s ≡ bad f) ↔ Faulty v s (end_of (length s) (reading s).stop) (items false (reading s).tokens) f
+  pub text_faulty : (v : Version) (f : Fault) → (directives_for v s ≡ Err f) ↔ Faulty v s (end_of (length s) (reading s).stop) (items false (reading s).tokens) f
   unfolding directives_for
   text_faulty TwoSix f = Order.text_faulty s f
   text_faulty TwoSeven f = (seven_faulty f, faulty_seven f)
 
-  seven_good : (ds : List Entry) → directives_for TwoSeven s ≡ good ds → AllGood s all_items ds × (Identified ds × (end ≡ good []))
+  seven_good : (ds : List Entry) → directives_for TwoSeven s ≡ Ok ds → AllGood s all_items ds × (Identified ds × (end ≡ Ok []))
   seven_good ds e =
       let w = (Order.text_good s ds).0 (for_good TwoSeven s ds e) in
       ⊎_elim (λ p. (w.0, (sound_in (lead_good s w.0) p, w.1)))
       (λ k. absurd (never (sym (seven_is ∙ asked_lacking (directives s) k) ∙ e)))
       (decide false (over lead_by s [] all_items))
     where
-      never : {f : Fault} → ◌≡◌ {A = Result (List Entry)} (bad f) (good ds) → ⊥
+      never : {f : Fault} → ◌≡◌ {A = Result (List Entry) Fault} (Err f) (Ok ds) → ⊥
       never q = let z : ◌≡◌ {A = ℕ} 0 1 = cc in absurd (omega arith)
 
   -- number 0, 4 aside: each item is good and reading came to the end, and where ids are asked for none is missing
-  pub text_good : (v : Version) (ds : List Entry) → (directives_for v s ≡ good ds) ↔ (AllGood s (items false (reading s).tokens) ds × (Sound v ds × (end_of (length s) (reading s).stop ≡ good [])))
+  pub text_good : (v : Version) (ds : List Entry) → (directives_for v s ≡ Ok ds) ↔ (AllGood s (items false (reading s).tokens) ds × (Sound v ds × (end_of (length s) (reading s).stop ≡ Ok [])))
   unfolding directives_for
   text_good TwoSix ds = (λ e. let w = (Order.text_good s ds).0 e in (w.0, (tt, w.1)), λ h. (Order.text_good s ds).1 (h.0, h.1.1))
   text_good TwoSeven ds = (seven_good ds, λ h. unasked (lead_good s h.0) h.1.0 ∙ (Order.text_good s ds).1 (h.0, h.1.1))

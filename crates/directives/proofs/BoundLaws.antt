@@ -1,5 +1,6 @@
 -- How many records a text of n bytes can have: n / 3 directives, n / 2 variables and exclusions, n / 3 actions; with so much room 4 is never given.
 -- A directive's name has three bytes at least; its variables take two bytes each, and its actions three, a byte of the name lent to the last.
+use Rattle.std.specs.Prelude.{Result, Ok, Err}
 use mathlib.Core.Path.{◌≡◌, refl, sym, ap, subst}
 use mathlib.Core.Bool.{Bool, true, false}
 use mathlib.Core.List.{List, [], ◌∷◌, map}
@@ -42,11 +43,10 @@ use Rattle.actions.proofs.NormalLaws.{normalised_length}
 use Rattle.actions.proofs.BoundLaws as Acting
 use Rattle.operators.specs.Operators.{Spec}
 use Rattle.directives.specs.Groups.{Item, joined, stray, item_by, items}
-use Rattle.directives.specs.Directives.{Listed, listed_by, Body, act, defaults, Directive, Result, bad, good, stopped, variables_read, operator_read, actions_read, Shape, of_rule, of_action, of_marker, of_defaults, of_other, shape_of, rule_by, act_by, told, body_by, sited, last_past, placed, directive_of, item_read, before, over, ending, end_of, directives}
+use Rattle.directives.specs.Directives.{Listed, listed_by, Body, act, defaults, Directive, stopped, variables_read, operator_read, actions_read, Shape, of_rule, of_action, of_marker, of_defaults, of_other, shape_of, rule_by, act_by, told, body_by, sited, last_past, placed, directive_of, item_read, before, over, ending, end_of, directives, Fault}
 use Rattle.directives.specs.Versions.{Version}
 use Rattle.directives.specs.Layout.{listed_count, action_count, listed_counts, action_counts}
-use Rattle.directives.specs.Promises.{Lent, answer_given, Directives}
-use Rattle.directives.specs.declared.Answer.{Answer}
+use Rattle.directives.specs.Promises.{Answer, Lent, answer_given, Directives}
 use Rattle.directives.proofs.OrderLaws.{text_good, end_good}
 use Rattle.directives.proofs.PromiseLaws.{directives_numbers}
 use Rattle.directives.proofs.SitedLaws.{sited_same}
@@ -76,9 +76,9 @@ acted_few a = go (actions_read a) refl
     go (reads xs) e = omega (arith, Acting.listed_most (normalised a) xs e, normalised_length a)
     go (refuses f) e = tt
 
-abbrev BodyFew : ℕ → Result Body → Type 0
-BodyFew n (good x) = (2 * listed_count x ≤ n) × (3 * action_count x ≤ n)
-BodyFew n (bad f) = Unit {0}
+abbrev BodyFew : ℕ → Result Body Fault → Type 0
+BodyFew n (Ok x) = (2 * listed_count x ≤ n) × (3 * action_count x ≤ n)
+BodyFew n (Err f) = Unit {0}
 
 rule_few : (l n i j : ℕ) (v : Outcome Listed) (o : Outcome Spec) (a : Outcome (List (Sourced Action))) → ListedFew i v → ActedFew j a → i ≤ n → j ≤ n → BodyFew n (told l (rule_by v o a))
 rule_few l n i j (refuses f) o a h k p q = tt
@@ -185,22 +185,22 @@ items_long taking (t ∷ ts) (cons h hs) = go t.kind refl taking (items_long tru
     go Comment e taking a b = b
     go Newline e taking a b = b
 
-abbrev OneFew : ℕ → Result Directive → Type 0
-OneFew n (good d) = (3 ≤ n) × (2 * listed_count d.body ≤ n) × (3 * action_count d.body ≤ n)
-OneFew n (bad f) = Unit {0}
+abbrev OneFew : ℕ → Result Directive Fault → Type 0
+OneFew n (Ok d) = (3 ≤ n) × (2 * listed_count d.body ≤ n) × (3 * action_count d.body ≤ n)
+OneFew n (Err f) = Unit {0}
 
-abbrev Few : ℕ → Result (List Directive) → Type 0
-Few n (good ds) = (3 * length ds ≤ n) × (2 * listed_counts ds ≤ n) × (3 * action_counts ds ≤ n)
-Few n (bad f) = Unit {0}
+abbrev Few : ℕ → Result (List Directive) Fault → Type 0
+Few n (Ok ds) = (3 * length ds ≤ n) × (2 * listed_counts ds ≤ n) × (3 * action_counts ds ≤ n)
+Few n (Err f) = Unit {0}
 
-placed_few : (n l first past : ℕ) (x : Result Body) → 3 ≤ n → BodyFew n x → OneFew n (placed l first past x)
-placed_few n l first past (good x) h k = (h, k.0, k.1)
-placed_few n l first past (bad f) h k = tt
+placed_few : (n l first past : ℕ) (x : Result Body Fault) → 3 ≤ n → BodyFew n x → OneFew n (placed l first past x)
+placed_few n l first past (Ok x) h k = (h, k.0, k.1)
+placed_few n l first past (Err f) h k = tt
 
 -- wherever it was read from
-sited_few : (n : ℕ) (s : List ℕ) (shape : Shape) (args : List Token) (x : Result Body) → BodyFew n x → BodyFew n (sited s shape args x)
-sited_few n s shape args (bad f) h = tt
-sited_few n s shape args (good x) (h, k) = let e = sited_same s args x in (omega (arith, h, e.listed), omega (arith, k, e.acted))
+sited_few : (n : ℕ) (s : List ℕ) (shape : Shape) (args : List Token) (x : Result Body Fault) → BodyFew n x → BodyFew n (sited s shape args x)
+sited_few n s shape args (Err f) h = tt
+sited_few n s shape args (Ok x) (h, k) = let e = sited_same s args x in (omega (arith, h, e.listed), omega (arith, k, e.acted))
 
 item_few : (s : List ℕ) (x : Item) → Long x → OneFew (item_total x) (item_read s x)
 unfolding item_read directive_of
@@ -212,13 +212,13 @@ item_few s (joined t args) h =
     (placed_few (length t.text + all (map text_of args)) t.line.0 t.first (last_past t.past args) (sited s shape args body) (omega arith)
     (sited_few (length t.text + all (map text_of args)) s shape args body (body_few t.line.0 t.text (omega arith) shape (map text_of args))))
 
-before_few : (m n : ℕ) (x : Result Directive) (o : Result (List Directive)) → OneFew m x → Few n o → Few (m + n) (before x o)
+before_few : (m n : ℕ) (x : Result Directive Fault) (o : Result (List Directive) Fault) → OneFew m x → Few n o → Few (m + n) (before x o)
 unfolding listed_counts action_counts
-before_few m n (bad f) o h k = tt
-before_few m n (good d) (bad f) h k = tt
-before_few m n (good d) (good ds) (a, b, c) (i, j, k) = (omega arith, omega arith, omega arith)
+before_few m n (Err f) o h k = tt
+before_few m n (Ok d) (Err f) h k = tt
+before_few m n (Ok d) (Ok ds) (a, b, c) (i, j, k) = (omega arith, omega arith, omega arith)
 
-ending_few : (s : List ℕ) (o : Result (List Directive)) (xs : List Item) → Few 0 o → AllLong xs → Few (items_total xs) (ending s o xs)
+ending_few : (s : List ℕ) (o : Result (List Directive) Fault) (xs : List Item) → Few 0 o → AllLong xs → Few (items_total xs) (ending s o xs)
 unfolding over items_total
 ending_few s o [] h l = h
 ending_few s o (x ∷ xs) h l = before_few (item_total x) (items_total xs) (item_read s x) (ending s o xs) (item_few s x l.0) (ending_few s o xs h l.1)
@@ -227,16 +227,16 @@ end_few : (n : ℕ) (c : Cursor) → Few 0 (end_of n c)
 unfolding end_of listed_counts action_counts
 end_few n c = go (ltb c.place n)
   where
-    go : (t : Bool) → Few 0 (pick t (bad (stopped c.line.0)) (good []))
+    go : (t : Bool) → Few 0 (pick t (Err (stopped c.line.0)) (Ok []))
     go true = tt
     go false = (omega arith, omega arith, omega arith)
 
-more_few : (m n : ℕ) (o : Result (List Directive)) → m ≤ n → Few m o → Few n o
-more_few m n (good ds) h (i, j, k) = (omega arith, omega arith, omega arith)
-more_few m n (bad f) h k = tt
+more_few : (m n : ℕ) (o : Result (List Directive) Fault) → m ≤ n → Few m o → Few n o
+more_few m n (Ok ds) h (i, j, k) = (omega arith, omega arith, omega arith)
+more_few m n (Err f) h k = tt
 
 -- The three bounds: a text of n bytes has no more than n / 3 directives, n / 2 variables and exclusions, and n / 3 actions.
-pub directives_most : (s : List ℕ) (ds : List Directive) → directives s ≡ good ds → (3 * length ds ≤ length s) × (2 * listed_counts ds ≤ length s) × (3 * action_counts ds ≤ length s)
+pub directives_most : (s : List ℕ) (ds : List Directive) → directives s ≡ Ok ds → (3 * length ds ≤ length s) × (2 * listed_counts ds ≤ length s) × (3 * action_counts ds ≤ length s)
 unfolding directives
 directives_most s ds e =
     subst (Few (length s)) e

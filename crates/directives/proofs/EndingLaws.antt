@@ -1,4 +1,8 @@
 -- How a call ends: what the two endings leave, and from what was read to what `directives` promises, one law for each way out.
+use Rattle.directives.specs.declared.DirectivesError.TheVariants.{Gate, Refused, NoRoom}
+use Rattle.lent.specs.declared.gating.GateError.{GateError}
+use Rattle.lent.specs.declared.gating.GateError.TheVariants.{TooLong, Short, NotAscii}
+use Rattle.std.specs.Prelude.{Ok, Err, Result}
 use mathlib.Core.Path.{◌≡◌, refl, sym, ap, subst, ◌∙◌}
 use mathlib.Core.Bool.{Bool, true, false}
 use mathlib.Core.List.{List}
@@ -11,18 +15,16 @@ use Rattle.lent.specs.Sizes.{limit, variable_words, action_words, directive_word
 use Rattle.lent.specs.Buffers.{zeros, padded, stored, stored_each, joined}
 use Rattle.lent.specs.Gates.{gate_of}
 use Rattle.lent.specs.Table.{Refusal, refused as refused_given}
-use Rattle.lent.specs.declared.gating.Gate.{Gate}
 use Rattle.lent.proofs.GateLaws.{open_is}
 use Rattle.lent.proofs.BufferLaws.{taken_first, each_fits, each_length}
 use Rattle.lent.proofs.EndLaws.{words_fit, beyond_cleared}
-use Rattle.directives.specs.Directives.{Directive, Result, bad, good}
+use Rattle.directives.specs.Directives.{Directive, Fault as Cause}
 use Rattle.directives.specs.Versions.{Version, directives_for}
 use Rattle.directives.specs.Layout.{reached, listed_counts, action_counts, directives_from, variables_from, actions_from}
 use Rattle.directives.specs.Table.{shut, overfull, filled, past_gate}
-use Rattle.directives.specs.Promises.{Lent, lent_of, rooms_of, lacks, roomed, laid_out, directives_outcome, outcome_on, answer_given, naming, Directives}
+use Rattle.directives.specs.Promises.{Answer, Lent, lent_of, rooms_of, lacks, roomed, laid_out, directives_outcome, outcome_on, answer_given, naming, Directives, read_as}
 use Rattle.directives.specs.Steps.{Laid, directive_each, each_from, listed_each, acted_each, tally_of, Written, AllRead, FirstFault, lacks_for, cleared_from, Refuses, EndsBy, Finishes}
 use Rattle.directives.specs.declared.Fault.{Fault}
-use Rattle.directives.specs.declared.Answer.{Answer}
 use Rattle.directives.specs.declared.parts.Tally.{Tally}
 use Rattle.directives.proofs.RoomLaws.{under_is}
 use Rattle.directives.proofs.LayoutLaws.{directives_long, variables_long, actions_long}
@@ -43,7 +45,7 @@ rooms_fit d v a t e =
 module _ (t : Tally) (text records variables actions : List ℕ) {full : Bool} (e : full ≡ lacks_for (length records) (length variables) (length actions) t) where
   pub ends_full : full ≡ true → {text' records' variables' actions' : List ℕ}
       → text' ≡ zeros (length text) → records' ≡ zeros (length records) → variables' ≡ zeros (length variables) → actions' ≡ zeros (length actions)
-      → Finishes t text text' records records' variables variables' actions actions' (Answer.NoRoom t.directives t.variables t.actions)
+      → Finishes t text text' records records' variables variables' actions actions' (Err (NoRoom t.directives t.variables t.actions))
   ends_full h x r v a = let z = sym e ∙ h in record { answer = rw z; texts = rw z x; recorded = rw z r; listed = rw z v; acted = rw z a }
 
   pub ends_fit : full ≡ false → Inside (length records) (length variables) (length actions) t
@@ -58,7 +60,7 @@ module _ (t : Tally) (text records variables actions : List ℕ) {full : Bool} (
       records (put_mid (t.directives * directive_words) (length records - t.directives * directive_words) records r)
       variables (put_mid (t.variables * variable_words) (length variables - t.variables * variable_words) variables v)
       actions (put_mid (t.actions * action_words) (length actions - t.actions * action_words) actions a)
-      (Answer.Read t.directives t.variables t.actions t.text)
+      (Ok (read_as t.directives t.variables t.actions t.text))
   ends_left h x r v a =
       let z = sym e ∙ h in
       let f = ends_fit h in
@@ -99,16 +101,16 @@ words_front old rs w {n} {new} e j l h =
 
 -- ---- the ways out
 
-module _ (version : Version) (s text scratch records variables actions : List ℕ) {least : ℕ} {g : Gate} (m : least ≡ min (length text) (length scratch)) (e : g ≡ gate_of s least (length s)) where
+module _ (version : Version) (s text scratch records variables actions : List ℕ) {least : ℕ} {g : (Result Unit GateError)} (m : least ≡ min (length text) (length scratch)) (e : g ≡ gate_of s least (length s)) where
   abbrev lent : Lent
   lent = lent_of text scratch records variables actions
 
-  outcome_by_lem : (h : Gate) (o : Result (List Directive)) → g ≡ h → directives_for version s ≡ o → outcome_on version s lent ≡ past_gate h (roomed (rooms_of lent) o)
+  outcome_by_lem : (h : Result Unit GateError) (o : Result (List Directive) Cause) → g ≡ h → directives_for version s ≡ o → outcome_on version s lent ≡ past_gate h (roomed (rooms_of lent) o)
   unfolding directives_outcome
   outcome_by_lem h o f d = rw (← m, ← e, f, d)
 
   -- past the checks both byte buffers have room for the input
-  pub open_rooms : g ≡ Gate.Open → (length s ≤ limit) × ((length s ≤ length text) × (length s ≤ length scratch))
+  pub open_rooms : g ≡ (Ok tt) → (length s ≤ limit) × ((length s ≤ length text) × (length s ≤ length scratch))
   open_rooms f =
       let o = (open_is s least (length s)).0 (sym e ∙ f) in
       (o.within, (omega (arith, o.room, m), omega (arith, o.room, m)))
@@ -117,22 +119,18 @@ module _ (version : Version) (s text scratch records variables actions : List �
   untouched : (x : Refusal) (r : Answer) → outcome_on version s lent ≡ shut x → answer_given r ≡ refused_given x → Directives version s lent lent r
   untouched x r z a = record { answer = rw z a; text = rw z; scratch = rw z; directives = rw z; variables = rw z; actions = rw z }
 
-  pub too_long : g ≡ Gate.TooLong → Directives version s lent lent Answer.TooLong
-  too_long f = untouched _ _ (outcome_by_lem Gate.TooLong (directives_for version s) f refl) refl
-
-  pub not_ascii : (p : ℕ) → g ≡ Gate.NotAscii p → Directives version s lent lent (Answer.NotAscii p)
-  not_ascii p f = untouched _ _ (outcome_by_lem (Gate.NotAscii p) (directives_for version s) f refl) refl
-
-  pub short : g ≡ Gate.Short → Directives version s lent lent Answer.Short
-  short f = untouched _ _ (outcome_by_lem Gate.Short (directives_for version s) f refl) refl
+  pub gated : (x : GateError) → g ≡ Err x → Directives version s lent lent (Err (Gate x))
+  gated TooLong f = untouched _ _ (outcome_by_lem (Err TooLong) (directives_for version s) f refl) refl
+  gated (NotAscii p) f = untouched _ _ (outcome_by_lem (Err (NotAscii p)) (directives_for version s) f refl) refl
+  gated Short f = untouched _ _ (outcome_by_lem (Err Short) (directives_for version s) f refl) refl
 
   -- past them scratch is cleared
-  module _ (f : g ≡ Gate.Open) {scratch' : List ℕ} (k : scratch' ≡ zeros (length scratch)) where
+  module _ (f : g ≡ (Ok tt)) {scratch' : List ℕ} (k : scratch' ≡ zeros (length scratch)) where
     pub refused : {text₁ text' records₁ records' variables₁ variables' actions₁ actions' : List ℕ} {r : Fault} → FirstFault version s text text₁ r
         → length text₁ ≡ length text → length records₁ ≡ length records → length variables₁ ≡ length variables → length actions₁ ≡ length actions
-        → Refuses r text₁ text' records₁ records' variables₁ variables' actions₁ actions' → Directives version s lent (lent_of text' scratch' records' variables' actions') (Answer.Refused r)
+        → Refuses r text₁ text' records₁ records' variables₁ variables' actions₁ actions' → Directives version s lent (lent_of text' scratch' records' variables' actions') (Err (Refused r))
     refused {text₁ = text₁} {r = r} x lt lr lv la y =
-        let z = outcome_by_lem Gate.Open (bad x.fault) f x.read in
+        let z = outcome_by_lem (Ok tt) (Err x.fault) f x.read in
         record {
           answer = rw z x.faulted.given;
           text = rw z (y.texts ∙ ap (λ (n : ℕ). pick (naming r) text₁ (zeros n)) lt ∙ x.faulted.left);
@@ -170,7 +168,7 @@ module _ (version : Version) (s text scratch records variables actions : List �
 
         go : (b : Bool) → lacks (rooms_of lent) ds ≡ b → EndsBy b (tally_of ds) text₁ text' records₁ records' variables₁ variables' actions₁ actions' r → Directives version s lent (lent_of text' scratch' records' variables' actions') r
         go true q y =
-            let z : outcome_on version s lent ≡ overfull (length ds) (listed_counts ds) (action_counts ds) = outcome_by_lem Gate.Open (good ds) f x.read ∙ rw q in
+            let z : outcome_on version s lent ≡ overfull (length ds) (listed_counts ds) (action_counts ds) = outcome_by_lem (Ok tt) (Ok ds) f x.read ∙ rw q in
             record {
               answer = rw (z, y.answer);
               text = rw z (y.texts ∙ ap zeros w.laid.long);
@@ -180,7 +178,7 @@ module _ (version : Version) (s text scratch records variables actions : List �
               actions = rw z (y.acted ∙ ap zeros la);
             }
         go false q y =
-            let z : outcome_on version s lent ≡ filled (laid_out ds) = outcome_by_lem Gate.Open (good ds) f x.read ∙ rw q in
+            let z : outcome_on version s lent ≡ filled (laid_out ds) = outcome_by_lem (Ok tt) (Ok ds) f x.read ∙ rw q in
             let h = rooms_fit (length records) (length variables) (length actions) (tally_of ds) q in
             record {
               answer = rw (z, y.answer);

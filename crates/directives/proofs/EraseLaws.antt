@@ -1,4 +1,5 @@
 -- Directives without their spans in the input are laid out as before, but for 0 where each record has one.
+use Rattle.std.specs.Prelude.{Result, Ok, Err}
 use mathlib.Core.Path.{◌≡◌, refl, sym, ap, ap₂, ◌∙◌}
 use Prim.Native.Nat.{ℕ, zero, suc, ◌+◌, ◌-◌}
 use mathlib.Core.Bool.{Bool, true, false}
@@ -13,7 +14,7 @@ use Rattle.variables.specs.Variables.{Variable}
 use Rattle.variables.specs.Layout as Targets
 use Rattle.records.specs.Actions.{Action, action_text, slot_text}
 use Rattle.records.specs.Layout as Acts
-use Rattle.directives.specs.Directives.{Body, rule, act, marker, defaults, unknown, Directive, Fault, wrong_count, untaken, stopped, id_missing, within, Result, bad, good}
+use Rattle.directives.specs.Directives.{Body, rule, act, marker, defaults, unknown, Directive, Fault, wrong_count, untaken, stopped, id_missing, within}
 use Rattle.directives.specs.Layout.{Reached, reached, past_body, kind_code, name_slot, listed_in, negated_word, operator_word, argument_slot, actions_in, name_end, listed_end, argument_end, directive_text, directive_record, texts, listed_count, action_count, listed_counts, action_counts, directives_from, variables_from, actions_from}
 use Rattle.directives.specs.Table.{Outcome, shut, faulty, overfull, filled, fault_name, text_by, records_by, scratch_by}
 use Rattle.directives.specs.Promises.{Rooms, laid_out, lacks, roomed}
@@ -208,9 +209,9 @@ words_erased r (d ∷ ds) =
 
 -- ---- outcomes
 
-pub outcome_erased : (m : Rooms) (o : Result (List Directive)) → roomed m (erased_all o) ≡ unspanned_outcome (roomed m o)
-outcome_erased m (bad f) = refl
-outcome_erased m (good ds) =
+pub outcome_erased : (m : Rooms) (o : Result (List Directive) Fault) → roomed m (erased_all o) ≡ unspanned_outcome (roomed m o)
+outcome_erased m (Err f) = refl
+outcome_erased m (Ok ds) =
     rw (count_erased ds, listed_erased ds, actions_erased ds, texts_erased ds, variables_erased 0 ds, action_words_erased 0 ds, words_erased (reached 0 0 0) ds)
     (go (lacks m ds))
   where

@@ -1,5 +1,6 @@
 -- The texts of an accepted text, and the name of a refused one, are no longer than the input: so the text buffer that 3 asks for suffices.
 -- Each argument pays for its own texts, each token for its argument, and the lexer's law for all tokens.
+use Rattle.std.specs.Prelude.{Option, Some, None, Result, Ok, Err}
 use mathlib.Core.Path.{◌≡◌, refl, sym, ap, subst}
 use Prim.Native.Nat.{ℕ, suc, ◌+◌, ◌≤◌}
 use native.Mathlib.Omega.{arith}
@@ -13,8 +14,6 @@ use Rattle.ascii.specs.Trim.{trim_ends}
 use Rattle.ascii.specs.Splits.{Split, whole, halves}
 use Rattle.ascii.proofs.SplitLaws.{spread, split_spread}
 use Rattle.ascii.proofs.TrimLaws.{ends_fit}
-use Rattle.names.specs.declared.Lookup.{Lookup}
-use Rattle.names.specs.declared.Lookup.TheVariants.{Code, Unknown}
 use Rattle.names.specs.Variables.{variable_code}
 use Rattle.names.specs.Operators.{operator_code}
 use Rattle.lent.specs.Sources.{Part, Sourced}
@@ -50,7 +49,7 @@ use Rattle.actions.proofs.LengthLaws as Actions
 use Rattle.actions.proofs.NormalLaws.{normalised_length}
 use Rattle.actions.proofs.CountLaws.{Counted, from_counted, pieces_count}
 use Rattle.directives.specs.Groups.{Item, joined, stray, argument_by, arguments_of, item_by, items}
-use Rattle.directives.specs.Directives.{Listed, Body, act, defaults, Directive as Entry, stopped, Result, bad, good, listed_by, variables_read, operator_read, actions_read, Shape, of_rule, of_action, of_marker, of_defaults, of_other, shape_of, rule_by, act_by, told, body_by, sited, last_past, placed, directive_of, item_read, before, over, ending, end_of, directives}
+use Rattle.directives.specs.Directives.{Listed, Body, act, defaults, Directive as Entry, stopped, listed_by, variables_read, operator_read, actions_read, Shape, of_rule, of_action, of_marker, of_defaults, of_other, shape_of, rule_by, act_by, told, body_by, sited, last_past, placed, directive_of, item_read, before, over, ending, end_of, directives, Fault}
 use Rattle.directives.specs.Layout.{body_text, listed_count, action_count, directive_text, texts, listed_counts, action_counts}
 use Rattle.directives.specs.Table.{name_left, fault_name}
 use Rattle.directives.proofs.SitedLaws.{sited_same, fault_name_lem}
@@ -67,9 +66,9 @@ abbrev NameShort : ℕ → Single → Type 0
 NameShort k (variable v) = Unit {0}
 NameShort k (unknown name) = length name ≤ k
 
-named_short : (k : ℕ) (l : Lookup) (name : List ℕ) (counts : Bool) (chosen : Selection) → length name ≤ k → NameShort k (One.named l name counts chosen)
-named_short k (Code c) name counts chosen h = tt
-named_short k Unknown name counts chosen h = h
+named_short : (k : ℕ) (l : Option ℕ) (name : List ℕ) (counts : Bool) (chosen : Selection) → length name ≤ k → NameShort k (One.named l name counts chosen)
+named_short k (Some c) name counts chosen h = tt
+named_short k None name counts chosen h = h
 
 split_short : (k : ℕ) (x : Split) (counts : Bool) → spread x ≤ k → NameShort k (split_single x counts)
 split_short k (whole name) counts h = named_short k (variable_code name) name counts One.none h
@@ -141,9 +140,9 @@ abbrev pub OperatorFits : ℕ → Outcome Spec → Type 0
 OperatorFits n (reads x) = length x.argument ≤ n
 OperatorFits n (refuses f) = name_left f ≡ []
 
-name_fits_lem : (n : ℕ) (s : List ℕ) (negated : Bool) (l : Lookup) → length (argument_text s true) ≤ n → OperatorFits n (outcome_of s (Op.named negated (after_at s) l))
-name_fits_lem n s negated (Code k) h = h
-name_fits_lem n s negated Unknown h = refl
+name_fits_lem : (n : ℕ) (s : List ℕ) (negated : Bool) (l : Option ℕ) → length (argument_text s true) ≤ n → OperatorFits n (outcome_of s (Op.named negated (after_at s) l))
+name_fits_lem n s negated (Some k) h = h
+name_fits_lem n s negated None h = refl
 
 pub operator_fits : (s : List ℕ) → OperatorFits (length s) (operator_read s)
 unfolding operator
@@ -182,9 +181,9 @@ actions_fit s =
 -- ---- one directive
 
 -- what is written, or the name that is left, is at most n bytes long, and there are no more records of variables and actions
-abbrev pub BodyFits : ℕ → Result Body → Type 0
-BodyFits n (good x) = (length (body_text x) ≤ n) × (listed_count x + action_count x ≤ n)
-BodyFits n (bad f) = length (fault_name f) ≤ n
+abbrev pub BodyFits : ℕ → Result Body Fault → Type 0
+BodyFits n (Ok x) = (length (body_text x) ≤ n) × (listed_count x + action_count x ≤ n)
+BodyFits n (Err f) = length (fault_name f) ≤ n
 
 abbrev ReadFits : ℕ → Outcome Body → Type 0
 ReadFits n (reads x) = (length (body_text x) ≤ n) × (listed_count x + action_count x ≤ n)
@@ -210,9 +209,9 @@ act_fits : (n : ℕ) (make : List (Sourced Action) → Body) (o : Outcome (List 
 act_fits n make (refuses f) e h = h
 act_fits n make (reads xs) e (h, k) = rw ((e xs).0, (e xs).1) (h, k)
 
-body_more : (m n : ℕ) (x : Result Body) → m ≤ n → BodyFits m x → BodyFits n x
-body_more m n (good x) h (j, k) = (omega arith, omega arith)
-body_more m n (bad f) h k = omega arith
+body_more : (m n : ℕ) (x : Result Body Fault) → m ≤ n → BodyFits m x → BodyFits n x
+body_more m n (Ok x) h (j, k) = (omega arith, omega arith)
+body_more m n (Err f) h k = omega arith
 
 module _ (l : ℕ) (name : List ℕ) where
   rule_told : (v o : List ℕ) (c : ℕ) (x : Outcome (List (Sourced Action))) → ActionsFit c x → BodyFits (length v + (length o + c)) (told l (rule_by (variables_read v) (operator_read o) x))
@@ -283,22 +282,22 @@ items_total_lem (t ∷ ts) = go t.kind (items_total_lem ts).0 (items_total_lem t
 
 -- ---- a whole text
 
-abbrev OneFits : ℕ → Result Entry → Type 0
-OneFits n (good d) = (length (directive_text d) ≤ n) × (listed_count d.body + action_count d.body ≤ n)
-OneFits n (bad f) = length (fault_name f) ≤ n
+abbrev OneFits : ℕ → Result Entry Fault → Type 0
+OneFits n (Ok d) = (length (directive_text d) ≤ n) × (listed_count d.body + action_count d.body ≤ n)
+OneFits n (Err f) = length (fault_name f) ≤ n
 
-abbrev pub ResultFits : ℕ → Result (List Entry) → Type 0
-ResultFits n (good ds) = (length (texts ds) ≤ n) × (listed_counts ds + action_counts ds ≤ n)
-ResultFits n (bad f) = length (fault_name f) ≤ n
+abbrev pub ResultFits : ℕ → Result (List Entry) Fault → Type 0
+ResultFits n (Ok ds) = (length (texts ds) ≤ n) × (listed_counts ds + action_counts ds ≤ n)
+ResultFits n (Err f) = length (fault_name f) ≤ n
 
-placed_fits : (n l first past : ℕ) (x : Result Body) → BodyFits n x → OneFits n (placed l first past x)
-placed_fits n l first past (bad f) h = h
-placed_fits n l first past (good x) h = h
+placed_fits : (n l first past : ℕ) (x : Result Body Fault) → BodyFits n x → OneFits n (placed l first past x)
+placed_fits n l first past (Err f) h = h
+placed_fits n l first past (Ok x) h = h
 
 -- wherever it was read from
-sited_fits : (n : ℕ) (s : List ℕ) (shape : Shape) (args : List Token) (x : Result Body) → BodyFits n x → BodyFits n (sited s shape args x)
-sited_fits n s shape args (bad f) h = rw (fault_name_lem s shape args f) h
-sited_fits n s shape args (good x) (h, k) = let e = sited_same s args x in (omega (arith, h, ap length e.text), omega (arith, k, e.listed, e.acted))
+sited_fits : (n : ℕ) (s : List ℕ) (shape : Shape) (args : List Token) (x : Result Body Fault) → BodyFits n x → BodyFits n (sited s shape args x)
+sited_fits n s shape args (Err f) h = rw (fault_name_lem s shape args f) h
+sited_fits n s shape args (Ok x) (h, k) = let e = sited_same s args x in (omega (arith, h, ap length e.text), omega (arith, k, e.listed, e.acted))
 
 item_fits : (s : List ℕ) (x : Item) → OneFits (item_total x) (item_read s x)
 unfolding item_read directive_of
@@ -310,13 +309,13 @@ item_fits s (joined t args) =
     (placed_fits (length t.text + all (map text_of args)) t.line.0 t.first (last_past t.past args) (sited s shape args body)
     (sited_fits (length t.text + all (map text_of args)) s shape args body (body_fits t.line.0 t.text shape (map text_of args))))
 
-before_fits : (m n : ℕ) (x : Result Entry) (o : Result (List Entry)) → OneFits m x → ResultFits n o → ResultFits (m + n) (before x o)
+before_fits : (m n : ℕ) (x : Result Entry Fault) (o : Result (List Entry) Fault) → OneFits m x → ResultFits n o → ResultFits (m + n) (before x o)
 unfolding texts_of listed_counts action_counts
-before_fits m n (bad f) o h k = omega arith
-before_fits m n (good d) (bad f) h k = omega arith
-before_fits m n (good d) (good ds) (h, i) (j, k) = (omega (arith, length-append (directive_text d) (texts ds)), omega arith)
+before_fits m n (Err f) o h k = omega arith
+before_fits m n (Ok d) (Err f) h k = omega arith
+before_fits m n (Ok d) (Ok ds) (h, i) (j, k) = (omega (arith, length-append (directive_text d) (texts ds)), omega arith)
 
-ending_fits : (s : List ℕ) (o : Result (List Entry)) (xs : List Item) → ResultFits 0 o → ResultFits (items_total xs) (ending s o xs)
+ending_fits : (s : List ℕ) (o : Result (List Entry) Fault) (xs : List Item) → ResultFits 0 o → ResultFits (items_total xs) (ending s o xs)
 unfolding over items_total
 ending_fits s o [] h = h
 ending_fits s o (x ∷ xs) h = before_fits (item_total x) (items_total xs) (item_read s x) (ending s o xs) (item_fits s x) (ending_fits s o xs h)
@@ -325,13 +324,13 @@ end_fits : (n : ℕ) (c : Cursor) → ResultFits 0 (end_of n c)
 unfolding end_of texts_of listed_counts action_counts
 end_fits n c = go (ltb c.place n)
   where
-    go : (t : Bool) → ResultFits 0 (pick t (bad (stopped c.line.0)) (good []))
+    go : (t : Bool) → ResultFits 0 (pick t (Err (stopped c.line.0)) (Ok []))
     go true = omega arith
     go false = (omega arith, omega arith)
 
-pub result_more : (m n : ℕ) (o : Result (List Entry)) → m ≤ n → ResultFits m o → ResultFits n o
-result_more m n (good ds) h (j, k) = (omega arith, omega arith)
-result_more m n (bad f) h k = omega arith
+pub result_more : (m n : ℕ) (o : Result (List Entry) Fault) → m ≤ n → ResultFits m o → ResultFits n o
+result_more m n (Ok ds) h (j, k) = (omega arith, omega arith)
+result_more m n (Err f) h k = omega arith
 
 -- all texts, or the name that is left, fit into as many bytes as the input has, and so many records suffice
 pub directives_fit : (s : List ℕ) → ResultFits (length s) (directives s)

@@ -1,4 +1,5 @@
 -- Tokens in parts: a Newline or a Comment parts the items before it from those behind it; and items move with their tokens.
+use Rattle.std.specs.Prelude.{Result}
 use mathlib.Core.Path.{◌≡◌, refl, ap}
 use Prim.Native.Nat.{ℕ}
 use mathlib.Core.Bool.{Bool, true, false}
@@ -9,7 +10,7 @@ use Rattle.lexer.specs.Tokens.{Token}
 use Rattle.lexer.specs.Parts.{Closer, raised}
 use Rattle.lexer.specs.Places.{All, nil, cons}
 use Rattle.directives.specs.Groups.{Item, joined, stray, argument_by, arguments_of, stray_by, item_by, items}
-use Rattle.directives.specs.Directives.{Directive as Entry, Result, over, item_read}
+use Rattle.directives.specs.Directives.{Directive as Entry, over, item_read, Fault}
 use Rattle.directives.specs.Parts.{raised_item}
 
 -- ---- behind a token that closes a line
@@ -124,7 +125,7 @@ items_hold P taking (t ∷ ts) (cons h hs) = go t.kind taking (items_hold P true
 
 -- ---- items one after another
 
-pub over_append : {A : Type 0} (step : Result Entry → A → A) (s : List ℕ) (o : A) (xs ys : List Item) → over step s o (xs ++ ys) ≡ over step s (over step s o ys) xs
+pub over_append : {A : Type 0} (step : Result Entry Fault → A → A) (s : List ℕ) (o : A) (xs ys : List Item) → over step s o (xs ++ ys) ≡ over step s (over step s o ys) xs
 unfolding over
 over_append step s o [] ys = refl
 over_append step s o (x ∷ xs) ys = ap (step (item_read s x)) (over_append step s o xs ys)

@@ -1,4 +1,5 @@
 -- What makes an item's fault, in plain words: a token that no directive takes, a wrong count, or the first argument that is refused.
+use Rattle.std.specs.Prelude.{Result, Ok, Err}
 use mathlib.Core.Path.{◌≡◌, refl, sym, ap, ◌∙◌, subst}
 use mathlib.Core.Logic.{◌↔◌}
 use Prim.Native.Nat.{ℕ, ◌≤◌}
@@ -13,7 +14,7 @@ use Rattle.operators.specs.Operators.{Spec}
 use Rattle.records.specs.Actions.{Action}
 use Rattle.actions.specs.Lists.{normal_site}
 use Rattle.directives.specs.Groups.{Item, joined, stray}
-use Rattle.directives.specs.Directives.{Listed, Body, act, defaults, Directive, Fault, wrong_count, untaken, stopped, id_missing, within, Result, bad, good, variables_read, operator_read, actions_read, Shape, of_rule, of_action, of_marker, of_defaults, of_other, shape_of, rule_by, act_by, told, body_by, site_at, standing, argument_site, list_site, sited, last_past, placed, directive_of, item_read}
+use Rattle.directives.specs.Directives.{Listed, Body, act, defaults, Directive, Fault, wrong_count, untaken, stopped, id_missing, within, variables_read, operator_read, actions_read, Shape, of_rule, of_action, of_marker, of_defaults, of_other, shape_of, rule_by, act_by, told, body_by, site_at, standing, argument_site, list_site, sited, last_past, placed, directive_of, item_read}
 use Rattle.directives.proofs.RefusalLaws.{OfVariable, OfOperator, OfAction, variable_only, operator_only, action_only, only_so, there_in, variable_there, operator_there, action_there}
 
 -- ---- the words
@@ -53,13 +54,13 @@ pub data Amiss (s : List ℕ) : Item → Fault → Type 0 where
 
 -- ---- what a body comes to
 
-abbrev Comes : List ℕ → ℕ → Shape → List Token → Result Body → Type 0
-Comes s l k args (good x) = RightCount k (length args)
-Comes s l k args (bad (wrong_count n)) = (n ≡ l) × (RightCount k (length args) → ⊥)
-Comes s l k args (bad (untaken n)) = ⊥
-Comes s l k args (bad (stopped n)) = ⊥
-Comes s l k args (bad (id_missing n)) = ⊥
-Comes s l k args (bad (within n f)) = (n ≡ l) × FirstRefused s k args f
+abbrev Comes : List ℕ → ℕ → Shape → List Token → Result Body Fault → Type 0
+Comes s l k args (Ok x) = RightCount k (length args)
+Comes s l k args (Err (wrong_count n)) = (n ≡ l) × (RightCount k (length args) → ⊥)
+Comes s l k args (Err (untaken n)) = ⊥
+Comes s l k args (Err (stopped n)) = ⊥
+Comes s l k args (Err (id_missing n)) = ⊥
+Comes s l k args (Err (within n f)) = (n ≡ l) × FirstRefused s k args f
 
 module _ (s : List ℕ) (l : ℕ) (name : List ℕ) where
   -- the sites of the three arguments, by their tokens
@@ -131,10 +132,10 @@ module _ (s : List ℕ) (l : ℕ) (name : List ℕ) where
 
   -- and back
   abbrev Says : Shape → List Token → Refusal → Type 0
-  Says k args f = sited s k args (body_by k l name (map text_of args)) ≡ bad (within l f)
+  Says k args f = sited s k args (body_by k l name (map text_of args)) ≡ Err (within l f)
 
-  as_told : (f g : Refusal) → f ≡ g → ◌≡◌ {A = Result Body} (bad (within l f)) (bad (within l g))
-  as_told f g e = ap (λ (h : Refusal). bad (within l h)) e
+  as_told : (f g : Refusal) → f ≡ g → ◌≡◌ {A = Result Body Fault} (Err (within l f)) (Err (within l g))
+  as_told f g e = ap (λ (h : Refusal). Err (within l h)) e
 
   refused_body : {f : Refusal} (k : Shape) (args : List Token) → FirstRefused s k args f → Says k args f
   unfolding argument_site list_site
@@ -161,44 +162,44 @@ refused_right of_other args x = elim x [ ]
 
 -- ---- an item
 
-abbrev fault_in : Result Directive → Fault
-fault_in (bad f) = f
-fault_in (good d) = stopped 0
+abbrev fault_in : Result Directive Fault → Fault
+fault_in (Err f) = f
+fault_in (Ok d) = stopped 0
 
-abbrev is_good : Result Directive → ℕ
-is_good (bad f) = 0
-is_good (good d) = 1
+abbrev is_good : Result Directive Fault → ℕ
+is_good (Err f) = 0
+is_good (Ok d) = 1
 
 module _ (s : List ℕ) (t : Token) (args : List Token) where
   abbrev Counts : Type 0
   Counts = RightCount (shape_of t.text) (length args)
 
-  abbrev read : Result Body
+  abbrev read : Result Body Fault
   read = sited s (shape_of t.text) args (body_by (shape_of t.text) t.line.0 t.text (map text_of args))
 
-  joined_there : (f : Fault) (r : Result Body) → Comes s t.line.0 (shape_of t.text) args r
-      → placed t.line.0 t.first (last_past t.past args) r ≡ bad f → Amiss s (joined t args) f
-  joined_there f (good x) h e = absurd (omega (arith, ap is_good e))
-  joined_there f (bad (wrong_count n)) (p, w) e = subst (Amiss s (joined t args)) (ap wrong_count (sym p) ∙ ap fault_in e) (miscounted t args w)
-  joined_there f (bad (untaken n)) h e = absurd h
-  joined_there f (bad (stopped n)) h e = absurd h
-  joined_there f (bad (id_missing n)) h e = absurd h
-  joined_there f (bad (within n g)) (p, w) e = subst (Amiss s (joined t args)) (ap (λ (n : ℕ). within n g) (sym p) ∙ ap fault_in e) (refused t args g w)
+  joined_there : (f : Fault) (r : Result Body Fault) → Comes s t.line.0 (shape_of t.text) args r
+      → placed t.line.0 t.first (last_past t.past args) r ≡ Err f → Amiss s (joined t args) f
+  joined_there f (Ok x) h e = absurd (omega (arith, ap is_good e))
+  joined_there f (Err (wrong_count n)) (p, w) e = subst (Amiss s (joined t args)) (ap wrong_count (sym p) ∙ ap fault_in e) (miscounted t args w)
+  joined_there f (Err (untaken n)) h e = absurd h
+  joined_there f (Err (stopped n)) h e = absurd h
+  joined_there f (Err (id_missing n)) h e = absurd h
+  joined_there f (Err (within n g)) (p, w) e = subst (Amiss s (joined t args)) (ap (λ (n : ℕ). within n g) (sym p) ∙ ap fault_in e) (refused t args g w)
 
-  miscounted_back : (Counts → ⊥) → (r : Result Body) → Comes s t.line.0 (shape_of t.text) args r → r ≡ bad (wrong_count t.line.0)
-  miscounted_back w (good x) h = absurd (w h)
-  miscounted_back w (bad (wrong_count n)) (p, v) = ap (λ (n : ℕ). bad (wrong_count n)) p
-  miscounted_back w (bad (untaken n)) h = absurd h
-  miscounted_back w (bad (stopped n)) h = absurd h
-  miscounted_back w (bad (id_missing n)) h = absurd h
-  miscounted_back w (bad (within n g)) (p, v) = absurd (w (refused_right (shape_of t.text) args v))
+  miscounted_back : (Counts → ⊥) → (r : Result Body Fault) → Comes s t.line.0 (shape_of t.text) args r → r ≡ Err (wrong_count t.line.0)
+  miscounted_back w (Ok x) h = absurd (w h)
+  miscounted_back w (Err (wrong_count n)) (p, v) = ap (λ (n : ℕ). Err (wrong_count n)) p
+  miscounted_back w (Err (untaken n)) h = absurd h
+  miscounted_back w (Err (stopped n)) h = absurd h
+  miscounted_back w (Err (id_missing n)) h = absurd h
+  miscounted_back w (Err (within n g)) (p, v) = absurd (w (refused_right (shape_of t.text) args v))
 
-there : (s : List ℕ) (x : Item) (f : Fault) → item_read s x ≡ bad f → Amiss s x f
+there : (s : List ℕ) (x : Item) (f : Fault) → item_read s x ≡ Err f → Amiss s x f
 unfolding item_read directive_of
 there s (stray t) f e = subst (Amiss s (stray t)) (ap fault_in e) (untaken_token t)
 there s (joined t args) f e = joined_there s t args f (read s t args) (body_comes s t.line.0 t.text (shape_of t.text) args) e
 
-back : (s : List ℕ) (x : Item) (f : Fault) → Amiss s x f → item_read s x ≡ bad f
+back : (s : List ℕ) (x : Item) (f : Fault) → Amiss s x f → item_read s x ≡ Err f
 unfolding item_read directive_of
 back s (stray _) _ (untaken_token t) = refl
 back s (joined _ _) _ (miscounted t args w) =
@@ -206,7 +207,7 @@ back s (joined _ _) _ (miscounted t args w) =
 back s (joined _ _) _ (refused t args f w) = ap (placed t.line.0 t.first (last_past t.past args)) (refused_body s t.line.0 t.text (shape_of t.text) args w)
 
 -- an item's fault, exactly when
-pub amiss_is : (s : List ℕ) (x : Item) (f : Fault) → (item_read s x ≡ bad f) ↔ Amiss s x f
+pub amiss_is : (s : List ℕ) (x : Item) (f : Fault) → (item_read s x ≡ Err f) ↔ Amiss s x f
 amiss_is s x f = (there s x f, back s x f)
 
 -- and never the stop, nor a missing id
@@ -217,7 +218,7 @@ OfItem (stopped n) = ⊥
 OfItem (id_missing n) = ⊥
 OfItem (within n f) = Unit {0}
 
-pub of_item : (s : List ℕ) (x : Item) (f : Fault) → item_read s x ≡ bad f → OfItem f
+pub of_item : (s : List ℕ) (x : Item) (f : Fault) → item_read s x ≡ Err f → OfItem f
 of_item s x f e = go x f (there s x f e)
   where
     go : (i : Item) (f : Fault) → Amiss s i f → OfItem f

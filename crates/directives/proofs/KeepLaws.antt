@@ -1,5 +1,8 @@
 -- What the promise asks keeps the length of every buffer, so that a call can meet it: texts and names fit where 3 is not given, and
 -- records where 4 is not.
+use Rattle.lent.specs.declared.gating.GateError.TheVariants.{TooLong, Short, NotAscii}
+use Rattle.lent.specs.declared.gating.GateError.{GateError}
+use Rattle.std.specs.Prelude.{Ok, Err, Result}
 use mathlib.Core.Path.{◌≡◌, refl, sym}
 use Prim.Native.Nat.{ℕ, ◌≤◌, min}
 use native.Mathlib.Omega.{arith}
@@ -9,11 +12,9 @@ use lib.ListN.{length, length-replicate}
 use Rattle.ascii.specs.Choice.{pick}
 use Rattle.lent.specs.Sizes.{room_for}
 use Rattle.lent.specs.Gates.{gate_of}
-use Rattle.lent.specs.declared.gating.Gate.{Gate}
-use Rattle.lent.specs.declared.gating.Gate.TheVariants.{Open, TooLong, NotAscii, Short}
 use Rattle.lent.proofs.GateLaws.{Row, gate_row}
 use Rattle.lent.proofs.BufferLaws.{padded_length}
-use Rattle.directives.specs.Directives.{Directive, Result, bad, good, directives}
+use Rattle.directives.specs.Directives.{Directive, directives, Fault}
 use Rattle.directives.specs.Layout.{reached, listed_counts, action_counts}
 use Rattle.directives.specs.Versions.{Version, directives_for}
 use Rattle.directives.specs.Table.{Outcome, shut, faulty, overfull, filled, past_gate, fault_name}
@@ -65,9 +66,9 @@ module _ (m : Lent) (ds : List Directive) where
       let k = (roomy_is m ds).0 e in
       (h, (omega (arith, k.0, directives_long (reached 0 0 0) ds), (omega (arith, k.1.0, variables_long 0 ds), omega (arith, k.1.1, actions_long 0 ds))))
 
-roomed_roomy : (m : Lent) (r : Result (List Directive)) → ResultFits (length m.text) r → Roomy m (roomed (rooms_of m) r)
-roomed_roomy m (bad f) h = h
-roomed_roomy m (good ds) h = go (lacks (rooms_of m) ds) refl
+roomed_roomy : (m : Lent) (r : Result (List Directive) Fault) → ResultFits (length m.text) r → Roomy m (roomed (rooms_of m) r)
+roomed_roomy m (Err f) h = h
+roomed_roomy m (Ok ds) h = go (lacks (rooms_of m) ds) refl
   where
     go : (t : Bool) → lacks (rooms_of m) ds ≡ t → Roomy m (pick t (overfull (length ds) (listed_counts ds) (action_counts ds)) (filled (laid_out ds)))
     go true e = tt
@@ -82,10 +83,10 @@ buffers_kept v s m = keeps m (outcome_on v s m) (go (gate_of s least (length s))
     least : ℕ
     least = min (length m.text) (length m.scratch)
 
-    go : (g : Gate) → Row s least (length s) g → Roomy m (past_gate g (roomed (rooms_of m) (directives_for v s)))
-    go Open r =
+    go : (g : Result Unit GateError) → Row s least (length s) g → Roomy m (past_gate g (roomed (rooms_of m) (directives_for v s)))
+    go (Ok tt) r =
         roomed_roomy m (directives_for v s)
         (for_holds (ResultFits (length m.text)) (λ l. omega arith) v s (result_more (length s) (length m.text) (directives s) (omega (arith, r.room)) (directives_fit s)))
-    go TooLong r = tt
-    go (NotAscii p) r = tt
-    go Short r = tt
+    go (Err TooLong) r = tt
+    go (Err (NotAscii p)) r = tt
+    go (Err Short) r = tt

@@ -1,12 +1,13 @@
 -- An action list that stands in scratch: set down behind the texts, normalised into scratch, and read from there.
+use Rattle.directives.specs.declared.Fault.{Fault as Told}
+use Rattle.std.specs.Prelude.{Result, Ok, Err, Option, Some}
 use mathlib.Core.Path.{◌≡◌, refl, sym, ap, ◌∙◌, subst}
 use mathlib.Core.Bool.{true, false}
 use mathlib.Core.List.{List, ◌++◌}
 use Prim.Native.Nat.{ℕ, ◌+◌, ◌-◌, ◌≤◌}
 use native.Mathlib.Omega.{arith}
-use lib.ListN.{length, take, drop, length-drop, length-append}
+use lib.ListN.{length, take, drop, length-drop}
 use lib.Seq.{length-take-le, take_at}
-use denote.Enum.Declared.{tag_of}
 use borrow.Author.Tests.{le-ltb}
 use Rattle.lent.specs.Buffers.{padded, stored}
 use Rattle.lent.specs.Sources.{part_word, Sourced}
@@ -21,19 +22,17 @@ use Rattle.actions.specs.Normal.{normalised}
 use Rattle.actions.specs.Pieces.{pieces}
 use Rattle.actions.specs.Cores.{tight, Normalise, core_outcome, core_reached, core_text, core_records, ReadActions}
 use Rattle.actions.specs.declared.Reached.{Reached}
-use Rattle.actions.specs.declared.Reached.TheVariants.{Read, Bad, Unknown, Unfit}
-use Rattle.actions.specs.declared.normalising.Normal.{Normal}
-use Rattle.actions.specs.contracts.normalising.Normal as normal
+use Rattle.actions.specs.declared.PieceError.{PieceError}
+use Rattle.actions.specs.declared.PieceError.TheVariants.{Bad, Unknown, Unfit}
 use Rattle.actions.proofs.NormalLaws.{normalised_length}
 use Rattle.actions.proofs.CountLaws.{Counted, from_counted}
 use Rattle.actions.proofs.CoreLaws.{bad_back}
 use Rattle.directives.specs.Directives.{actions_read}
-use Rattle.directives.specs.Steps.{Laid, with_actions, shrunk_by, AddsActions, ListLeft, ListRead}
+use Rattle.directives.specs.Steps.{Laid, with_actions, shrunk_by, AddsActions, ListLeft, ListRead, with_shrunk}
 use Rattle.directives.specs.declared.ArgumentFault.TheVariants.{BadArgument, UnknownAction}
 use Rattle.directives.specs.declared.Fault.TheVariants as Fault
 use Rattle.directives.specs.declared.parts.Entry.{Entry}
 use Rattle.directives.specs.declared.parts.List.{List as ListAnswer}
-use Rattle.directives.specs.declared.parts.Judged.{Judged}
 use Rattle.directives.proofs.FitLaws.{ActionsFit, actions_fit}
 use Rattle.directives.proofs.LaidLaws.{laid_stored, laid_over, part_of}
 
@@ -69,22 +68,19 @@ module _ (scratch : List ℕ) (first past used place : ℕ) (text : List ℕ) (e
 
     -- ---- normalised
 
-    module _ (scratch₁ : List ℕ) (r : Normal) (y : Normalise (part text₁ used (used + (past - first))) scratch scratch₁ r) where
+    module _ (scratch₁ : List ℕ) (r : Option ℕ) (y : Normalise (part text₁ used (used + (past - first))) scratch scratch₁ r) where
       loose : tight s scratch ≡ false
       loose = le-ltb (length scratch) (length s) (omega (arith, list_long))
 
-      answer_is : r ≡ Normal.Text (length (normalised s))
+      answer_is : r ≡ Some (length (normalised s))
       answer_is = y.answer ∙ rw (set_down, loose)
 
       scratch_is : scratch₁ ≡ normalised s ++ drop (length (normalised s)) scratch
       scratch_is = y.text ∙ rw (set_down, loose)
 
-      pub never_short : r ≡ Normal.Short → ⊥
-      never_short q = let z : ◌≡◌ {A = ℕ} 1 0 = ap (tag_of normal.the_type) (sym q ∙ answer_is) in omega arith
-
-      module _ {n : ℕ} (q : r ≡ Normal.Text n) where
+      module _ {n : ℕ} (q : r ≡ Some n) where
         count_is : n ≡ length (normalised s)
-        count_is = let p : Normal.Text n ≡ Normal.Text (length (normalised s)) = sym q ∙ answer_is in cc
+        count_is = cc (q, answer_is)
 
         pub normal_count : n ≡ length (normalised (part scratch first past))
         normal_count = count_is
@@ -95,12 +91,9 @@ module _ (scratch : List ℕ) (first past used place : ℕ) (text : List ℕ) (e
         pub normal_is : take n scratch₁ ≡ normalised s
         normal_is = ap (take n) scratch_is ∙ take_at (normalised s) (drop (length (normalised s)) scratch) n (sym count_is)
 
-        pub normal_inside : n ≤ length scratch₁
-        normal_inside = omega (arith, count_is, ap length scratch_is, length-append (normalised s) (drop (length (normalised s)) scratch))
-
     -- ---- read
 
-    module _ {records text₂ records₂ : List ℕ} {r : Reached} (x : ReadActions (normalised s) used place text₁ text₂ records records₂ r) where
+    module _ {records text₂ records₂ : List ℕ} {r : Result Reached PieceError} (x : ReadActions (normalised s) used place text₁ text₂ records records₂ r) where
       comes_to : core_outcome (normalised s) (length text₁) used place ≡ actions_read s
       unfolding core_outcome
       comes_to =
@@ -125,40 +118,59 @@ module _ (scratch : List ℕ) (first past used place : ℕ) (text : List ℕ) (e
       left_is (refuses (unknown_operator p l y')) k f t = absurd k
       left_is (refuses bad_cursor) k f t = absurd k
 
-      pub list_read : {n : ℕ} → n ≡ length (normalised s) → ListRead (part scratch first past) used place text text₂ records records₂ (record { reached = r; shrunk = past - first - n })
-      list_read e = record {
-        shrunk = omega (arith, e, list_long);
-        answer = x.answer ∙ rw comes_to;
-        left = left_is (actions_read s) (from_counted 0 (pieces (normalised s))) (actions_fit s) (x.texts ∙ rw comes_to);
-        words = x.words ∙ rw comes_to;
-      }
+      pub list_read : {n : ℕ} → n ≡ length (normalised s) → ListRead (part scratch first past) used place text text₂ records records₂ (with_shrunk (past - first - n) r)
+      list_read {n} e =
+          let k : past - first - n ≡ shrunk_by s = omega (arith, e, list_long) in
+          record {
+            answer = ap (with_shrunk (past - first - n)) (x.answer ∙ rw comes_to) ∙ ap (λ (i : ℕ). with_shrunk i (core_reached used (actions_read s))) k;
+            left = left_is (actions_read s) (from_counted 0 (pieces (normalised s))) (actions_fit s) (x.texts ∙ rw comes_to);
+            words = x.words ∙ rw comes_to;
+          }
 
 -- ---- as a part of a directive
 
-abbrev pub judged_by : Entry → ℕ → ℕ → Reached → Judged
-judged_by e line shrunk (Read count offset id chain) = Judged.Good (with_actions e count offset shrunk id chain)
-judged_by e line shrunk (Unknown piece name span) = Judged.Bad (Fault.Argument UnknownAction line piece name span)
-judged_by e line shrunk (Bad flaw piece name span) = Judged.Bad (Fault.Argument (BadArgument flaw) line piece name span)
-judged_by e line shrunk Unfit = Judged.Good e
+-- what is judged of it, but that it does not start there
+abbrev pub judged_by : Entry → ℕ → Result ListAnswer PieceError → Result Entry Told
+judged_by e line (Ok l) = Ok (with_actions e l.reached.count l.reached.offset l.shrunk l.reached.id l.reached.chain)
+judged_by e line (Err (Unknown piece name span)) = Err (Fault.Argument UnknownAction line piece name span)
+judged_by e line (Err (Bad flaw piece name span)) = Err (Fault.Argument (BadArgument flaw) line piece name span)
+judged_by e line (Err Unfit) = Ok e
 
-module _ (e : Entry) (line place : ℕ) (s text text' records records' : List ℕ) (r : ListAnswer) (x : ListRead s e.text place text text' records records' r) where
-  abbrev Adds : Outcome (List (Sourced Action)) → Judged → Type 0
-  Adds o j = AddsActions e line place text text' records records' o (shrunk_by s) j
+module _ (e : Entry) (line place : ℕ) (s text text' records records' : List ℕ) (r : Result ListAnswer PieceError) (x : ListRead s e.text place text text' records records' r) where
+  abbrev n : ℕ
+  n = shrunk_by s
 
-  pub actions_judged : (a : Reached) → r.reached ≡ a → AddsActions e line place text text' records records' (actions_read s) (shrunk_by s) (judged_by e line r.shrunk a)
-  actions_judged a q = rw x.shrunk (go (actions_read s) (from_counted 0 (pieces (normalised s))) (sym q ∙ x.answer) x.left x.words)
+  abbrev Adds : Outcome (List (Sourced Action)) → Result Entry Told → Type 0
+  Adds o j = AddsActions e line place text text' records records' o n j
+
+  pub actions_fitted : r ≡ Err Unfit → ⊥
+  actions_fitted q = go (actions_read s) (from_counted 0 (pieces (normalised s))) (sym q ∙ x.answer)
     where
-      go : (o : Outcome (List (Sourced Action))) → Counted 0 (length (pieces (normalised s))) o → a ≡ core_reached e.text o → ListLeft o e.text text text'
-          → records' ≡ core_records e.text place records o → Adds o (judged_by e line (shrunk_by s) a)
-      go (reads xs) k p l w = subst (λ (b : Reached). Adds (reads xs) (judged_by e line (shrunk_by s) b)) (sym p) (record { is = refl; laid = l; records_are = w })
-      go (refuses (named no_action i name y')) k p l w =
-          subst (λ (b : Reached). Adds (refuses (named no_action i name y')) (judged_by e line (shrunk_by s) b)) (sym p) (record { told = _; is = refl; faulted = record { given = refl; left = l } })
-      go (refuses (named (no_argument flaw) i name y')) k p l w =
-          subst (λ (b : Reached). Adds (refuses (named (no_argument flaw) i name y')) (judged_by e line (shrunk_by s) b)) (bad_back false false flaw i (length name) (part_word y') ∙ sym p) (record { told = _; is = refl; faulted = record { given = refl; left = l } })
-      go (refuses (named no_variable i name y')) k p l w = absurd k
-      go (refuses too_long) k p l w = absurd k
-      go (refuses (not_ascii i)) k p l w = absurd k
-      go (refuses short_buffer) k p l w = absurd k
-      go (refuses (no_room i)) k p l w = absurd k
-      go (refuses (unknown_operator i j y')) k p l w = absurd k
-      go (refuses bad_cursor) k p l w = absurd k
+      go : (o : Outcome (List (Sourced Action))) → Counted 0 (length (pieces (normalised s))) o → Err Unfit ≡ with_shrunk n (core_reached e.text o) → ⊥
+      go (reads xs) k p = cc
+      go (refuses (named no_action i name y')) k p = cc
+      go (refuses (named (no_argument flaw) i name y')) k p = let z = ap (with_shrunk n) (bad_back false false flaw i (length name) (part_word y')) in cc
+      go (refuses (named no_variable i name y')) k p = absurd k
+      go (refuses too_long) k p = absurd k
+      go (refuses (not_ascii i)) k p = absurd k
+      go (refuses short_buffer) k p = absurd k
+      go (refuses (no_room i)) k p = absurd k
+      go (refuses (unknown_operator i j y')) k p = absurd k
+      go (refuses bad_cursor) k p = absurd k
+
+  pub actions_judged : AddsActions e line place text text' records records' (actions_read s) n (judged_by e line r)
+  actions_judged = rw x.answer (go (actions_read s) (from_counted 0 (pieces (normalised s))) x.left x.words)
+    where
+      go : (o : Outcome (List (Sourced Action))) → Counted 0 (length (pieces (normalised s))) o → ListLeft o e.text text text'
+          → records' ≡ core_records e.text place records o → Adds o (judged_by e line (with_shrunk n (core_reached e.text o)))
+      go (reads xs) k l w = record { is = refl; laid = l; records_are = w }
+      go (refuses (named no_action i name y')) k l w = record { told = _; is = refl; faulted = record { given = refl; left = l } }
+      go (refuses (named (no_argument flaw) i name y')) k l w =
+          subst (λ (b : Result Reached PieceError). Adds (refuses (named (no_argument flaw) i name y')) (judged_by e line (with_shrunk n b))) (bad_back false false flaw i (length name) (part_word y')) (record { told = _; is = refl; faulted = record { given = refl; left = l } })
+      go (refuses (named no_variable i name y')) k l w = absurd k
+      go (refuses too_long) k l w = absurd k
+      go (refuses (not_ascii i)) k l w = absurd k
+      go (refuses short_buffer) k l w = absurd k
+      go (refuses (no_room i)) k l w = absurd k
+      go (refuses (unknown_operator i j y')) k l w = absurd k
+      go (refuses bad_cursor) k l w = absurd k

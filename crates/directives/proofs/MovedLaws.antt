@@ -1,4 +1,5 @@
 -- A directive's arguments in another package: where each token's site moves, everything that was read from it moves with it.
+use Rattle.std.specs.Prelude.{Result, Ok, Err}
 use mathlib.Core.Path.{◌≡◌, refl, sym, ap, ap₂, ◌∙◌}
 use Prim.Native.Nat.{ℕ, ◌+◌}
 use native.Mathlib.Omega.{arith}
@@ -11,7 +12,7 @@ use Rattle.lexer.specs.Layout.{text_of}
 use Rattle.operators.specs.Operators.{Spec}
 use Rattle.records.specs.Actions.{Action}
 use Rattle.actions.specs.Lists.{normal_site}
-use Rattle.directives.specs.Directives.{Listed, listed, Body, rule, act, marker, defaults, unknown, Fault, wrong_count, untaken, stopped, id_missing, within, Result, bad, good, variables_read, operator_read, actions_read, Shape, of_rule, of_action, of_marker, of_defaults, of_other, rule_by, act_by, told, body_by, site_at, standing, argument_site, list_site, sited}
+use Rattle.directives.specs.Directives.{Listed, listed, Body, rule, act, marker, defaults, unknown, Fault, wrong_count, untaken, stopped, id_missing, within, variables_read, operator_read, actions_read, Shape, of_rule, of_action, of_marker, of_defaults, of_other, rule_by, act_by, told, body_by, site_at, standing, argument_site, list_site, sited}
 use Rattle.directives.specs.Parts.{resited_body, mapped}
 use Rattle.directives.proofs.RefusalLaws.{OfVariable, OfOperator, OfAction, Only, variable_only, operator_only, action_only, variable_there, operator_there, action_there}
 
@@ -42,7 +43,7 @@ module _ (g : Part → Part) (l : ℕ) where
   moved_fault (id_missing n) = id_missing (l + n)
   moved_fault (within n f) = within (l + n) (resited g f)
 
-  abbrev pub moved_result : Result Body → Result Body
+  abbrev pub moved_result : Result Body Fault → Result Body Fault
   moved_result = mapped moved_fault (resited_body g)
 
 module _ (g : Part → Part) (s s' : List ℕ) where
@@ -59,8 +60,8 @@ module _ (g : Part → Part) (s s' : List ℕ) where
   list_site_lem {t} {t'} m x = m.site (normal_site t'.text x) ∙ ap (λ (u : List ℕ). g (site_at s (standing t) (normal_site u x))) m.text
 
   module _ (l n : ℕ) (name : List ℕ) where
-    abbrev fell : Refusal → Result Body
-    fell f = bad (within (l + n) f)
+    abbrev fell : Refusal → Result Body Fault
+    fell f = Err (within (l + n) f)
 
     -- a list of actions alone
     module _ {t t' : Token} (m : Moves t t') where
@@ -74,13 +75,13 @@ module _ (g : Part → Part) (s s' : List ℕ) where
       unfolding list_site
       act_moved (refuses f) h =
           ap fell (action_there s' of_action one' f h ∙ resited_moved g (list_site s 0 one) (list_site s' 0 one') (list_site_lem m) f ∙ ap (resited g) (sym (action_there s of_action one f h)))
-      act_moved (reads xs) h = ap (λ (ys : List (Sourced Action)). good (act ys)) (sited_moved g (list_site s 0 one) (list_site s' 0 one') (list_site_lem m) xs)
+      act_moved (reads xs) h = ap (λ (ys : List (Sourced Action)). Ok (act ys)) (sited_moved g (list_site s 0 one) (list_site s' 0 one') (list_site_lem m) xs)
 
       defaults_moved : (o : Outcome (List (Sourced Action))) → Only OfAction o → sited s' of_defaults one' (told (l + n) (act_by defaults o)) ≡ moved_result g l (sited s of_defaults one (told n (act_by defaults o)))
       unfolding list_site
       defaults_moved (refuses f) h =
           ap fell (action_there s' of_defaults one' f h ∙ resited_moved g (list_site s 0 one) (list_site s' 0 one') (list_site_lem m) f ∙ ap (resited g) (sym (action_there s of_defaults one f h)))
-      defaults_moved (reads xs) h = ap (λ (ys : List (Sourced Action)). good (defaults ys)) (sited_moved g (list_site s 0 one) (list_site s' 0 one') (list_site_lem m) xs)
+      defaults_moved (reads xs) h = ap (λ (ys : List (Sourced Action)). Ok (defaults ys)) (sited_moved g (list_site s 0 one) (list_site s' 0 one') (list_site_lem m) xs)
 
     -- a rule, whose third argument is there or not
     module _ {v v' o o' : Token} (mv : Moves v v') (mo : Moves o o') (third third' : List Token) where
@@ -108,7 +109,7 @@ module _ (g : Part → Part) (s s' : List ℕ) where
           ap fell (operator_there s' of_rule all' f i ∙ resited_moved g (argument_site s 1 all) (argument_site s' 1 all') second_site f ∙ ap (resited g) (sym (operator_there s of_rule all f i)))
       rule_moved (reads a) h (reads b) i (refuses f) j p q = ap fell (action_there s' of_rule all' f j ∙ q f refl ∙ ap (resited g) (sym (action_there s of_rule all f j)))
       rule_moved (reads a) h (reads b) i (reads xs) j p q =
-          ap₂ (λ (vs : Listed) (ys : List (Sourced Action)). good (rule vs b ys))
+          ap₂ (λ (vs : Listed) (ys : List (Sourced Action)). Ok (rule vs b ys))
           (ap₂ listed (sited_moved g (argument_site s 0 all) (argument_site s' 0 all') first_site a.variables) (sited_moved g (argument_site s 0 all) (argument_site s' 0 all') first_site a.exclusions))
           (p xs refl)
 
@@ -171,15 +172,15 @@ resited_still (named why p name x) = refl
 resited_still (unknown_operator p l x) = refl
 resited_still bad_cursor = refl
 
-pub result_still : (r : Result Body) → moved_result still 0 r ≡ r
-result_still (bad (wrong_count n)) = ap (λ (m : ℕ). bad (wrong_count m)) (zero-add n)
-result_still (bad (untaken n)) = ap (λ (m : ℕ). bad (untaken m)) (zero-add n)
-result_still (bad (stopped n)) = ap (λ (m : ℕ). bad (stopped m)) (zero-add n)
-result_still (bad (id_missing n)) = ap (λ (m : ℕ). bad (id_missing m)) (zero-add n)
-result_still (bad (within n f)) = ap₂ (λ (m : ℕ) (h : Refusal). bad (within m h)) (zero-add n) (resited_still f)
-result_still (good (rule vs o xs)) =
-    ap₂ (λ (ws : Listed) (ys : List (Sourced Action)). good (rule ws o ys)) (ap₂ listed (sited_still vs.variables) (sited_still vs.exclusions)) (sited_still xs)
-result_still (good (act xs)) = ap (λ (ys : List (Sourced Action)). good (act ys)) (sited_still xs)
-result_still (good (marker m)) = refl
-result_still (good (defaults xs)) = ap (λ (ys : List (Sourced Action)). good (defaults ys)) (sited_still xs)
-result_still (good (unknown n)) = refl
+pub result_still : (r : Result Body Fault) → moved_result still 0 r ≡ r
+result_still (Err (wrong_count n)) = ap (λ (m : ℕ). Err (wrong_count m)) (zero-add n)
+result_still (Err (untaken n)) = ap (λ (m : ℕ). Err (untaken m)) (zero-add n)
+result_still (Err (stopped n)) = ap (λ (m : ℕ). Err (stopped m)) (zero-add n)
+result_still (Err (id_missing n)) = ap (λ (m : ℕ). Err (id_missing m)) (zero-add n)
+result_still (Err (within n f)) = ap₂ (λ (m : ℕ) (h : Refusal). Err (within m h)) (zero-add n) (resited_still f)
+result_still (Ok (rule vs o xs)) =
+    ap₂ (λ (ws : Listed) (ys : List (Sourced Action)). Ok (rule ws o ys)) (ap₂ listed (sited_still vs.variables) (sited_still vs.exclusions)) (sited_still xs)
+result_still (Ok (act xs)) = ap (λ (ys : List (Sourced Action)). Ok (act ys)) (sited_still xs)
+result_still (Ok (marker m)) = refl
+result_still (Ok (defaults xs)) = ap (λ (ys : List (Sourced Action)). Ok (defaults ys)) (sited_still xs)
+result_still (Ok (unknown n)) = refl

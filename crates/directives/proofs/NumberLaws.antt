@@ -1,4 +1,5 @@
 -- A fault's number is 5, 7, 8 or one of 10 to 15: no argument is refused for anything else.
+use Rattle.std.specs.Prelude.{Result, Ok, Err}
 use mathlib.Core.Path.{◌≡◌, subst}
 use mathlib.Core.Logic.{◌⊎◌, inl, inr}
 use Prim.Native.Nat.{ℕ, ◌≤◌}
@@ -24,7 +25,7 @@ use Rattle.actions.specs.Normal.{normalised}
 use Rattle.actions.specs.Pieces as Pieces
 use Rattle.actions.proofs.CountLaws.{Counted, from_counted}
 use Rattle.directives.specs.Groups.{Item, joined, stray, items}
-use Rattle.directives.specs.Directives.{Listed, Body, act, defaults, Directive, Fault, wrong_count, untaken, stopped, id_missing, within, Result, bad, good, listed_by, variables_read, operator_read, actions_read, Shape, of_rule, of_action, of_marker, of_defaults, of_other, shape_of, rule_by, act_by, told, body_by, refusal_site, sited, last_past, placed, directive_of, item_read, before, over, ending, end_of, directives}
+use Rattle.directives.specs.Directives.{Listed, Body, act, defaults, Directive, Fault, wrong_count, untaken, stopped, id_missing, within, listed_by, variables_read, operator_read, actions_read, Shape, of_rule, of_action, of_marker, of_defaults, of_other, shape_of, rule_by, act_by, told, body_by, refusal_site, sited, last_past, placed, directive_of, item_read, before, over, ending, end_of, directives}
 use Rattle.directives.specs.Versions.{Version, directives_for}
 use Rattle.directives.proofs.VersionLaws.{for_holds}
 use Rattle.directives.specs.Table.{fault_given}
@@ -75,9 +76,9 @@ KnownFault (stopped l) = Unit {0}
 KnownFault (id_missing l) = Unit {0}
 KnownFault (within l f) = Known f
 
-abbrev KnownResult : {A : Type 0} → Result A → Type 0
-KnownResult (bad f) = KnownFault f
-KnownResult (good x) = Unit {0}
+abbrev KnownResult : {A : Type 0} → Result A Fault → Type 0
+KnownResult (Err f) = KnownFault f
+KnownResult (Ok x) = Unit {0}
 
 told_known : (l : ℕ) (o : Outcome Body) → KnownIn o → KnownResult (told l o)
 told_known l (refuses f) h = h
@@ -110,9 +111,9 @@ body_known l name of_defaults (a ∷ []) = act_known l defaults (actions_read a)
 body_known l name of_defaults (a ∷ x ∷ xs) = tt
 body_known l name of_other xs = tt
 
-placed_known : (l first past : ℕ) (x : Result Body) → KnownResult x → KnownResult (placed l first past x)
-placed_known l first past (bad f) h = h
-placed_known l first past (good x) h = tt
+placed_known : (l first past : ℕ) (x : Result Body Fault) → KnownResult x → KnownResult (placed l first past x)
+placed_known l first past (Err f) h = h
+placed_known l first past (Ok x) h = tt
 
 -- wherever it stands
 resited_known : (f : Part → Part) (r : Refusal) → Known r → Known (resited f r)
@@ -124,13 +125,13 @@ resited_known f (named why p name x) h = tt
 resited_known f (unknown_operator p n x) h = tt
 resited_known f bad_cursor h = h
 
-sited_known : (s : List ℕ) (shape : Shape) (args : List Token) (x : Result Body) → KnownResult x → KnownResult (sited s shape args x)
-sited_known s shape args (bad (wrong_count l)) h = tt
-sited_known s shape args (bad (untaken l)) h = tt
-sited_known s shape args (bad (stopped l)) h = tt
-sited_known s shape args (bad (id_missing l)) h = tt
-sited_known s shape args (bad (within l f)) h = resited_known (refusal_site s shape args f) f h
-sited_known s shape args (good x) h = tt
+sited_known : (s : List ℕ) (shape : Shape) (args : List Token) (x : Result Body Fault) → KnownResult x → KnownResult (sited s shape args x)
+sited_known s shape args (Err (wrong_count l)) h = tt
+sited_known s shape args (Err (untaken l)) h = tt
+sited_known s shape args (Err (stopped l)) h = tt
+sited_known s shape args (Err (id_missing l)) h = tt
+sited_known s shape args (Err (within l f)) h = resited_known (refusal_site s shape args f) f h
+sited_known s shape args (Ok x) h = tt
 
 item_known : (s : List ℕ) (x : Item) → KnownResult (item_read s x)
 unfolding item_read directive_of
@@ -142,12 +143,12 @@ item_known s (joined t args) =
 
 -- ---- a whole text
 
-before_known : (x : Result Directive) (o : Result (List Directive)) → KnownResult x → KnownResult o → KnownResult (before x o)
-before_known (bad f) o h k = h
-before_known (good d) (bad f) h k = k
-before_known (good d) (good ds) h k = tt
+before_known : (x : Result Directive Fault) (o : Result (List Directive) Fault) → KnownResult x → KnownResult o → KnownResult (before x o)
+before_known (Err f) o h k = h
+before_known (Ok d) (Err f) h k = k
+before_known (Ok d) (Ok ds) h k = tt
 
-ending_known : (s : List ℕ) (o : Result (List Directive)) (xs : List Item) → KnownResult o → KnownResult (ending s o xs)
+ending_known : (s : List ℕ) (o : Result (List Directive) Fault) (xs : List Item) → KnownResult o → KnownResult (ending s o xs)
 unfolding over
 ending_known s o [] h = h
 ending_known s o (x ∷ xs) h = before_known (item_read s x) (ending s o xs) (item_known s x) (ending_known s o xs h)
@@ -156,7 +157,7 @@ end_known : (n : ℕ) (c : Cursor) → KnownResult (end_of n c)
 unfolding end_of
 end_known n c = go (ltb c.place n)
   where
-    go : (t : Bool) → KnownResult {A = List Directive} (pick t (bad (stopped c.line.0)) (good []))
+    go : (t : Bool) → KnownResult {A = List Directive} (pick t (Err (stopped c.line.0)) (Ok []))
     go true = tt
     go false = tt
 
@@ -165,7 +166,7 @@ unfolding directives
 directives_known s =
     (ending_known s (end_of (length s) (reading s).stop) (items false (reading s).tokens) (end_known (length s) (reading s).stop))
 
-pub known_for : (v : Version) (s : List ℕ) (f : Fault) → directives_for v s ≡ bad f → KnownFault f
+pub known_for : (v : Version) (s : List ℕ) (f : Fault) → directives_for v s ≡ Err f → KnownFault f
 known_for v s f e = subst (KnownResult {A = List Directive}) e (for_holds (KnownResult {A = List Directive}) (λ l. tt) v s (directives_known s))
 
 -- ---- the number

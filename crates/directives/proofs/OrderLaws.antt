@@ -1,5 +1,6 @@
 -- The definitions in plain words: what a directive takes, and that the first fault in text order is the answer, the end's last.
 -- For 2.7: AskedLaws.
+use Rattle.std.specs.Prelude.{Result, Ok, Err}
 use mathlib.Core.Path.{◌≡◌, refl, sym, ap, ◌∙◌, subst}
 use mathlib.Core.Logic.{◌↔◌}
 use Prim.Native.Nat.{ℕ, ◌≤◌, ◌<◌}
@@ -15,7 +16,7 @@ use Rattle.lexer.specs.declared.Kind.{Kind}
 use Rattle.lexer.specs.declared.Kind.TheVariants.{Directive, Word, QuotedString, Comment, Newline}
 use Rattle.lexer.specs.Tokens.{Token, reading}
 use Rattle.directives.specs.Groups.{Item, joined, stray, argument_by, arguments_of, item_by, items}
-use Rattle.directives.specs.Directives.{Directive as Entry, Fault, stopped, Result, bad, good, item_read, before, over, ending, end_of, directives}
+use Rattle.directives.specs.Directives.{Directive as Entry, Fault, stopped, item_read, before, over, ending, end_of, directives}
 use Rattle.directives.specs.Versions.{TwoSix}
 use Rattle.directives.specs.Calls.{Argument, Arguments, Ender, Ends, AllGood, none, also, Faulty, in_item, missing, at_end}
 
@@ -93,30 +94,30 @@ never : ◌≡◌ {A = ℕ} 0 1 → ⊥
 never z = absurd (omega arith)
 
 -- of two results, what tells them apart
-abbrev told_fault : Result (List Entry) → Fault
-told_fault (bad f) = f
-told_fault (good ds) = stopped 0
+abbrev told_fault : Result (List Entry) Fault → Fault
+told_fault (Err f) = f
+told_fault (Ok ds) = stopped 0
 
-abbrev told_entries : Result (List Entry) → List Entry
-told_entries (bad f) = []
-told_entries (good ds) = ds
+abbrev told_entries : Result (List Entry) Fault → List Entry
+told_entries (Err f) = []
+told_entries (Ok ds) = ds
 
-abbrev told_kind : Result (List Entry) → ℕ
-told_kind (bad f) = 0
-told_kind (good ds) = 1
+abbrev told_kind : Result (List Entry) Fault → ℕ
+told_kind (Err f) = 0
+told_kind (Ok ds) = 1
 
-module _ (s : List ℕ) (end : Result (List Entry)) where
-  all_good : {xs : List Item} {ds : List Entry} → AllGood s xs ds → (es : List Entry) → end ≡ good es → ending s end xs ≡ good (ds ++ es)
+module _ (s : List ℕ) (end : Result (List Entry) Fault) where
+  all_good : {xs : List Item} {ds : List Entry} → AllGood s xs ds → (es : List Entry) → end ≡ Ok es → ending s end xs ≡ Ok (ds ++ es)
   unfolding over
   all_good none es q = q
   all_good (also p a) es q = rw (p, all_good a es q)
 
-  all_bad : {xs : List Item} {ds : List Entry} (f : Fault) → AllGood s xs ds → end ≡ bad f → ending s end xs ≡ bad f
+  all_bad : {xs : List Item} {ds : List Entry} (f : Fault) → AllGood s xs ds → end ≡ Err f → ending s end xs ≡ Err f
   unfolding over
   all_bad f none q = q
   all_bad f (also p a) q = rw (p, all_bad f a q)
 
-  first_bad : (passed : List Item) (this : Item) (after : List Item) (ds : List Entry) (f : Fault) → AllGood s passed ds → item_read s this ≡ bad f → ending s end (passed ++ this ∷ after) ≡ bad f
+  first_bad : (passed : List Item) (this : Item) (after : List Item) (ds : List Entry) (f : Fault) → AllGood s passed ds → item_read s this ≡ Err f → ending s end (passed ++ this ∷ after) ≡ Err f
   unfolding over
   first_bad [] this after [] f none q = rw q
   first_bad (x ∷ passed) this after (d ∷ ds) f (also p a) q = rw (p, first_bad passed this after ds f a q)
@@ -124,11 +125,11 @@ module _ (s : List ℕ) (end : Result (List Entry)) where
   first_bad (x ∷ passed) this after [] f h q = elim h [ ]
 
   -- what the items come to
-  data Comes (xs : List Item) : Result (List Entry) → Type 0 where
-    fails : {f : Fault} → Faulty TwoSix s end xs f → Comes xs (bad f)
-    holds : (ds es : List Entry) → AllGood s xs ds → end ≡ good es → Comes xs (good (ds ++ es))
+  data Comes (xs : List Item) : Result (List Entry) Fault → Type 0 where
+    fails : {f : Fault} → Faulty TwoSix s end xs f → Comes xs (Err f)
+    holds : (ds es : List Entry) → AllGood s xs ds → end ≡ Ok es → Comes xs (Ok (ds ++ es))
 
-  later : (x : Item) (xs : List Item) (d : Entry) → item_read s x ≡ good d → {o : Result (List Entry)} → Comes xs o → Comes (x ∷ xs) (before (good d) o)
+  later : (x : Item) (xs : List Item) (d : Entry) → item_read s x ≡ Ok d → {o : Result (List Entry) Fault} → Comes xs o → Comes (x ∷ xs) (before (Ok d) o)
   later x xs d p (fails (in_item h)) =
       fails (in_item (record { passed = x ∷ h.passed; this = h.this; after = h.after; entries = d ∷ h.entries; list = ap (λ (l : List Item). x ∷ l) h.list; good_before = also p h.good_before; sound_before = tt; fault = h.fault }))
   later x xs d p (fails (missing l h m e)) = absurd h
@@ -139,24 +140,24 @@ module _ (s : List ℕ) (end : Result (List Entry)) where
   unfolding over
   comes [] = go end refl
     where
-      go : (o : Result (List Entry)) → end ≡ o → Comes [] o
-      go (bad f) q = fails (at_end [] none tt q)
-      go (good es) q = holds [] es none q
+      go : (o : Result (List Entry) Fault) → end ≡ o → Comes [] o
+      go (Err f) q = fails (at_end [] none tt q)
+      go (Ok es) q = holds [] es none q
   comes (x ∷ xs) = go (item_read s x) refl (comes xs)
     where
-      go : (r : Result Entry) → item_read s x ≡ r → Comes xs (ending s end xs) → Comes (x ∷ xs) (before r (ending s end xs))
-      go (bad f) p k = fails (in_item (record { passed = []; this = x; after = xs; entries = []; list = refl; good_before = none; sound_before = tt; fault = p }))
-      go (good d) p k = later x xs d p k
+      go : (r : Result Entry Fault) → item_read s x ≡ r → Comes xs (ending s end xs) → Comes (x ∷ xs) (before r (ending s end xs))
+      go (Err f) p k = fails (in_item (record { passed = []; this = x; after = xs; entries = []; list = refl; good_before = none; sound_before = tt; fault = p }))
+      go (Ok d) p k = later x xs d p k
 
   -- a fault is the answer exactly when it is the first bad item's; or with all items good, the end's
-  pub fault_is : (xs : List Item) (f : Fault) → (ending s end xs ≡ bad f) ↔ Faulty TwoSix s end xs f
+  pub fault_is : (xs : List Item) (f : Fault) → (ending s end xs ≡ Err f) ↔ Faulty TwoSix s end xs f
   fault_is xs f = (λ e. go (ending s end xs) (comes xs) e, back)
     where
-      go : (o : Result (List Entry)) → Comes xs o → o ≡ bad f → Faulty TwoSix s end xs f
-      go (bad g) (fails h) e = subst (Faulty TwoSix s end xs) (ap told_fault e) h
-      go (good ds) (holds _ _ a q) e = absurd (never (sym (ap told_kind e)))
+      go : (o : Result (List Entry) Fault) → Comes xs o → o ≡ Err f → Faulty TwoSix s end xs f
+      go (Err g) (fails h) e = subst (Faulty TwoSix s end xs) (ap told_fault e) h
+      go (Ok ds) (holds _ _ a q) e = absurd (never (sym (ap told_kind e)))
 
-      back : Faulty TwoSix s end xs f → ending s end xs ≡ bad f
+      back : Faulty TwoSix s end xs f → ending s end xs ≡ Err f
       back (in_item h) = rw h.list (first_bad h.passed h.this h.after h.entries f h.good_before h.fault)
       back (missing l h m e) = absurd h
       back (at_end ds a h q) = all_bad f a q
@@ -166,64 +167,64 @@ module _ (s : List ℕ) (end : Result (List Entry)) where
     front : List Entry
     back : List Entry
     each : AllGood s xs front
-    last : end ≡ good back
+    last : end ≡ Ok back
     list : front ++ back ≡ ds
 
-  holds_is : (xs : List Item) (ds : List Entry) → ending s end xs ≡ good ds → Holds xs ds
+  holds_is : (xs : List Item) (ds : List Entry) → ending s end xs ≡ Ok ds → Holds xs ds
   holds_is xs ds e = go (ending s end xs) (comes xs) e
     where
-      go : (o : Result (List Entry)) → Comes xs o → o ≡ good ds → Holds xs ds
-      go (bad g) (fails h) e = absurd (never (ap told_kind e))
-      go (good _) (holds cs bs h q) e = record { front = cs; back = bs; each = h; last = q; list = ap told_entries e }
+      go : (o : Result (List Entry) Fault) → Comes xs o → o ≡ Ok ds → Holds xs ds
+      go (Err g) (fails h) e = absurd (never (ap told_kind e))
+      go (Ok _) (holds cs bs h q) e = record { front = cs; back = bs; each = h; last = q; list = ap told_entries e }
 
 -- ---- a whole text
 
-pub text_faulty : (s : List ℕ) (f : Fault) → (directives s ≡ bad f) ↔ Faulty TwoSix s (end_of (length s) (reading s).stop) (items false (reading s).tokens) f
+pub text_faulty : (s : List ℕ) (f : Fault) → (directives s ≡ Err f) ↔ Faulty TwoSix s (end_of (length s) (reading s).stop) (items false (reading s).tokens) f
 unfolding directives
 text_faulty s f = fault_is s (end_of (length s) (reading s).stop) (items false (reading s).tokens) f
 
 -- the end, by whether reading came to it
-abbrev end_by : Cursor → Bool → Result (List Entry)
-end_by c early = pick early (bad (stopped c.line.0)) (good [])
+abbrev end_by : Cursor → Bool → Result (List Entry) Fault
+end_by c early = pick early (Err (stopped c.line.0)) (Ok [])
 
 module _ (n : ℕ) (c : Cursor) where
-  pub end_good : (end_of n c ≡ good []) ↔ (n ≤ c.place)
+  pub end_good : (end_of n c ≡ Ok []) ↔ (n ≤ c.place)
   unfolding end_of
   end_good = (go (ltb c.place n) refl, λ h. rw (le-ltb c.place n h))
     where
-      go : (t : Bool) → ltb c.place n ≡ t → end_by c t ≡ good [] → n ≤ c.place
+      go : (t : Bool) → ltb c.place n ≡ t → end_by c t ≡ Ok [] → n ≤ c.place
       go true e q = absurd (never (ap told_kind q))
       go false e q = ltb-false c.place n e
 
-  pub end_bad : (f : Fault) → (end_of n c ≡ bad f) ↔ ((c.place < n) × (f ≡ stopped c.line.0))
+  pub end_bad : (f : Fault) → (end_of n c ≡ Err f) ↔ ((c.place < n) × (f ≡ stopped c.line.0))
   unfolding end_of
   end_bad f = (go (ltb c.place n) refl, λ h. rw (lt-ltb c.place n h.0, h.1))
     where
-      go : (t : Bool) → ltb c.place n ≡ t → end_by c t ≡ bad f → (c.place < n) × (f ≡ stopped c.line.0)
+      go : (t : Bool) → ltb c.place n ≡ t → end_by c t ≡ Err f → (c.place < n) × (f ≡ stopped c.line.0)
       go true e q = (ltb-true c.place n e, sym (ap told_fault q))
       go false e q = absurd (never (sym (ap told_kind q)))
 
-end_none : (n : ℕ) (c : Cursor) (bs : List Entry) → end_of n c ≡ good bs → bs ≡ []
+end_none : (n : ℕ) (c : Cursor) (bs : List Entry) → end_of n c ≡ Ok bs → bs ≡ []
 unfolding end_of
 end_none n c bs e = go (ltb c.place n) e
   where
-    go : (t : Bool) → end_by c t ≡ good bs → bs ≡ []
+    go : (t : Bool) → end_by c t ≡ Ok bs → bs ≡ []
     go true e = absurd (never (ap told_kind e))
     go false e = sym (ap told_entries e)
 
 -- number 0, 4 aside: each item is good, and reading came to the end
-pub text_good : (s : List ℕ) (ds : List Entry) → (directives s ≡ good ds) ↔ (AllGood s (items false (reading s).tokens) ds × (end_of (length s) (reading s).stop ≡ good []))
+pub text_good : (s : List ℕ) (ds : List Entry) → (directives s ≡ Ok ds) ↔ (AllGood s (items false (reading s).tokens) ds × (end_of (length s) (reading s).stop ≡ Ok []))
 unfolding directives
-text_good s ds = (there, λ h. all_good s end h.0 [] h.1 ∙ ap (λ (l : List Entry). good l) (append-nil ds))
+text_good s ds = (there, λ h. all_good s end h.0 [] h.1 ∙ ap (λ (l : List Entry). Ok l) (append-nil ds))
   where
-    end : Result (List Entry)
+    end : Result (List Entry) Fault
     end = end_of (length s) (reading s).stop
 
     xs : List Item
     xs = items false (reading s).tokens
 
-    there : ending s end xs ≡ good ds → AllGood s xs ds × (end ≡ good [])
+    there : ending s end xs ≡ Ok ds → AllGood s xs ds × (end ≡ Ok [])
     there e =
         let h : Holds s end xs ds = holds_is s end xs ds e in
         let z : h.back ≡ [] = end_none (length s) (reading s).stop h.back h.last in
-        (subst (AllGood s xs) (sym (append-nil h.front) ∙ ap (λ (l : List Entry). h.front ++ l) (sym z) ∙ h.list) h.each, h.last ∙ ap (λ (l : List Entry). good l) z)
+        (subst (AllGood s xs) (sym (append-nil h.front) ∙ ap (λ (l : List Entry). h.front ++ l) (sym z) ∙ h.list) h.each, h.last ∙ ap (λ (l : List Entry). Ok l) z)

@@ -15,9 +15,8 @@ use Rattle.lexer.specs.Tokens.{reading}
 use Rattle.directives.specs.Directives.{Directive, Fault, wrong_count, untaken, stopped, id_missing, within}
 use Rattle.directives.specs.Versions.{Version}
 use Rattle.directives.specs.Table.{Outcome, shut, faulty, overfull, filled, given_by}
-use Rattle.directives.specs.Promises.{answer_given, Lent, outcome_on, left_by, Directives}
+use Rattle.directives.specs.Promises.{Answer, answer_given, Lent, outcome_on, left_by, Directives}
 use Rattle.directives.specs.Calls.{AllGood, Sound, FirstBad, Faulty, in_item, missing, at_end, items_of, Lined, Named, Unoperated, Missing, Early, Faultless}
-use Rattle.directives.specs.declared.Answer.{Answer}
 use Rattle.directives.proofs.NumberLaws.{KnownFault, known_for}
 use Rattle.directives.proofs.RoomLaws.{Crowded, Roomy}
 use Rattle.directives.proofs.OrderLaws.{end_bad}

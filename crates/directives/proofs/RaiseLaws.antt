@@ -1,5 +1,6 @@
 -- What is read of items further on: lines are raised by the line feeds before and spans by the bytes before, and nothing else moves.
 -- And what is read of a front's items, whatever stands behind it.
+use Rattle.std.specs.Prelude.{Result, Ok, Err}
 use mathlib.Core.Path.{◌≡◌, refl, sym, ap, ap₂, ◌∙◌}
 use Prim.Native.Nat.{ℕ, ◌+◌, ◌-◌, ◌≤◌, ◌<◌}
 use native.Mathlib.Omega.{arith}
@@ -21,7 +22,7 @@ use Rattle.places.specs.declared.Rule.TheVariants as Rule
 use Rattle.places.specs.Sites.{site_of}
 use Rattle.places.proofs.RaiseLaws.{site_raised}
 use Rattle.directives.specs.Groups.{Item, joined, stray}
-use Rattle.directives.specs.Directives.{Body, Directive, wrong_count, untaken, stopped, id_missing, within, Result, bad, good, is_mark, between, site_at, sited, body_by, shape_of, last_past, placed, directive_of, item_read, before, over, end_of}
+use Rattle.directives.specs.Directives.{Body, Directive, wrong_count, untaken, stopped, id_missing, within, is_mark, between, site_at, sited, body_by, shape_of, last_past, placed, directive_of, item_read, before, over, end_of, Fault}
 use Rattle.directives.specs.Versions.{lead_by}
 use Rattle.directives.specs.Parts.{raised_item, raised_part, raised_fault, raised_directive, mapped, raised_all}
 use Rattle.directives.proofs.GroupLaws.{AllIn, AllItems}
@@ -81,7 +82,7 @@ module _ (front rest : List ℕ) where
       ∙ body_moved still front (front ++ rest) 0 t.line.0 t.text (shape_of t.text) args args (moves_front front rest args p.1)
       ∙ result_still (sited front (shape_of t.text) args (body_by (shape_of t.text) t.line.0 t.text (map text_of args))))
 
-  pub over_front : {A : Type 0} (step : Result Directive → A → A) (o : A) (xs : List Item) → AllItems (Placed front) xs → over step (front ++ rest) o xs ≡ over step front o xs
+  pub over_front : {A : Type 0} (step : Result Directive Fault → A → A) (o : A) (xs : List Item) → AllItems (Placed front) xs → over step (front ++ rest) o xs ≡ over step front o xs
   unfolding over
   over_front step o [] p = refl
   over_front step o (x ∷ xs) p = ap₂ step (item_front x p.0) (over_front step o xs p.1)
@@ -89,7 +90,7 @@ module _ (front rest : List ℕ) where
 -- ---- one directive further on
 
 module _ (d l : ℕ) where
-  abbrev pub raised_one : Result Directive → Result Directive
+  abbrev pub raised_one : Result Directive Fault → Result Directive Fault
   raised_one = mapped (raised_fault d l) (raised_directive d l)
 
   past_raised : (p : ℕ) (ts : List Token) → last_past (d + p) (map (raised d l) ts) ≡ d + last_past p ts
@@ -97,24 +98,24 @@ module _ (d l : ℕ) where
   past_raised p [] = refl
   past_raised p (t ∷ ts) = past_raised t.past ts
 
-  placed_raised : (n first past : ℕ) (x : Result Body) → placed (l + n) (d + first) (d + past) (moved_result (raised_part d) l x) ≡ raised_one (placed n first past x)
-  placed_raised n first past (bad (wrong_count m)) = refl
-  placed_raised n first past (bad (untaken m)) = refl
-  placed_raised n first past (bad (stopped m)) = refl
-  placed_raised n first past (bad (id_missing m)) = refl
-  placed_raised n first past (bad (within m f)) = refl
-  placed_raised n first past (good x) = refl
+  placed_raised : (n first past : ℕ) (x : Result Body Fault) → placed (l + n) (d + first) (d + past) (moved_result (raised_part d) l x) ≡ raised_one (placed n first past x)
+  placed_raised n first past (Err (wrong_count m)) = refl
+  placed_raised n first past (Err (untaken m)) = refl
+  placed_raised n first past (Err (stopped m)) = refl
+  placed_raised n first past (Err (id_missing m)) = refl
+  placed_raised n first past (Err (within m f)) = refl
+  placed_raised n first past (Ok x) = refl
 
   -- ---- all
 
-  pub before_raised : (x : Result Directive) (o : Result (List Directive)) → before (raised_one x) (raised_all d l o) ≡ raised_all d l (before x o)
-  before_raised (bad f) o = refl
-  before_raised (good x) (bad f) = refl
-  before_raised (good x) (good xs) = refl
+  pub before_raised : (x : Result Directive Fault) (o : Result (List Directive) Fault) → before (raised_one x) (raised_all d l o) ≡ raised_all d l (before x o)
+  before_raised (Err f) o = refl
+  before_raised (Ok x) (Err f) = refl
+  before_raised (Ok x) (Ok xs) = refl
 
-  pub lead_raised : (x : Result Directive) (ds : List Directive) → lead_by (raised_one x) (map (raised_directive d l) ds) ≡ map (raised_directive d l) (lead_by x ds)
-  lead_raised (bad f) ds = refl
-  lead_raised (good x) ds = refl
+  pub lead_raised : (x : Result Directive Fault) (ds : List Directive) → lead_by (raised_one x) (map (raised_directive d l) ds) ≡ map (raised_directive d l) (lead_by x ds)
+  lead_raised (Err f) ds = refl
+  lead_raised (Ok x) ds = refl
 
   module _ (pre s : List ℕ) (e : d ≡ length pre) where
     item_raised : (x : Item) → item_read (pre ++ s) (raised_item d l x) ≡ raised_one (item_read s x)
@@ -122,12 +123,12 @@ module _ (d l : ℕ) where
     item_raised (stray t) = refl
     item_raised (joined t args) =
         let shape = shape_of t.text in
-        ap₂ (λ (p : ℕ) (b : Result Body). placed (l + t.line.0) (d + t.first) p b) (past_raised t.past args)
+        ap₂ (λ (p : ℕ) (b : Result Body Fault). placed (l + t.line.0) (d + t.first) p b) (past_raised t.past args)
         (body_moved (raised_part d) s (pre ++ s) l t.line.0 t.text shape args (map (raised d l) args) (moves_behind pre s d e l args))
         ∙ placed_raised t.line.0 t.first (last_past t.past args) (sited s shape args (body_by shape t.line.0 t.text (map text_of args)))
 
     -- a step that moves as its directives do
-    pub over_raised : {A : Type 0} (step : Result Directive → A → A) (g : A → A) → ((x : Result Directive) (o : A) → step (raised_one x) (g o) ≡ g (step x o))
+    pub over_raised : {A : Type 0} (step : Result Directive Fault → A → A) (g : A → A) → ((x : Result Directive Fault) (o : A) → step (raised_one x) (g o) ≡ g (step x o))
         → (o : A) (xs : List Item) → over step (pre ++ s) (g o) (map (raised_item d l) xs) ≡ g (over step s o xs)
     unfolding over
     over_raised step g n o [] = refl
@@ -144,6 +145,6 @@ module _ (d l : ℕ) where
   unfolding end_of
   end_raised n c = rw (ltb_raised c.place n) (go (ltb c.place n))
     where
-      go : (t : Bool) → pick t (bad (stopped (l + c.line.0))) (good []) ≡ raised_all d l (pick t (bad (stopped c.line.0)) (good []))
+      go : (t : Bool) → pick t (Err (stopped (l + c.line.0))) (Ok []) ≡ raised_all d l (pick t (Err (stopped c.line.0)) (Ok []))
       go true = refl
       go false = refl

@@ -1,6 +1,7 @@
 -- M-100's theorem over the definitions: another line of blanks or a comment in such a line's place changes nothing but spans in the input.
 -- The idea: such a line is one token that ends a directive and starts none, so the text's directives are the front's, and behind them the
 -- rest's, further on; the line's length moves their spans, and nothing else depends on it.
+use Rattle.std.specs.Prelude.{Result, Ok, Err}
 use mathlib.Core.Path.{◌≡◌, refl, sym, ap, ap₂, ◌∙◌}
 use Prim.Native.Nat.{ℕ, ◌+◌}
 use mathlib.Core.Bool.{Bool, true, false}
@@ -15,7 +16,7 @@ use Rattle.lexer.specs.Parts.{raised, puts, line_in, rest_in, ALine, Closed}
 use Rattle.lexer.proofs.PlaceLaws.{places}
 use Rattle.lexer.proofs.Demand3.{closed_at, closed_apart, demand3}
 use Rattle.directives.specs.Groups.{Item, items}
-use Rattle.directives.specs.Directives.{Body, rule, act, marker, defaults, unknown, Directive, wrong_count, untaken, stopped, id_missing, within, Result, bad, good, before, item_read, over, end_of, directives}
+use Rattle.directives.specs.Directives.{Body, rule, act, marker, defaults, unknown, Directive, wrong_count, untaken, stopped, id_missing, within, before, item_read, over, end_of, directives, Fault}
 use Rattle.directives.specs.Versions.{Version, TwoSix, TwoSeven, chained_on, lacks_id, asked, lead_by, leading, directives_for}
 use Rattle.directives.specs.Parts.{Idle, raised_item, raised_directive, raised_all, behind, rest_behind, mapped, resited_body, raised_part, nowhere, erased, erased_fault, erased_all, Unmoved}
 use Rattle.directives.proofs.SitedLaws.{resited_same}
@@ -48,7 +49,7 @@ module _ (front line rest : List ℕ) (h : Single line) where
   lines = feeds front + 1
 
   -- what is read item by item, behind the front's items
-  over_apart : {A : Type 0} (step : Result Directive → A → A) (g : A → A) → ((x : Result Directive) (o : A) → step (raised_one bytes lines x) (g o) ≡ g (step x o)) → (o : A)
+  over_apart : {A : Type 0} (step : Result Directive Fault → A → A) (g : A → A) → ((x : Result Directive Fault) (o : A) → step (raised_one bytes lines x) (g o) ≡ g (step x o)) → (o : A)
       → over step (front ++ line ++ rest) (g o) (items false (reading front).tokens ++ map (raised_item bytes lines) (items false (reading rest).tokens))
       ≡ over step front (g (over step rest o (items false (reading rest).tokens))) (items false (reading front).tokens)
   over_apart {A} step g n o =
@@ -85,7 +86,7 @@ erased_body f (marker m) = refl
 erased_body f (defaults xs) = rw (erased_all_lem f xs)
 erased_body f (unknown n) = refl
 
-abbrev erased_one : Result Directive → Result Directive
+abbrev erased_one : Result Directive Fault → Result Directive Fault
 erased_one = mapped erased_fault erased
 
 all_erased : (d d' l : ℕ) (xs : List Directive) → map erased (map (raised_directive d l) xs) ≡ map erased (map (raised_directive d' l) xs)
@@ -94,25 +95,25 @@ all_erased d d' l (x ∷ xs) =
     ap₂ (λ (b : Body) (ys : List Directive). record { line = l + x.line; first = 0; past = 0; body = b } ∷ ys)
     (erased_body (raised_part d) x.body ∙ sym (erased_body (raised_part d') x.body)) (all_erased d d' l xs)
 
-raised_erased : (d d' l : ℕ) (o : Result (List Directive)) → erased_all (raised_all d l o) ≡ erased_all (raised_all d' l o)
-raised_erased d d' l (bad (wrong_count n)) = refl
-raised_erased d d' l (bad (untaken n)) = refl
-raised_erased d d' l (bad (stopped n)) = refl
-raised_erased d d' l (bad (id_missing n)) = refl
-raised_erased d d' l (bad (within n f)) = ap (λ (r : Refusal). bad (within (l + n) r)) (erased_refusal (raised_part d) f ∙ sym (erased_refusal (raised_part d') f))
-raised_erased d d' l (good xs) = ap (λ (ys : List Directive). good ys) (all_erased d d' l xs)
+raised_erased : (d d' l : ℕ) (o : Result (List Directive) Fault) → erased_all (raised_all d l o) ≡ erased_all (raised_all d' l o)
+raised_erased d d' l (Err (wrong_count n)) = refl
+raised_erased d d' l (Err (untaken n)) = refl
+raised_erased d d' l (Err (stopped n)) = refl
+raised_erased d d' l (Err (id_missing n)) = refl
+raised_erased d d' l (Err (within n f)) = ap (λ (r : Refusal). Err (within (l + n) r)) (erased_refusal (raised_part d) f ∙ sym (erased_refusal (raised_part d') f))
+raised_erased d d' l (Ok xs) = ap (λ (ys : List Directive). Ok ys) (all_erased d d' l xs)
 
-before_erased : (x : Result Directive) (o : Result (List Directive)) → erased_all (before x o) ≡ before (erased_one x) (erased_all o)
-before_erased (bad f) o = refl
-before_erased (good x) (bad f) = refl
-before_erased (good x) (good xs) = refl
+before_erased : (x : Result Directive Fault) (o : Result (List Directive) Fault) → erased_all (before x o) ≡ before (erased_one x) (erased_all o)
+before_erased (Err f) o = refl
+before_erased (Ok x) (Err f) = refl
+before_erased (Ok x) (Ok xs) = refl
 
-lead_erased : (x : Result Directive) (ds : List Directive) → map erased (lead_by x ds) ≡ lead_by (erased_one x) (map erased ds)
-lead_erased (bad f) ds = refl
-lead_erased (good x) ds = refl
+lead_erased : (x : Result Directive Fault) (ds : List Directive) → map erased (lead_by x ds) ≡ lead_by (erased_one x) (map erased ds)
+lead_erased (Err f) ds = refl
+lead_erased (Ok x) ds = refl
 
 -- a step that loses spans as its directives do
-over_erased : {A : Type 0} (step : Result Directive → A → A) (g : A → A) → ((x : Result Directive) (o : A) → g (step x o) ≡ step (erased_one x) (g o))
+over_erased : {A : Type 0} (step : Result Directive Fault → A → A) (g : A → A) → ((x : Result Directive Fault) (o : A) → g (step x o) ≡ step (erased_one x) (g o))
     → (s : List ℕ) (o o' : A) → g o ≡ g o' → (xs : List Item) → g (over step s o xs) ≡ g (over step s o' xs)
 unfolding over
 over_erased step g n s o o' e [] = e
@@ -120,13 +121,13 @@ over_erased step g n s o o' e (x ∷ xs) = n (item_read s x) (over step s o xs) 
 
 -- ---- for a version
 
-asked_erased : (chained : Bool) (ds : List Directive) (o : Result (List Directive)) → erased_all (asked chained ds o) ≡ asked chained (map erased ds) (erased_all o)
+asked_erased : (chained : Bool) (ds : List Directive) (o : Result (List Directive) Fault) → erased_all (asked chained ds o) ≡ asked chained (map erased ds) (erased_all o)
 unfolding asked
 asked_erased chained [] o = refl
 asked_erased chained (d ∷ ds) o = rw (lacks_same chained (resited_same nowhere d.body), chained_same chained (resited_same nowhere d.body)) (go (lacks_id chained d.body) (asked_erased (chained_on chained d.body) ds o))
   where
     go : (t : Bool) → erased_all (asked (chained_on chained d.body) ds o) ≡ asked (chained_on chained d.body) (map erased ds) (erased_all o)
-        → erased_all (pick t (bad (id_missing d.line)) (asked (chained_on chained d.body) ds o)) ≡ pick t (bad (id_missing d.line)) (asked (chained_on chained d.body) (map erased ds) (erased_all o))
+        → erased_all (pick t (Err (id_missing d.line)) (asked (chained_on chained d.body) ds o)) ≡ pick t (Err (id_missing d.line)) (asked (chained_on chained d.body) (map erased ds) (erased_all o))
     go true e = refl
     go false e = e
 

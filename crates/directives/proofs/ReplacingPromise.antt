@@ -1,4 +1,8 @@
 -- M-100's theorem over what the public call promises: two calls, on texts that differ in an idle line, and on buffers of the same lengths.
+use Rattle.lent.specs.declared.gating.GateError.TheVariants.{TooLong, NotAscii, Short}
+use Rattle.directives.specs.declared.DirectivesError.TheVariants.{Gate, Refused, NoRoom}
+use Rattle.lent.specs.declared.gating.GateError.{GateError}
+use Rattle.std.specs.Prelude.{Ok, Err, Result}
 use mathlib.Core.Path.{◌≡◌, refl, sym, ap, ap₂, ◌∙◌, subst}
 use Prim.Native.Nat.{ℕ, min}
 use native.Mathlib.Omega.{arith}
@@ -10,20 +14,17 @@ use Rattle.ascii.specs.Choice.{pick}
 use Rattle.lent.specs.Sizes.{span_word}
 use Rattle.lent.specs.Table.{Given, given, too_long, not_ascii, short_buffer, no_room, named, no_action, no_argument, no_variable, unknown_operator, bad_cursor}
 use Rattle.lent.specs.declared.refusing.Flaw.TheVariants as Flaw
-use Rattle.lent.specs.declared.gating.Gate.{Gate}
-use Rattle.lent.specs.declared.gating.Gate.TheVariants.{Open}
 use Rattle.lent.proofs.GateLaws.{row_gate}
 use Rattle.lexer.specs.Parts.{Closed}
-use Rattle.directives.specs.Directives.{Directive, Fault, wrong_count, untaken, stopped, id_missing, within, Result, bad, good}
+use Rattle.directives.specs.Directives.{Directive, Fault, wrong_count, untaken, stopped, id_missing, within}
 use Rattle.directives.specs.Versions.{Version, directives_for}
 use Rattle.directives.specs.Layout.{listed_counts, action_counts}
 use Rattle.directives.specs.Table.{Filled, Outcome, shut, faulty, overfull, filled, past_gate, fault_given, given_by, text_by, records_by, scratch_by}
-use Rattle.directives.specs.Promises.{answer_given, Rooms, rooms_of, Lent, outcome_on, directives_outcome, laid_out, lacks, roomed}
+use Rattle.directives.specs.Promises.{Answer, answer_given, Rooms, rooms_of, Lent, outcome_on, directives_outcome, laid_out, lacks, roomed}
 use Rattle.directives.specs.Parts.{Idle, erased_fault, erased_all, unspanned, unsourced_variables, unsourced_actions, unspanned_outcome, unspanned_reply, Fits, Called, Alike, SameTold}
 use Rattle.directives.specs.declared.LineFault.TheVariants.{WrongCount, Untaken, Stopped, IdMissing}
 use Rattle.directives.specs.declared.ArgumentFault.TheVariants.{UnknownVariable, UnknownOperator, UnknownAction, BadArgument}
 use Rattle.directives.specs.declared.Fault.{Fault as Told}
-use Rattle.directives.specs.declared.Answer.{Answer}
 use Rattle.directives.proofs.GivenLaws.{answer_told}
 use Rattle.directives.proofs.EraseLaws.{outcome_erased, text_unspanned, scratch_unspanned, variables_unspanned, actions_unspanned, directives_unspanned}
 use Rattle.directives.proofs.Replacing.{replaced_remark}
@@ -33,8 +34,8 @@ use Rattle.directives.proofs.Replacing.{replaced_remark}
 open_outcome : (v : Version) (s : List ℕ) (m : Lent) → Fits s m → outcome_on v s m ≡ roomed (rooms_of m) (directives_for v s)
 unfolding directives_outcome
 open_outcome v s m h =
-    ap (λ (g : Gate). past_gate g (roomed (rooms_of m) (directives_for v s)))
-    (row_gate s (min (length m.text) (length m.scratch)) (length s) Open (record { within = h.short; ascii = h.ascii; room = omega (arith, h.texts_fit_lem, h.scratch_fits) }))
+    ap (λ (g : Result Unit GateError). past_gate g (roomed (rooms_of m) (directives_for v s)))
+    (row_gate s (min (length m.text) (length m.scratch)) (length s) (Ok tt) (record { within = h.short; ascii = h.ascii; room = omega (arith, h.texts_fit_lem, h.scratch_fits) }))
 
 -- an outcome past 1 to 3
 abbrev Past : Outcome → Type 0
@@ -43,9 +44,9 @@ Past (faulty f) = Unit {0}
 Past (overfull d v a) = Unit {0}
 Past (filled x) = Unit {0}
 
-roomed_past : (m : Rooms) (o : Result (List Directive)) → Past (roomed m o)
-roomed_past m (bad f) = tt
-roomed_past m (good ds) = go (lacks m ds)
+roomed_past : (m : Rooms) (o : Result (List Directive) Fault) → Past (roomed m o)
+roomed_past m (Err f) = tt
+roomed_past m (Ok ds) = go (lacks m ds)
   where
     go : (t : Bool) → Past (pick t (overfull (length ds) (listed_counts ds) (action_counts ds)) (filled (laid_out ds)))
     go true = tt
@@ -84,7 +85,7 @@ spanless (a ∷ b ∷ c ∷ d ∷ r) = a ∷ b ∷ c ∷ 0 ∷ r
 abbrev unspanned_given : Given → Given
 unspanned_given g = given g.number (pick (eqb g.number 0) g.values (spanless g.values))
 
-told_unspanned : (f : Told) → answer_given (unspanned_reply (Answer.Refused f)) ≡ unspanned_given (answer_given (Answer.Refused f))
+told_unspanned : (f : Told) → answer_given (unspanned_reply (Err (Refused f))) ≡ unspanned_given (answer_given (Err (Refused f)))
 told_unspanned (Told.Line WrongCount line) = refl
 told_unspanned (Told.Line Untaken line) = refl
 told_unspanned (Told.Line Stopped line) = refl
@@ -97,12 +98,12 @@ told_unspanned (Told.Argument (BadArgument Flaw.Unreadable) line piece name span
 told_unspanned (Told.Argument (BadArgument Flaw.TooLarge) line piece name span) = refl
 
 reply_unspanned : (r : Answer) → answer_given (unspanned_reply r) ≡ unspanned_given (answer_given r)
-reply_unspanned (Answer.Read d v a t) = refl
-reply_unspanned Answer.TooLong = refl
-reply_unspanned (Answer.NotAscii place) = refl
-reply_unspanned Answer.Short = refl
-reply_unspanned (Answer.Refused f) = told_unspanned f
-reply_unspanned (Answer.NoRoom d v a) = refl
+reply_unspanned (Ok r) = refl
+reply_unspanned (Err (Gate TooLong)) = refl
+reply_unspanned (Err (Gate (NotAscii place))) = refl
+reply_unspanned (Err (Gate Short)) = refl
+reply_unspanned (Err (Refused f)) = told_unspanned f
+reply_unspanned (Err (NoRoom d v a)) = refl
 
 fault_unspanned : (f : Fault) → fault_given (erased_fault f) ≡ unspanned_given (fault_given f)
 unfolding span_word
@@ -144,7 +145,7 @@ module _ (v : Version) (s s' : List ℕ) (m n : Lent) (z : Alike m n) (same : er
   told_same =
       ap unspanned_outcome (open_outcome v s m k.fits)
       ∙ sym (outcome_erased (rooms_of m) (directives_for v s))
-      ∙ ap₂ (λ (r : Rooms) (o : Result (List Directive)). roomed r o) rooms_same same
+      ∙ ap₂ (λ (r : Rooms) (o : Result (List Directive) Fault). roomed r o) rooms_same same
       ∙ outcome_erased (rooms_of n) (directives_for v s')
       ∙ sym (ap unspanned_outcome (open_outcome v s' n k'.fits))
 

@@ -1,16 +1,15 @@
 -- Spans put into the input: what `places` makes of them, from the part of the input or of scratch that it is given, is what the
 -- definition says.
 use mathlib.Core.Path.{◌≡◌, ◌∙◌, refl, sym, ap, subst}
-use mathlib.Core.Logic.{⊎_elim}
 use mathlib.Core.Bool.{Bool, true, false}
 use mathlib.Core.List.{List, [], ◌∷◌, ◌++◌, append_assoc}
-use Prim.Native.Nat.{ℕ, zero, suc, ◌+◌, ◌≤◌, ◌<◌}
+use Prim.Native.Nat.{ℕ, zero, suc, ◌+◌, ◌≤◌}
 use native.Mathlib.Omega.{arith}
 use lib.ListN.{length, take, drop, get_or, length-append, take-append-drop}
 use lib.Seq.{length-take-le}
-use lib.Dec.{eqb, ltb}
-use borrow.Author.Tests.{le-leb, eqb-true, ltb-true}
-use Rattle.ascii.specs.Choice.{pick, or}
+use lib.Dec.{eqb}
+use borrow.Author.Tests.{le-leb}
+use Rattle.ascii.specs.Choice.{pick}
 use Rattle.lent.specs.Sizes.{limit, action_words}
 use Rattle.lent.specs.Layout.{texts_of}
 use Rattle.lent.specs.Sources.{Part, part_word}
@@ -21,22 +20,22 @@ use Rattle.lexer.specs.declared.Cursor.{Cursor}
 use Rattle.lexer.specs.Tokens.{Token}
 use Rattle.lexer.specs.Layout as Lexed
 use Rattle.lexer.specs.Steps.{part}
-use Rattle.lexer.specs.Calls.{Reached as Arrived}
+use Rattle.single_action.specs.Marks.{quotation}
 use Rattle.operators.proofs.PlaceLaws.{drop_take}
 use Rattle.directives.specs.Directives.{is_mark, between, site_at}
 use Rattle.directives.specs.Steps.{Laid, ends_at, arguments_as, taken_from, Took, held_list}
-use Rattle.directives.specs.Settling.{Stands, Stand, token_word, text_number, list_among, list_in, list_text, Heard, Listing, list_there, list_word, span_moved}
-use Rattle.directives.specs.declared.ArgumentFault.{ArgumentFault}
-use Rattle.directives.specs.declared.ArgumentFault.TheVariants.{UnknownVariable, UnknownOperator, UnknownAction, BadArgument}
+use Rattle.directives.specs.Settling.{Stands, token_word, text_number, list_among, list_in, list_text, Heard, Listing}
 use Rattle.directives.specs.declared.arguments.Arguments.{Arguments}
 use Rattle.directives.specs.declared.arguments.Taken.{Taken}
 use Rattle.directives.specs.declared.settling.Listed.{Listed as ListPlace}
-use types.Run.{OneOf}
-use denote.Enum.Declared.{tag_of}
-use Rattle.directives.specs.contracts.ArgumentFault.{the_type}
 use Rattle.directives.proofs.LaidLaws.{part_of}
 
 -- ---- a token of the input
+
+-- a quotation mark of actions opens a quoted text
+pub mark_is : (b : ℕ) → is_mark b ≡ quotation b
+unfolding quotation
+mark_is b = refl
 
 module _ {s : List ℕ} {t : Part} (h : Stands s t) where
   -- the input up to the token's end
@@ -210,10 +209,6 @@ module _ {old new : List ℕ} {name : ℕ} (past : ℕ) (args : List Token) (x :
       go false = third_at
 
 module _ {s : List ℕ} {from : Cursor} {name : ℕ} {old : List ℕ} (h : Heard s from name old) where
-  -- the arguments may be taken again
-  pub taken_again : (length s ≤ limit) × (Arrived s from × ((length s ≤ length old) × ((name ≤ from.place) × (from.place ≤ from.place))))
-  taken_again = (h.short, (h.arrived, (h.room, (h.low, omega arith))))
-
   module _ {l : ListPlace} (i : Listing s from name l) {new : List ℕ} {r : Taken} (x : Took s from from.place name old new r) where
     -- and the list stands in scratch then
     pub listed_at : ListAt (list_text s from) l.first l.past new
@@ -234,40 +229,3 @@ module _ {s : List ℕ} {from : Cursor} {name : ℕ} {old : List ℕ} (h : Heard
         let t = list_text s from in
         let n = subst (λ (u : List ℕ). Resite u 0 Rule.Joined count action_words at records records') listed_at.text m in
         n.words ∙ rw (le-leb (length t) limit list_short, le-leb 0 (length t) (omega arith))
-
--- ---- where the list is
-
--- a list that is there
-pub list_number_lem : (n : ℕ) → list_there n ≡ true → list_among n < n
-list_number_lem n e = go (eqb n 1) refl e
-  where
-    go : (t : Bool) → eqb n 1 ≡ t → or t (ltb 2 n) ≡ true → pick t 0 2 < n
-    go true f e = omega (arith, eqb-true n 1 f)
-    go false f e = ltb-true 2 n e
-
-module _ {s : List ℕ} (from : Cursor) (name : ℕ) (a : Arguments) (is : a ≡ arguments_as name from.place (taken_from s from)) (w : Stand s a) where
-  list_stands : list_there a.count ≡ true → Stands s (list_in a name).token
-  list_stands e = go (eqb a.count 1) refl e
-    where
-      go : (t : Bool) → eqb a.count 1 ≡ t → or t (ltb 2 a.count) ≡ true
-          → Stands s (pick {X = ListPlace} t (record { token = a.first; first = name; past = a.one }) (record { token = a.third; first = a.two; past = a.three })).token
-      go true f e = w.first (omega (arith, eqb-true a.count 1 f))
-      go false f e = w.third (ltb-true 2 a.count e)
-
-  -- a directive's list
-  pub listing : (l : ListPlace) → l ≡ list_in a name → list_there a.count ≡ true → Listing s from name l
-  listing l e t = record {
-    is = e ∙ ap (λ (b : Arguments). list_in b name) is;
-    token = subst (λ (m : ListPlace). Stands s m.token) (sym e) (list_stands t);
-    there = subst (λ (n : ℕ). list_among n < n) (ap (λ (b : Arguments). b.count) is) (list_number_lem a.count t);
-  }
-
--- ---- a fault in a list
-
-module _ (s : List ℕ) (from : Cursor) (a : Arguments) (name : ℕ) (w : ℕ) where
-  -- 5 and 10 to 12
-  pub list_fault : (why : ArgumentFault) → OneOf (2 ∷ 3 ∷ []) (tag_of the_type why) → span_moved s from a name why w ≡ pick (list_there a.count) (list_word s from (list_in a name).token w) w
-  list_fault UnknownVariable k = absurd (⊎_elim (λ z. omega arith) (λ z. omega arith) k)
-  list_fault UnknownOperator k = absurd (⊎_elim (λ z. omega arith) (λ z. omega arith) k)
-  list_fault UnknownAction k = refl
-  list_fault (BadArgument flaw) k = refl

@@ -1,4 +1,5 @@
 -- What is read of a directive with places in its own texts, and then put into the input, is what the definition says: its records, or its fault.
+use Rattle.std.specs.Prelude.{Result, Ok, Err}
 use mathlib.Core.Path.{◌≡◌, refl, sym, ap, ap₂, ◌∙◌, subst}
 use mathlib.Core.Bool.{Bool, true, false}
 use mathlib.Core.List.{List, [], ◌∷◌, map}
@@ -33,7 +34,7 @@ use Rattle.actions.specs.Pieces.{pieces}
 use Rattle.actions.proofs.CountLaws.{Counted, from_counted}
 use Rattle.actions.proofs.SourceLaws.{Inside, EachInside, AllInside, listed_inside}
 use Rattle.records.specs.Codes.{id_code, chain_code}
-use Rattle.directives.specs.Directives.{Listed, Body, rule, act, marker, defaults, unknown, Fault, wrong_count, untaken, stopped, id_missing, within, Result, bad, good, variables_read, listed_by, operator_read, actions_read, Shape, of_rule, of_action, of_marker, of_defaults, of_other, rule_by, act_by, told, body_by, argument_site, list_site, list_number, sited_body, refusal_site, sited_fault}
+use Rattle.directives.specs.Directives.{Listed, Body, rule, act, marker, defaults, unknown, Fault, wrong_count, untaken, stopped, id_missing, within, variables_read, listed_by, operator_read, actions_read, Shape, of_rule, of_action, of_marker, of_defaults, of_other, rule_by, act_by, told, body_by, argument_site, list_site, list_number, sited_body, refusal_site, sited_fault}
 use Rattle.directives.specs.Layout.{Reached, name_end, argument_end}
 use Rattle.directives.specs.Table.{fault_given}
 use Rattle.directives.specs.Promises.{argument_number, fault_told, naming}
@@ -45,7 +46,6 @@ use Rattle.directives.specs.declared.Fault.{Fault as Told}
 use Rattle.directives.specs.declared.arguments.Arguments.{Arguments}
 use Rattle.directives.specs.declared.parts.Tally.{Tally}
 use Rattle.directives.specs.declared.parts.Entry.{Entry}
-use Rattle.directives.specs.declared.parts.Judged.{Judged}
 use Rattle.directives.proofs.WhyLaws.{flaw_high, argument_low, line_high, refused_low, why_variable, why_operator, OfList, why_list}
 use Rattle.directives.proofs.SitedLaws.{SameBody, sited_same, resited_number, fault_name_lem}
 use Rattle.directives.proofs.SiteLaws.{list_within, list_token, span_settled, list_span_settled, variables_settled, every_narrow, actions_settled}
@@ -77,17 +77,17 @@ pub record TargetsWhere (x : Listed) : Type 0 where
   pub variables : AllNarrow x.variables
   pub exclusions : AllNarrow x.exclusions
 
-abbrev pub Where : Shape → List Token → Result Body → Type 0
-Where k args (good (rule vs o xs)) = TargetsWhere vs × ListsWhere 2 args xs
-Where k args (good (act xs)) = ListsWhere 0 args xs
-Where k args (good (marker m)) = Unit {0}
-Where k args (good (defaults xs)) = ListsWhere 0 args xs
-Where k args (good (unknown n)) = Unit {0}
-Where k args (bad (wrong_count n)) = Unit {0}
-Where k args (bad (untaken n)) = Unit {0}
-Where k args (bad (stopped n)) = Unit {0}
-Where k args (bad (id_missing n)) = Unit {0}
-Where k args (bad (within n f)) = RefusedWhere k args f
+abbrev pub Where : Shape → List Token → Result Body Fault → Type 0
+Where k args (Ok (rule vs o xs)) = TargetsWhere vs × ListsWhere 2 args xs
+Where k args (Ok (act xs)) = ListsWhere 0 args xs
+Where k args (Ok (marker m)) = Unit {0}
+Where k args (Ok (defaults xs)) = ListsWhere 0 args xs
+Where k args (Ok (unknown n)) = Unit {0}
+Where k args (Err (wrong_count n)) = Unit {0}
+Where k args (Err (untaken n)) = Unit {0}
+Where k args (Err (stopped n)) = Unit {0}
+Where k args (Err (id_missing n)) = Unit {0}
+Where k args (Err (within n f)) = RefusedWhere k args f
 
 -- ---- one argument
 
@@ -145,7 +145,7 @@ module _ (l : ℕ) (name : List ℕ) where
   rule_where args (reads v) (reads o) (refuses f) x y z = z
   rule_where args (reads v) (reads o) (reads xs) x y z = (x, z)
 
-  act_where : (k : Shape) (args : List Token) (make : List (Sourced Action) → Body) (a : Outcome (List (Sourced Action))) → ((xs : List (Sourced Action)) → ListsWhere 0 args xs → Where k args (good (make xs)))
+  act_where : (k : Shape) (args : List Token) (make : List (Sourced Action) → Body) (a : Outcome (List (Sourced Action))) → ((xs : List (Sourced Action)) → ListsWhere 0 args xs → Where k args (Ok (make xs)))
       → ListAt k 0 args a → Where k args (told l (act_by make a))
   act_where k args make (refuses f) h z = z
   act_where k args make (reads xs) h z = h xs z
@@ -237,7 +237,7 @@ module _ (s : List ℕ) (from : Cursor) (arrived : Arrived s from) (short : leng
   named_same (Told.Line why line) = refl
   named_same (Told.Argument why line at len span) = refl
 
-  given_moved : (k : Shape) (q : Fault) → Where k args (bad q) → (f : Told) → fault_told f ≡ fault_given q → fault_told (fault_moved s from a name f) ≡ fault_given (sited_fault s k args q)
+  given_moved : (k : Shape) (q : Fault) → Where k args (Err q) → (f : Told) → fault_told f ≡ fault_given q → fault_told (fault_moved s from a name f) ≡ fault_given (sited_fault s k args q)
   given_moved k (wrong_count l) w (Told.Line why line) e = e
   given_moved k (untaken l) w (Told.Line why line) e = e
   given_moved k (stopped l) w (Told.Line why line) e = e
@@ -251,7 +251,7 @@ module _ (s : List ℕ) (from : Cursor) (arrived : Arrived s from) (short : leng
       told_moved k why line at len span l f w e ∙ ap (λ (n : ℕ). given n (l ∷ (refused (resited (refusal_site s k args f) f)).values)) (sym (resited_number (refusal_site s k args f) f))
 
   -- A fault that is put into the input is the definition's.
-  pub fault_settled : (k : Shape) (q : Fault) → Where k args (bad q) → {text text' : List ℕ} {f : Told} → Faulted q text text' f
+  pub fault_settled : (k : Shape) (q : Fault) → Where k args (Err q) → {text text' : List ℕ} {f : Told} → Faulted q text text' f
       → Faulted (sited_fault s k args q) text text' (fault_moved s from a name f)
   fault_settled k q w {text} {text'} {f} x = record {
     given = given_moved k q w f x.given;
@@ -327,7 +327,7 @@ module _ (s : List ℕ) (from : Cursor) (arrived : Arrived s from) (short : leng
         → actions₁ ≡ stored_each actions (t.actions * action_words) (Acts.records_from o xs) → actions₂ ≡ stored_each actions (t.actions * action_words) (Acts.records_from o (sited_all (list_site s k there) xs))
     list_put k x o xs w c h v = z.acted ∙ rw (h, v) (actions_put k o e.actions xs w c)
 
-    body_put : (k : Shape) (x : Body) → Where k there (good x) → e ≡ entry_of (reached_by t) shrunk x
+    body_put : (k : Shape) (x : Body) → Where k there (Ok x) → e ≡ entry_of (reached_by t) shrunk x
         → variables₁ ≡ stored_each variables (t.variables * variable_words) (listed_each t.text x) → actions₁ ≡ stored_each actions (t.actions * action_words) (acted_each t.text x) → Put x
     unfolding stored_each records_of
     body_put k (rule vs o xs) w i v c = (
@@ -348,14 +348,14 @@ module _ (s : List ℕ) (from : Cursor) (arrived : Arrived s from) (short : leng
     body_put k (unknown m) w i v c = (none_listed v (ap (λ (d : Entry). d.variables) i), none_acted c (ap (λ (d : Entry). d.actions) i))
 
     -- A body whose records are put into the input is the definition's.
-    pub body_settled : (k : Shape) (x : Body) → Where k (taken_from s from) (good x) → {text text' : List ℕ}
-        → Wrote x (shrunk_by (list_text s from)) t text text' variables variables₁ actions actions₁ (Judged.Good e) → e ≡ entry_of (reached_by t) (shrunk_by (list_text s from)) x
-        → Wrote (sited_body s (taken_from s from) x) (shrunk_by (list_text s from)) t text text' variables variables₂ actions actions₂ (Judged.Good e)
+    pub body_settled : (k : Shape) (x : Body) → Where k (taken_from s from) (Ok x) → {text text' : List ℕ}
+        → Wrote x (shrunk_by (list_text s from)) t text text' variables variables₁ actions actions₁ (Ok e) → e ≡ entry_of (reached_by t) (shrunk_by (list_text s from)) x
+        → Wrote (sited_body s (taken_from s from) x) (shrunk_by (list_text s from)) t text text' variables variables₂ actions actions₂ (Ok e)
     body_settled k x w {text} {text'} y i =
         let p = body_put k x w i y.listed y.acted in
         let m = sited_same s there x in
         record {
-          is = y.is ∙ ap (λ (d : Entry). Judged.Good d) (sym (entry_sited (reached_by t) shrunk x (sited_body s there x) m (shrunk_sited s there x shrunk)));
+          is = y.is ∙ ap (λ (d : Entry). Ok d) (sym (entry_sited (reached_by t) shrunk x (sited_body s there x) m (shrunk_sited s there x shrunk)));
           laid = subst (Laid text text' t.text) (sym m.text) y.laid;
           listed = p.0;
           acted = p.1;

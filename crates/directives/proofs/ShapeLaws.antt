@@ -1,4 +1,5 @@
 -- Which body a directive has, by its shape and the count of its arguments, and the room for each part of it.
+use Rattle.std.specs.Prelude.{Result, Ok, Err}
 use mathlib.Core.Path.{◌≡◌, refl, sym, ap, ◌∙◌, subst}
 use mathlib.Core.Bool.{true, false}
 use mathlib.Core.List.{List, [], ◌∷◌}
@@ -21,20 +22,19 @@ use Rattle.ascii.specs.Trim.{strip_start, strip_end}
 use Rattle.actions.specs.Normal.{normalised, normalised_from, text_held}
 use Rattle.actions.specs.Pieces.{pieces_from, parts_from, pieces_of}
 use Rattle.actions.specs.Lists.{actions_from}
-use Rattle.directives.specs.Directives.{Body, act, marker, defaults, unknown, wrong_count, Result, bad, good, variables_read, operator_read, actions_read, Shape, of_rule, of_action, of_marker, of_defaults, of_other, rule_by, act_by, told, shape_of, body_by}
+use Rattle.directives.specs.Directives.{Body, act, marker, defaults, unknown, wrong_count, variables_read, operator_read, actions_read, Shape, of_rule, of_action, of_marker, of_defaults, of_other, rule_by, act_by, told, shape_of, body_by, Fault}
 use Rattle.directives.specs.Steps.{empty_entry, Fell, AddsVariables, AddsOperator, Bodied, takes, held_by, held_arguments, Ready}
 use Rattle.directives.specs.declared.Fault.{Fault as Told}
 use Rattle.directives.specs.declared.LineFault.TheVariants.{WrongCount}
 use Rattle.directives.specs.declared.arguments.Arguments.{Arguments}
 use Rattle.directives.specs.declared.parts.Tally.{Tally}
 use Rattle.directives.specs.declared.parts.Entry.{Entry}
-use Rattle.directives.specs.declared.parts.Judged.{Judged}
 use Rattle.directives.proofs.BodyLaws.{variables_text, operator_text}
 
 -- ---- by the count of arguments
 
 module _ (l : ℕ) (name v o x : List ℕ) where
-  pub count_wrong : (k : Shape) (n : ℕ) → takes k n ≡ false → body_by k l name (held_by n v o x) ≡ bad (wrong_count l)
+  pub count_wrong : (k : Shape) (n : ℕ) → takes k n ≡ false → body_by k l name (held_by n v o x) ≡ Err (wrong_count l)
   count_wrong of_rule zero e = refl
   count_wrong of_rule (suc zero) e = refl
   count_wrong of_rule (suc (suc zero)) e = absurd (omega (arith, ap bit e))
@@ -77,7 +77,7 @@ module _ (l : ℕ) (name v o x : List ℕ) where
   count_one k n e = let z : n ≡ 1 = eqb-true n 1 e in rw z
 
 -- a directive of the wrong count
-pub wrong_fell : (line : ℕ) (text : List ℕ) → Fell (wrong_count line) text text (Judged.Bad (Told.Line WrongCount line))
+pub wrong_fell : (line : ℕ) (text : List ℕ) → Fell (wrong_count line) text text (Err (Told.Line WrongCount line))
 wrong_fell line text = record { told = Told.Line WrongCount line; is = refl; faulted = record { given = refl; left = sym (padded_none (length text)) } }
 
 -- ---- places
@@ -117,14 +117,14 @@ module _ {scratch text : List ℕ} {name : ℕ} {a : Arguments} {t : Tally} (x :
   })
 
   module _ (line : ℕ) (text₁ variables variables₁ : List ℕ) (e : Entry) (l : length text₁ ≡ length text)
-      (y : AddsVariables (empty_entry 1 t.text) line t.variables text text₁ variables variables₁ (variables_read (part scratch name a.one)) (Judged.Good e)) where
+      (y : AddsVariables (empty_entry of_rule t.text) line t.variables text text₁ variables variables₁ (variables_read (part scratch name a.one)) (Ok e)) where
     e_low : e.text ≤ t.text + (a.one - name)
-    e_low = omega (arith, variables_text (empty_entry 1 t.text) line t.variables (part scratch name a.one) text text₁ variables variables₁ e y, first_long)
+    e_low = omega (arith, variables_text (empty_entry of_rule t.text) line t.variables (part scratch name a.one) text text₁ variables variables₁ e y, first_long)
 
     pub second_fits : (e.text + length (part scratch a.one a.two) ≤ length text₁) × (e.text + length (part scratch a.one a.two) ≤ limit)
     second_fits = (omega (arith, e_low, second_long, x.first, x.second, x.third, x.room), omega (arith, e_low, second_long, x.first, x.second, x.third, x.short))
 
-    pub third_starts : (text₂ : List ℕ) (d : Entry) → length text₂ ≡ length text₁ → AddsOperator e line text₁ text₂ (operator_read (part scratch a.one a.two)) (Judged.Good d)
+    pub third_starts : (text₂ : List ℕ) (d : Entry) → length text₂ ≡ length text₁ → AddsOperator e line text₁ text₂ (operator_read (part scratch a.one a.two)) (Ok d)
         → starts (a.three - a.two) (length text₂) d.text t.actions ≡ true
     third_starts text₂ d k z =
         let f = operator_text e line 0 (part scratch a.one a.two) text₁ text₂ [] [] d z in
@@ -137,9 +137,9 @@ module _ {scratch text : List ℕ} {name : ℕ} {a : Arguments} {t : Tally} (x :
 
 -- ---- by shape
 
-pub as_body : (shrunk : ℕ) (t : Tally) (text text' variables variables' actions actions' : List ℕ) (r : Judged) {b d : Result Body} → b ≡ d
+pub as_body : (shrunk : ℕ) (t : Tally) (text text' variables variables' actions actions' : List ℕ) (r : Result Entry Told) {b d : Result Body Fault} → b ≡ d
     → Bodied d shrunk t text text' variables variables' actions actions' r → Bodied b shrunk t text text' variables variables' actions actions' r
-as_body shrunk t text text' variables variables' actions actions' r e x = subst (λ (b : Result Body). Bodied b shrunk t text text' variables variables' actions actions' r) (sym e) x
+as_body shrunk t text text' variables variables' actions actions' r e x = subst (λ (b : Result Body Fault). Bodied b shrunk t text text' variables variables' actions actions' r) (sym e) x
 
 module _ (shape : Shape) (line : ℕ) (scratch : List ℕ) (name : ℕ) (a : Arguments) (is : shape ≡ shape_of (take name scratch)) where
   abbrev first : List ℕ
@@ -151,13 +151,13 @@ module _ (shape : Shape) (line : ℕ) (scratch : List ℕ) (name : ℕ) (a : Arg
   abbrev third : List ℕ
   third = part scratch a.two a.three
 
-  abbrev body : Result Body
+  abbrev body : Result Body Fault
   body = body_by (shape_of (take name scratch)) line (take name scratch) (held_arguments scratch name a)
 
   as_shape : body ≡ body_by shape line (take name scratch) (held_arguments scratch name a)
   as_shape = ap (λ (i : Shape). body_by i line (take name scratch) (held_arguments scratch name a)) (sym is)
 
-  pub wrong_shape : takes shape a.count ≡ false → body ≡ bad (wrong_count line)
+  pub wrong_shape : takes shape a.count ≡ false → body ≡ Err (wrong_count line)
   wrong_shape e = as_shape ∙ count_wrong line (take name scratch) first second third shape a.count e
 
   module _ {k : Shape} (q : shape ≡ k) where
@@ -179,10 +179,10 @@ module _ (shape : Shape) (line : ℕ) (scratch : List ℕ) (name : ℕ) (a : Arg
   pub defaults_shape : shape ≡ of_defaults → takes shape a.count ≡ true → body ≡ told line (act_by defaults (actions_read first))
   defaults_shape q e = alone q (taken q e)
 
-  pub marker_shape : shape ≡ of_marker → takes shape a.count ≡ true → body ≡ good (marker first)
+  pub marker_shape : shape ≡ of_marker → takes shape a.count ≡ true → body ≡ Ok (marker first)
   marker_shape q e = alone q (taken q e)
 
-  pub other_shape : shape ≡ of_other → body ≡ good (unknown (take name scratch))
+  pub other_shape : shape ≡ of_other → body ≡ Ok (unknown (take name scratch))
   other_shape q = shaped q
 
 -- the room for a name alone

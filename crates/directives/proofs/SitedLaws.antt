@@ -16,13 +16,13 @@ use Rattle.records.specs.Actions.{Action, action_text}
 use Rattle.records.specs.Layout as Acts
 use Rattle.actions.specs.Having.{has}
 use Rattle.directives.specs.Directives.{Body, rule, act, marker, defaults, unknown, Fault, wrong_count, untaken, stopped, id_missing, within, Shape, argument_site, list_site, sited_body, refusal_site, sited_fault}
-use Rattle.directives.specs.Layout.{kind_code, name_slot, listed_in, negated_word, operator_word, argument_slot, actions_in, listed_text, body_text, listed_count, action_count}
+use Rattle.directives.specs.Layout.{shape_in, name_slot, listed_in, negated_word, operator_word, argument_slot, actions_in, listed_text, body_text, listed_count, action_count}
 use Rattle.directives.specs.Table.{name_left, fault_given, fault_name}
 use Rattle.directives.specs.Parts.{resited_body}
 
 -- Two bodies that differ at most in where their parts were read from.
 pub record SameBody (x y : Body) : Type 0 where
-  pub kind : kind_code x ≡ kind_code y
+  pub kind : shape_in x ≡ shape_in y
   pub name : name_slot x ≡ name_slot y
   pub negated : negated_word x ≡ negated_word y
   pub operator : operator_word x ≡ operator_word y

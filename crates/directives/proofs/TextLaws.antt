@@ -1,4 +1,5 @@
 -- The loop over a whole text: the directives read so far are in the buffers, and what is still to come follows from the cursor.
+use Rattle.std.specs.Prelude.{Result, Ok, Err}
 use mathlib.Core.Path.{◌≡◌, refl, sym, ap, ap₂, ◌∙◌, subst}
 use mathlib.Core.Bool.{Bool, true, false}
 use mathlib.Core.List.{List, [], ◌∷◌, ◌++◌, append_assoc, append-nil, map}
@@ -25,10 +26,10 @@ use Rattle.lexer.specs.Layout.{text_of}
 use Rattle.lexer.specs.Calls.{Reached as Arrived}
 use Rattle.lexer.proofs.ReachLaws.{reached_start}
 use Rattle.directives.specs.Groups.{Item, joined, stray, items}
-use Rattle.directives.specs.Directives.{Body, Directive, Fault, untaken, stopped, id_missing, Result, bad, good, Shape, shape_of, body_by, sited, sited_body, sited_fault, last_past, placed as placed_at, directive_of, item_read, before, over, ending, end_of, directives}
+use Rattle.directives.specs.Directives.{Body, Directive, Fault, untaken, stopped, id_missing, Shape, shape_of, body_by, sited, sited_body, sited_fault, last_past, placed as placed_at, directive_of, item_read, before, over, ending, end_of, directives}
 use Rattle.directives.specs.Versions.{Version, chained_on, asked_for, lead_by, leading, directives_for}
 use Rattle.directives.specs.Layout.{Reached, reached, body_text, directive_record, texts, listed_count, action_count, listed_counts, action_counts}
-use Rattle.directives.specs.Steps.{Laid, role_of, onward, Token-is, None-is, arguments_as, ends_at, taken_from, Took, reached_by, entry_of, listed_each, acted_each, Faulted, Wrote, Bodied, held_arguments, held_list, shrunk_by, Ready, entry_record, chain_behind, lacks_by, chained_by, tally_of, counted_on, directive_each, each_from, Written, AllRead, FirstFault, Ends, ended_at, ended_in}
+use Rattle.directives.specs.Steps.{Laid, role_of, onward, Token-is, None-is, arguments_as, ends_at, taken_from, Took, reached_by, entry_of, listed_each, acted_each, Faulted, Wrote, Bodied, held_arguments, held_list, shrunk_by, Ready, entry_record, chain_behind, lacks_by, chained_by, tally_of, counted_on, directive_each, each_from, Written, AllRead, FirstFault, Ends, at_line, ended_in}
 use Rattle.directives.specs.Settling.{list_text, Heard, Stand, Settled, fault_moved}
 use Rattle.directives.specs.declared.Fault.{Fault as Told}
 use Rattle.directives.specs.declared.LineFault.TheVariants.{Stopped, Untaken, IdMissing}
@@ -37,8 +38,6 @@ use Rattle.directives.specs.declared.arguments.Arguments.{Arguments}
 use Rattle.directives.specs.declared.arguments.Taken.{Taken}
 use Rattle.directives.specs.declared.parts.Tally.{Tally}
 use Rattle.directives.specs.declared.parts.Entry.{Entry}
-use Rattle.directives.specs.declared.parts.Judged.{Judged}
-use Rattle.directives.specs.declared.reading.Ended.TheVariants as Ended
 use Rattle.directives.proofs.LaidLaws.{laid_none, laid_placed, laid_more, laid_first, front_of}
 use Rattle.directives.proofs.VersionLaws.{lacks_id_for, asked_none, asked_passed, asked_lacks, lacks_entry, chain_entry, chained_more}
 use Rattle.directives.proofs.LayoutLaws.{past_all, texts_more, listed_more, acted_more, past_is}
@@ -54,17 +53,17 @@ use Rattle.directives.proofs.HeldLaws.{texts_grow, texts_few, held_are, same_bod
 
 -- ---- directives read before
 
-abbrev pub onto : List Directive → Result (List Directive) → Result (List Directive)
-onto ds (bad f) = bad f
-onto ds (good es) = good (ds ++ es)
+abbrev pub onto : List Directive → Result (List Directive) Fault → Result (List Directive) Fault
+onto ds (Err f) = Err f
+onto ds (Ok es) = Ok (ds ++ es)
 
-onto_none : (o : Result (List Directive)) → onto [] o ≡ o
-onto_none (bad f) = refl
-onto_none (good ds) = refl
+onto_none : (o : Result (List Directive) Fault) → onto [] o ≡ o
+onto_none (Err f) = refl
+onto_none (Ok ds) = refl
 
-onto_good : (ds : List Directive) (d : Directive) (o : Result (List Directive)) → onto ds (before (good d) o) ≡ onto (ds ++ d ∷ []) o
-onto_good ds d (bad f) = refl
-onto_good ds d (good es) = ap (λ (l : List Directive). good l) (sym (append_assoc ds (d ∷ []) es))
+onto_good : (ds : List Directive) (d : Directive) (o : Result (List Directive) Fault) → onto ds (before (Ok d) o) ≡ onto (ds ++ d ∷ []) o
+onto_good ds d (Err f) = refl
+onto_good ds d (Ok es) = ap (λ (l : List Directive). Ok l) (sym (append_assoc ds (d ∷ []) es))
 
 -- the directives before the first fault, from a cursor on
 abbrev leading_from : List ℕ → Cursor → List Directive
@@ -144,7 +143,7 @@ module _ (version : Version) (s text₀ records₀ variables₀ actions₀ : Lis
       unfolding end_of
       all_read h = record {
         ds = g.ds;
-        read = ends_in_lem ∙ rw (le-ltb stop.place (length s) h) (ap (λ (l : List Directive). good l) (append-nil g.ds));
+        read = ends_in_lem ∙ rw (le-ltb stop.place (length s) h) (ap (λ (l : List Directive). Ok l) (append-nil g.ds));
         tally_is = g.tally_is;
         written = g.written;
       }
@@ -152,7 +151,7 @@ module _ (version : Version) (s text₀ records₀ variables₀ actions₀ : Lis
       pub ended : Ends version s text₀ text records₀ records variables₀ variables actions₀ actions (ended_in stop (length s) t)
       ended = go (ltb stop.place (length s)) refl
         where
-          go : (b : Bool) → ltb stop.place (length s) ≡ b → Ends version s text₀ text records₀ records variables₀ variables actions₀ actions (pick b (ended_at Stopped stop.line.0) (Ended.All t))
+          go : (b : Bool) → ltb stop.place (length s) ≡ b → Ends version s text₀ text records₀ records variables₀ variables actions₀ actions (pick b (Err (at_line Stopped stop.line.0)) (Ok t))
           go true e = stopped_early (ltb-true stop.place (length s) e)
           go false e = all_read (ltb-false stop.place (length s) e)
 
@@ -178,16 +177,16 @@ module _ (version : Version) (s text₀ records₀ variables₀ actions₀ : Lis
       asks_on = g.asked_on ∙ ap (λ (r : Reading). asked_for version t.chained (over lead_by s [] (items false r.tokens)) (directives s)) x.more
 
       -- a fault of the next item is the answer
-      falls : (i : Item) (is : List Item) (f : Fault) → items false (u ∷ ts) ≡ i ∷ is → item_read s i ≡ bad f → directives_for version s ≡ bad f
+      falls : (i : Item) (is : List Item) (f : Fault) → items false (u ∷ ts) ≡ i ∷ is → item_read s i ≡ Err f → directives_for version s ≡ Err f
       unfolding over
       falls i is f e q =
           asks_on
           ∙ ap (λ (j : List Item). asked_for version t.chained (over lead_by s [] j) (directives s)) e
-          ∙ ap (λ (r : Result Directive). asked_for version t.chained (lead_by r (over lead_by s [] is)) (directives s)) q
+          ∙ ap (λ (r : Result Directive Fault). asked_for version t.chained (lead_by r (over lead_by s [] is)) (directives s)) q
           ∙ asked_none version t.chained (directives s)
           ∙ goes_on
           ∙ ap (λ (j : List Item). onto g.ds (ending s (end_of (length s) (onward s l.next).stop) j)) e
-          ∙ ap (λ (r : Result Directive). onto g.ds (before r (ending s (end_of (length s) (onward s l.next).stop) is))) q
+          ∙ ap (λ (r : Result Directive Fault). onto g.ds (before r (ending s (end_of (length s) (onward s l.next).stop) is))) q
 
       -- a Newline or a Comment is passed
       pub passed : role_of l.kind ≡ Closes → Now text records variables actions l.next t
@@ -291,34 +290,34 @@ module _ (version : Version) (s text₀ records₀ variables₀ actions₀ : Lis
             same_body (e ∙ ap shape_of name_is) line_is name_is (ap₂ (held_arguments scratch₂) len_is arguments_are)
             ∙ held_are (shape_of name) u.line.0 name u.past args rest scratch₂ scratch_is
 
-        abbrev behind : Result (List Directive)
+        abbrev behind : Result (List Directive) Fault
         behind = ending s (end_of (length s) (onward s r.next).stop) (items false (onward s r.next).tokens)
 
-        abbrev made : Result Body → Result Directive
+        abbrev made : Result Body Fault → Result Directive Fault
         made = placed_at u.line.0 u.first (last_past u.past args)
 
-        abbrev read : Result Body
+        abbrev read : Result Body Fault
         read = body_by (shape_of name) u.line.0 name (map text_of args)
 
         opened : items false (u ∷ ts) ≡ joined u args ∷ items true ts
         opened = (opens u ts (ap role_of (sym kind_is) ∙ o)).1 false
 
-        comes_to : (b : Result Body) → sited s (shape_of name) args read ≡ b → directives s ≡ onto g.ds (before (made b) behind)
+        comes_to : (b : Result Body Fault) → sited s (shape_of name) args read ≡ b → directives s ≡ onto g.ds (before (made b) behind)
         unfolding over item_read directive_of
         comes_to b e =
             goes_on
             ∙ ap (λ (i : List Item). onto g.ds (ending s (end_of (length s) (onward s l.next).stop) i)) opened
             ∙ ap₂ (λ (c : Cursor) (i : List Item). onto g.ds (before (directive_of s u args) (ending s (end_of (length s) c) i))) y.stop y.rest
-            ∙ ap (λ (c : Result Body). onto g.ds (before (made c) behind)) e
+            ∙ ap (λ (c : Result Body Fault). onto g.ds (before (made c) behind)) e
 
         -- it is asked for its id before those behind it
-        asks_this : (b : Result Body) → sited s (shape_of name) args read ≡ b → directives_for version s ≡ asked_for version t.chained (lead_by (made b) (leading_from s r.next)) (directives s)
+        asks_this : (b : Result Body Fault) → sited s (shape_of name) args read ≡ b → directives_for version s ≡ asked_for version t.chained (lead_by (made b) (leading_from s r.next)) (directives s)
         unfolding over item_read directive_of
         asks_this b e =
             asks_on
             ∙ ap (λ (i : List Item). asked_for version t.chained (over lead_by s [] i) (directives s)) opened
             ∙ ap (λ (i : List Item). asked_for version t.chained (lead_by (directive_of s u args) (over lead_by s [] i)) (directives s)) y.rest
-            ∙ ap (λ (c : Result Body). asked_for version t.chained (lead_by (made c) (leading_from s r.next)) (directives s)) e
+            ∙ ap (λ (c : Result Body Fault). asked_for version t.chained (lead_by (made c) (leading_from s r.next)) (directives s)) e
 
         -- what was taken is where the definition has it
         taken_is : a ≡ arguments_as l.len l.next.place args
@@ -340,43 +339,43 @@ module _ (version : Version) (s text₀ records₀ variables₀ actions₀ : Lis
         list_is = ap (held_list scratch₂ l.len) taken_is ∙ held_list_lem l.next.place args y.laid
 
         module _ (shape : Shape) (Shape-is : shape ≡ shape_of (take l.len scratch₂)) (text' variables' actions' : List ℕ) where
-          abbrev Told_of : Judged → Type 0
+          abbrev Told_of : Result Entry Told → Type 0
           Told_of j = Bodied (body_by shape l.line.0 (take l.len scratch₂) (held_arguments scratch₂ l.len a)) (shrunk_by (held_list scratch₂ l.len a)) t text text' variables variables' actions actions' j
 
-          abbrev Read_to : Result Body → Judged → Type 0
+          abbrev Read_to : Result Body Fault → Result Entry Told → Type 0
           Read_to b j = Bodied b (shrunk_by (list_text s l.next)) t text text' variables variables' actions actions' j
 
-          read_to : (j : Judged) → Told_of j → Read_to read j
-          read_to j z = subst (λ (b : Result Body). Read_to b j) (body_is shape Shape-is) (rw list_is at z)
+          read_to : (j : Result Entry Told) → Told_of j → Read_to read j
+          read_to j z = subst (λ (b : Result Body Fault). Read_to b j) (body_is shape Shape-is) (rw list_is at z)
 
-          pub faulty : (f : Told) → Told_of (Judged.Bad f) → FirstFault version s text₀ text' (fault_moved s l.next a l.len f)
-          faulty f z = go read refl (read_to (Judged.Bad f) z) standing_there
+          pub faulty : (f : Told) → Told_of (Err f) → FirstFault version s text₀ text' (fault_moved s l.next a l.len f)
+          faulty f z = go read refl (read_to (Err f) z) standing_there
             where
-              go : (b : Result Body) → read ≡ b → Read_to b (Judged.Bad f) → Where (shape_of name) args b → FirstFault version s text₀ text' (fault_moved s l.next a l.len f)
-              go (good b) e w h = absurd (never (sym w.is))
-              go (bad q) e w h = record {
+              go : (b : Result Body Fault) → read ≡ b → Read_to b (Err f) → Where (shape_of name) args b → FirstFault version s text₀ text' (fault_moved s l.next a l.len f)
+              go (Ok b) e w h = absurd (never (sym w.is))
+              go (Err q) e w h = record {
                 fault = sited_fault s (shape_of name) args q;
-                read = asks_this (bad (sited_fault s (shape_of name) args q)) (ap (sited s (shape_of name) args) e) ∙ asked_none version t.chained (directives s)
-                    ∙ comes_to (bad (sited_fault s (shape_of name) args q)) (ap (sited s (shape_of name) args) e);
+                read = asks_this (Err (sited_fault s (shape_of name) args q)) (ap (sited s (shape_of name) args) e) ∙ asked_none version t.chained (directives s)
+                    ∙ comes_to (Err (sited_fault s (shape_of name) args q)) (ap (sited s (shape_of name) args) e);
                 faulted = same_fault long (fault_settled s l.next x.arrived within l.len a taken_is (shape_of name) q h (subst (Faulted q text text') (same_told (sym w.is)) w.faulted));
               }
 
-          module _ (e : Entry) (z : Told_of (Judged.Good e)) (variables'' actions'' : List ℕ) (k : Settled s l.next a l.len t e variables' variables'' actions' actions'') where
+          module _ (e : Entry) (z : Told_of (Ok e)) (variables'' actions'' : List ℕ) (k : Settled s l.next a l.len t e variables' variables'' actions' actions'') where
             -- the body that was read, and then put into the input
             record Read_is : Type 0 where
               pub own : Body
-              pub own_is : read ≡ good own
+              pub own_is : read ≡ Ok own
               pub whole : Body
-              pub is : sited s (shape_of name) args read ≡ good whole
+              pub is : sited s (shape_of name) args read ≡ Ok whole
               pub same : SameBody whole own
               pub entry : e ≡ entry_of (reached_by t) (shrunk_by (list_text s l.next)) whole
-              pub wrote : Wrote whole (shrunk_by (list_text s l.next)) t text text' variables variables'' actions actions'' (Judged.Good e)
+              pub wrote : Wrote whole (shrunk_by (list_text s l.next)) t text text' variables variables'' actions actions'' (Ok e)
 
             read_is : Read_is
-            read_is = go read refl (read_to (Judged.Good e) z) standing_there
+            read_is = go read refl (read_to (Ok e) z) standing_there
               where
-                go : (b : Result Body) → read ≡ b → Read_to b (Judged.Good e) → Where (shape_of name) args b → Read_is
-                go (good b) q w h =
+                go : (b : Result Body Fault) → read ≡ b → Read_to b (Ok e) → Where (shape_of name) args b → Read_is
+                go (Ok b) q w h =
                     let v = body_settled s l.next x.arrived within l.len a taken_is t e variables variables'' actions actions'' k (shape_of name) b h w (same_entry w.is) in
                     record {
                       own = b;
@@ -387,12 +386,12 @@ module _ (version : Version) (s text₀ records₀ variables₀ actions₀ : Lis
                       entry = same_entry v.is;
                       wrote = v;
                     }
-                go (bad f) q w h = absurd (never w.is)
+                go (Err f) q w h = absurd (never w.is)
 
             abbrev d : Directive
             d = record { line = u.line.0; first = u.first; past = last_past u.past args; body = read_is.whole }
 
-            fits : BodyFits (length name + all (map text_of args)) (good read_is.own)
+            fits : BodyFits (length name + all (map text_of args)) (Ok read_is.own)
             fits = subst (BodyFits (length name + all (map text_of args))) read_is.own_is (body_fits u.line.0 name (shape_of name) (map text_of args))
 
             -- its texts and records are no more than its own bytes
@@ -420,7 +419,7 @@ module _ (version : Version) (s text₀ records₀ variables₀ actions₀ : Lis
             pub lacking : lacks_by version t e ≡ true → FirstFault version s text₀ text' (Told.Line IdMissing l.line.0)
             lacking h = record {
               fault = id_missing u.line.0;
-              read = asks_this (good read_is.whole) read_is.is ∙ asked_lacks version t.chained d (leading_from s r.next) (directives s) (sym lacks_is ∙ h);
+              read = asks_this (Ok read_is.whole) read_is.is ∙ asked_lacks version t.chained d (leading_from s r.next) (directives s) (sym lacks_is ∙ h);
               faulted = record { given = ap (λ (n : ℕ). given 18 (n ∷ [])) line_is; left = sym (padded_none (length text₀)) };
             }
 
@@ -459,8 +458,8 @@ module _ (version : Version) (s text₀ records₀ variables₀ actions₀ : Lis
                 let at-action : t.actions * action_words ≡ 0 + length (joined_words (each_from acted_each 0 g.ds)) = omega (arith, c-actions, acted_each_long 0 g.ds) in
                 record {
                   ds = more;
-                  whole = comes_to (good read_is.whole) read_is.is ∙ onto_good g.ds d behind;
-                  asked_on = asks_this (good read_is.whole) read_is.is ∙ asked_passed version t.chained d (leading_from s r.next) (directives s) (sym lacks_is ∙ had)
+                  whole = comes_to (Ok read_is.whole) read_is.is ∙ onto_good g.ds d behind;
+                  asked_on = asks_this (Ok read_is.whole) read_is.is ∙ asked_passed version t.chained d (leading_from s r.next) (directives s) (sym lacks_is ∙ had)
                       ∙ ap (λ (c : Bool). asked_for version c (leading_from s r.next) (directives s)) (sym (ap (λ (i : Tally). i.chained) q ∙ chain_is));
                   tally_is = q ∙ same_tally
                       (omega (arith, c-directives, count_more g.ds d))

@@ -1,5 +1,5 @@
 -- Worked texts of M-100: number, values, texts and records, with room for all.
-use Rattle.std.specs.Prelude.{◌≡◌, refl, ℕ, List, [], ◌∷◌}
+use Rattle.std.specs.Prelude.{◌≡◌, refl, ℕ, List, [], ◌∷◌, Result, Ok, Err}
 use Prim.Native.String.{String}
 use Rattle.ascii.specs.Text.{bytes}
 use Rattle.lent.specs.Sizes.{span_word}
@@ -17,7 +17,7 @@ use Rattle.records.specs.Layout.{action_record}
 use Rattle.actions.specs.Cases as Actions
 use Rattle.places.specs.Tables.{wording, stays, stays_next, quoting_by}
 use Rattle.directives.specs.Groups.{arguments_of, items}
-use Rattle.directives.specs.Directives.{over, Directive, Result, bad, good, shape_of, last_past, site_at, argument_site, list_site, directive_of, item_read, end_of, directives}
+use Rattle.directives.specs.Directives.{over, Directive, shape_of, last_past, site_at, argument_site, list_site, directive_of, item_read, end_of, directives, Fault}
 use Rattle.directives.specs.Layout.{body_text, listed_counts, action_counts, directives_from}
 use Rattle.directives.specs.Table.{Outcome, faulty, filled, given_by}
 use Rattle.directives.specs.Promises.{laid_out, Lent, lent_of, left_by}
@@ -31,11 +31,11 @@ pub record Seen : Type 0 where
 abbrev pub lent : List ℕ → List ℕ → List ℕ → List ℕ → Lent
 lent t d v a = lent_of t [] d v a
 
-abbrev pub roomy : Result (List Directive) → Outcome
-roomy (bad f) = faulty f
-roomy (good ds) = filled (laid_out ds)
+abbrev pub roomy : Result (List Directive) Fault → Outcome
+roomy (Err f) = faulty f
+roomy (Ok ds) = filled (laid_out ds)
 
-abbrev pub seen : Result (List Directive) → Seen
+abbrev pub seen : Result (List Directive) Fault → Seen
 seen o = record { answer = given_by (roomy o); left = left_by (roomy o) (lent [] [] [] []) }
 
 -- To unfold it is to unfold every definition that a text is read by.

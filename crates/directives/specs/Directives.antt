@@ -1,5 +1,5 @@
 -- One directive, and the directives of a whole text, or the first fault in text order.
-use Rattle.std.specs.Prelude.{ℕ, zero, suc, ◌+◌, ◌-◌, Bool, false, List, [], ◌∷◌, map, length, take, drop, get_or, ltb, eqb}
+use Rattle.std.specs.Prelude.{ℕ, zero, suc, ◌+◌, ◌-◌, Bool, false, List, [], ◌∷◌, map, length, take, drop, get_or, ltb, eqb, Result, Ok, Err}
 use Rattle.ascii.specs.Choice.{pick, or}
 use Rattle.ascii.specs.Text.{bytes}
 use Rattle.ascii.specs.Fold.{same_lowered}
@@ -61,10 +61,6 @@ pub data Fault : Type 0 where
   -- 5, 7, 8 and 10 to 12: the directive's line, and what its argument is refused for
   within : ℕ → Refusal → Fault
 
-pub data Result (A : Type 0) : Type 0 where
-  bad : Fault → Result A
-  good : A → Result A
-
 -- ---- one argument, by the parsers' definitions, with places in the text that each parser cuts
 
 abbrev pub listed_by : Targets → Outcome Listed
@@ -107,27 +103,27 @@ act_by make (refuses f) = refuses f
 act_by make (reads xs) = reads (make xs)
 
 -- An argument's refusal is told with the directive's line.
-abbrev pub told : ℕ → Outcome Body → Result Body
-told l (refuses f) = bad (within l f)
-told l (reads x) = good x
+abbrev pub told : ℕ → Outcome Body → Result Body Fault
+told l (refuses f) = Err (within l f)
+told l (reads x) = Ok x
 
 -- The arguments by shape: their count first, then each as it is read. SecRule has two or three, Unknown any, the others one.
-abbrev pub body_by : Shape → ℕ → List ℕ → List (List ℕ) → Result Body
-body_by of_rule l name [] = bad (wrong_count l)
-body_by of_rule l name (v ∷ []) = bad (wrong_count l)
+abbrev pub body_by : Shape → ℕ → List ℕ → List (List ℕ) → Result Body Fault
+body_by of_rule l name [] = Err (wrong_count l)
+body_by of_rule l name (v ∷ []) = Err (wrong_count l)
 body_by of_rule l name (v ∷ o ∷ []) = told l (rule_by (variables_read v) (operator_read o) (reads []))
 body_by of_rule l name (v ∷ o ∷ a ∷ []) = told l (rule_by (variables_read v) (operator_read o) (actions_read a))
-body_by of_rule l name (v ∷ o ∷ a ∷ x ∷ xs) = bad (wrong_count l)
-body_by of_action l name [] = bad (wrong_count l)
+body_by of_rule l name (v ∷ o ∷ a ∷ x ∷ xs) = Err (wrong_count l)
+body_by of_action l name [] = Err (wrong_count l)
 body_by of_action l name (a ∷ []) = told l (act_by act (actions_read a))
-body_by of_action l name (a ∷ x ∷ xs) = bad (wrong_count l)
-body_by of_marker l name [] = bad (wrong_count l)
-body_by of_marker l name (m ∷ []) = good (marker m)
-body_by of_marker l name (m ∷ x ∷ xs) = bad (wrong_count l)
-body_by of_defaults l name [] = bad (wrong_count l)
+body_by of_action l name (a ∷ x ∷ xs) = Err (wrong_count l)
+body_by of_marker l name [] = Err (wrong_count l)
+body_by of_marker l name (m ∷ []) = Ok (marker m)
+body_by of_marker l name (m ∷ x ∷ xs) = Err (wrong_count l)
+body_by of_defaults l name [] = Err (wrong_count l)
 body_by of_defaults l name (a ∷ []) = told l (act_by defaults (actions_read a))
-body_by of_defaults l name (a ∷ x ∷ xs) = bad (wrong_count l)
-body_by of_other l name xs = good (unknown name)
+body_by of_defaults l name (a ∷ x ∷ xs) = Err (wrong_count l)
+body_by of_other l name xs = Ok (unknown name)
 
 -- ---- where it stands in the package
 
@@ -198,49 +194,49 @@ sited_fault s shape args (stopped l) = stopped l
 sited_fault s shape args (id_missing l) = id_missing l
 sited_fault s shape args (within l f) = within l (resited (refusal_site s shape args f) f)
 
-abbrev pub sited : List ℕ → Shape → List Token → Result Body → Result Body
-sited s shape args (bad f) = bad (sited_fault s shape args f)
-sited s shape args (good x) = good (sited_body s args x)
+abbrev pub sited : List ℕ → Shape → List Token → Result Body Fault → Result Body Fault
+sited s shape args (Err f) = Err (sited_fault s shape args f)
+sited s shape args (Ok x) = Ok (sited_body s args x)
 
 -- The end of the last argument, or p where there is none.
 unfoldable pub last_past : ℕ → List Token → ℕ
 last_past p [] = p
 last_past p (t ∷ ts) = last_past t.past ts
 
-abbrev pub placed : ℕ → ℕ → ℕ → Result Body → Result Directive
-placed l first past (bad f) = bad f
-placed l first past (good x) = good (record { line = l; first = first; past = past; body = x })
+abbrev pub placed : ℕ → ℕ → ℕ → Result Body Fault → Result Directive Fault
+placed l first past (Err f) = Err f
+placed l first past (Ok x) = Ok (record { line = l; first = first; past = past; body = x })
 
 -- A Directive token with its arguments, in the package s.
-unfoldable pub directive_of : List ℕ → Token → List Token → Result Directive
+unfoldable pub directive_of : List ℕ → Token → List Token → Result Directive Fault
 directive_of s t args =
     placed t.line.0 t.first (last_past t.past args) (sited s (shape_of t.text) args (body_by (shape_of t.text) t.line.0 t.text (map text_of args)))
 
-unfoldable pub item_read : List ℕ → Item → Result Directive
+unfoldable pub item_read : List ℕ → Item → Result Directive Fault
 item_read s (joined t args) = directive_of s t args
-item_read s (stray t) = bad (untaken t.line.0)
+item_read s (stray t) = Err (untaken t.line.0)
 
 -- ---- a whole text
 
 -- A directive before what follows it: its own fault comes first.
-abbrev pub before : Result Directive → Result (List Directive) → Result (List Directive)
-before (bad f) o = bad f
-before (good d) (bad f) = bad f
-before (good d) (good ds) = good (d ∷ ds)
+abbrev pub before : Result Directive Fault → Result (List Directive) Fault → Result (List Directive) Fault
+before (Err f) o = Err f
+before (Ok d) (Err f) = Err f
+before (Ok d) (Ok ds) = Ok (d ∷ ds)
 
 -- Items in text order, each by what it is read to, before what follows it; behind the last stands o.
-unfoldable pub over : {A : Type 0} → (Result Directive → A → A) → List ℕ → A → List Item → A
+unfoldable pub over : {A : Type 0} → (Result Directive Fault → A → A) → List ℕ → A → List Item → A
 over step s o [] = o
 over step s o (x ∷ xs) = step (item_read s x) (over step s o xs)
 
 -- Items, and behind them what the text ends in.
-abbrev pub ending : List ℕ → Result (List Directive) → List Item → Result (List Directive)
+abbrev pub ending : List ℕ → Result (List Directive) Fault → List Item → Result (List Directive) Fault
 ending = over before
 
 -- The end of a text of n bytes: nothing follows, or 15 where the lexer stopped early. It stands behind all items, so it is judged last.
-unfoldable pub end_of : ℕ → Cursor → Result (List Directive)
-end_of n c = pick (ltb c.place n) (bad (stopped c.line.0)) (good [])
+unfoldable pub end_of : ℕ → Cursor → Result (List Directive) Fault
+end_of n c = pick (ltb c.place n) (Err (stopped c.line.0)) (Ok [])
 
 -- The directives of a text, or its first fault; whether a rule has an id is asked in Versions.
-unfoldable pub directives : List ℕ → Result (List Directive)
+unfoldable pub directives : List ℕ → Result (List Directive) Fault
 directives s = ending s (end_of (length s) (reading s).stop) (items false (reading s).tokens)

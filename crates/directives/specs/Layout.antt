@@ -7,16 +7,27 @@ use Rattle.lent.specs.Layout.{texts_of, words_of}
 use Rattle.variables.specs.Layout as Targets
 use Rattle.records.specs.Actions.{Action, Slot, absent, present, slot_text}
 use Rattle.records.specs.Layout as Acts
-use Rattle.directives.specs.Directives.{Listed, listed, Body, rule, act, marker, defaults, unknown, Directive}
+use Rattle.directives.specs.Directives.{Listed, listed, Body, rule, act, marker, defaults, unknown, Directive, Shape, of_rule, of_action, of_marker, of_defaults, of_other}
 
 -- ---- what a body has
 
+abbrev pub shape_in : Body → Shape
+shape_in (rule vs o xs) = of_rule
+shape_in (act xs) = of_action
+shape_in (marker m) = of_marker
+shape_in (defaults xs) = of_defaults
+shape_in (unknown n) = of_other
+
+-- And its number in a record.
+abbrev pub shape_code : Shape → ℕ
+shape_code of_rule = 1
+shape_code of_action = 2
+shape_code of_marker = 3
+shape_code of_defaults = 4
+shape_code of_other = 5
+
 abbrev pub kind_code : Body → ℕ
-kind_code (rule vs o xs) = 1
-kind_code (act xs) = 2
-kind_code (marker m) = 3
-kind_code (defaults xs) = 4
-kind_code (unknown n) = 5
+kind_code x = shape_code (shape_in x)
 
 -- A marker's argument, an Unknown's name.
 abbrev pub name_slot : Body → Slot

@@ -1,5 +1,6 @@
 -- The words of M-100's theorem: lines of blanks or a comment, and directives further on or without their spans in the input.
-use Rattle.std.specs.Prelude.{◌≡◌, ℕ, zero, suc, ◌+◌, ◌≤◌, true, false, List, [], ◌∷◌, ◌++◌, map, length, eqb}
+use Rattle.directives.specs.declared.DirectivesError.TheVariants.{Gate, Refused, NoRoom}
+use Rattle.std.specs.Prelude.{◌≡◌, ℕ, zero, suc, ◌+◌, ◌≤◌, true, false, List, [], ◌∷◌, ◌++◌, map, length, eqb, Ok, Err, Result}
 use Rattle.lent.specs.Sizes.{limit}
 use Rattle.lent.specs.Sources.{Part, part, sited_all}
 use Rattle.lent.specs.Table.{resited}
@@ -8,11 +9,10 @@ use Rattle.lexer.specs.Places.{feeds}
 use Rattle.lexer.specs.Parts.{raised, among, Closed}
 use Rattle.lexer.specs.Calls.{Ascii}
 use Rattle.directives.specs.Groups.{Item, joined, stray, items}
-use Rattle.directives.specs.Directives.{listed, Body, rule, act, marker, defaults, unknown, Directive, Fault, wrong_count, untaken, stopped, id_missing, within, Result, bad, good, ending, directives}
+use Rattle.directives.specs.Directives.{listed, Body, rule, act, marker, defaults, unknown, Directive, Fault, wrong_count, untaken, stopped, id_missing, within, ending, directives}
 use Rattle.directives.specs.Versions.{Version, directives_for}
 use Rattle.directives.specs.Table.{Filled, Outcome, shut, faulty, overfull, filled}
-use Rattle.directives.specs.Promises.{Lent, Directives}
-use Rattle.directives.specs.declared.Answer.{Answer}
+use Rattle.directives.specs.Promises.{Answer, Lent, Directives}
 use Rattle.directives.specs.declared.Fault.TheVariants as Told
 
 -- ---- idle lines
@@ -56,19 +56,19 @@ abbrev pub raised_directive : ℕ → ℕ → Directive → Directive
 raised_directive d l x = record { line = l + x.line; first = d + x.first; past = d + x.past; body = resited_body (raised_part d) x.body }
 
 -- Both sides of a result, each in its way.
-abbrev pub mapped : {A B : Type 0} → (Fault → Fault) → (A → B) → Result A → Result B
-mapped f g (bad x) = bad (f x)
-mapped f g (good y) = good (g y)
+abbrev pub mapped : {A B : Type 0} → (Fault → Fault) → (A → B) → Result A Fault → Result B Fault
+mapped f g (Err x) = Err (f x)
+mapped f g (Ok y) = Ok (g y)
 
-abbrev pub raised_all : ℕ → ℕ → Result (List Directive) → Result (List Directive)
+abbrev pub raised_all : ℕ → ℕ → Result (List Directive) Fault → Result (List Directive) Fault
 raised_all d l = mapped (raised_fault d l) (map (raised_directive d l))
 
 -- The directives of a closed front, and behind them a result: the front's first fault comes first.
-abbrev pub behind : List ℕ → Result (List Directive) → Result (List Directive)
+abbrev pub behind : List ℕ → Result (List Directive) Fault → Result (List Directive) Fault
 behind front o = ending front o (items false (reading front).tokens)
 
 -- The rest's own result, further on by the front and the line.
-abbrev pub rest_behind : List ℕ → List ℕ → List ℕ → Result (List Directive)
+abbrev pub rest_behind : List ℕ → List ℕ → List ℕ → Result (List Directive) Fault
 rest_behind front line rest = raised_all (length front + length line) (feeds front + 1) (directives rest)
 
 -- ---- without spans in the input
@@ -86,7 +86,7 @@ erased_fault (stopped n) = stopped n
 erased_fault (id_missing n) = id_missing n
 erased_fault (within n f) = within n (resited nowhere f)
 
-abbrev pub erased_all : Result (List Directive) → Result (List Directive)
+abbrev pub erased_all : Result (List Directive) Fault → Result (List Directive) Fault
 erased_all = mapped erased_fault (map erased)
 
 -- Words with 0 for one in each record of `suc n`: the first k are passed as they are, and n between two.
@@ -155,13 +155,11 @@ pub record Alike (m n : Lent) : Type 0 where
 
 -- An answer without the span of a refused piece.
 abbrev pub unspanned_reply : Answer → Answer
-unspanned_reply (Answer.Read directives variables actions text) = Answer.Read directives variables actions text
-unspanned_reply Answer.TooLong = Answer.TooLong
-unspanned_reply (Answer.NotAscii place) = Answer.NotAscii place
-unspanned_reply Answer.Short = Answer.Short
-unspanned_reply (Answer.Refused (Told.Line why line)) = Answer.Refused (Told.Line why line)
-unspanned_reply (Answer.Refused (Told.Argument why line at len span)) = Answer.Refused (Told.Argument why line at len 0)
-unspanned_reply (Answer.NoRoom directives variables actions) = Answer.NoRoom directives variables actions
+unspanned_reply (Ok r) = Ok r
+unspanned_reply (Err (Gate e)) = Err (Gate e)
+unspanned_reply (Err (Refused (Told.Line why line))) = Err (Refused (Told.Line why line))
+unspanned_reply (Err (Refused (Told.Argument why line at len span))) = Err (Refused (Told.Argument why line at len 0))
+unspanned_reply (Err (NoRoom directives variables actions)) = Err (NoRoom directives variables actions)
 
 -- Two calls that tell the same: number and values, and all lent memory, but for spans in the input.
 pub record SameTold {v : Version} {s s' : List ℕ} {m n : Lent} (k : Called v s m) (k' : Called v s' n) : Type 0 where

@@ -1,10 +1,11 @@
 -- What `directives` promises: the answer, and every byte of lent memory, on every path.
-use Rattle.std.specs.Prelude.{◌≡◌, ℕ, min, Bool, true, false, List, [], ◌∷◌, length, ltb}
+use Rattle.std.specs.Prelude.{◌≡◌, ℕ, min, Bool, true, false, List, [], ◌∷◌, length, ltb, Ok, Err, Result}
 use Rattle.ascii.specs.Choice.{pick, or}
+use Rattle.lent.specs.declared.gating.GateError.TheVariants.{TooLong, NotAscii, Short}
 use Rattle.lent.specs.Sizes.{variable_words, action_words, directive_words, room_for}
 use Rattle.lent.specs.Gates.{gate_of}
 use Rattle.lent.specs.Table.{Given, given, flaw_number, too_long, not_ascii, short_buffer, refused}
-use Rattle.directives.specs.Directives.{Directive, Result, bad, good}
+use Rattle.directives.specs.Directives.{Directive, Fault as Cause}
 use Rattle.directives.specs.Layout.{reached, texts, listed_counts, action_counts, directives_from, variables_from, actions_from}
 use Rattle.directives.specs.Versions.{Version, directives_for}
 use Rattle.directives.specs.Table.{Filled, Outcome, faulty, overfull, filled, past_gate, given_by, text_by, records_by, scratch_by}
@@ -13,7 +14,9 @@ use Rattle.directives.specs.declared.LineFault.TheVariants.{WrongCount, Untaken,
 use Rattle.directives.specs.declared.ArgumentFault.{ArgumentFault}
 use Rattle.directives.specs.declared.ArgumentFault.TheVariants.{UnknownVariable, UnknownOperator, UnknownAction, BadArgument}
 use Rattle.directives.specs.declared.Fault.{Fault}
-use Rattle.directives.specs.declared.Answer.{Answer}
+use Rattle.directives.specs.declared.Read.{Read}
+use Rattle.directives.specs.declared.DirectivesError.{DirectivesError}
+use Rattle.directives.specs.declared.DirectivesError.TheVariants.{Gate, Refused, NoRoom}
 
 -- The paper's number for each fault.
 abbrev pub line_number : LineFault → ℕ
@@ -45,13 +48,19 @@ naming (Fault.Line why line) = false
 naming (Fault.Argument why line at len span) = leaves_name why
 
 -- And of each answer.
+abbrev pub Answer : Type 0
+Answer = Result Read DirectivesError
+
+abbrev pub read_as : ℕ → ℕ → ℕ → ℕ → Read
+read_as d v a t = record { directives = d; variables = v; actions = a; text = t }
+
 abbrev pub answer_given : Answer → Given
-answer_given (Answer.Read directives variables actions text) = given 0 (directives ∷ variables ∷ actions ∷ text ∷ [])
-answer_given Answer.TooLong = refused too_long
-answer_given (Answer.NotAscii place) = refused (not_ascii place)
-answer_given Answer.Short = refused short_buffer
-answer_given (Answer.Refused fault) = fault_told fault
-answer_given (Answer.NoRoom directives variables actions) = given 4 (directives ∷ variables ∷ actions ∷ [])
+answer_given (Ok r) = given 0 (r.directives ∷ r.variables ∷ r.actions ∷ r.text ∷ [])
+answer_given (Err (Gate TooLong)) = refused too_long
+answer_given (Err (Gate (NotAscii place))) = refused (not_ascii place)
+answer_given (Err (Gate Short)) = refused short_buffer
+answer_given (Err (Refused fault)) = fault_told fault
+answer_given (Err (NoRoom directives variables actions)) = given 4 (directives ∷ variables ∷ actions ∷ [])
 
 -- Directives laid out: three counts and the length of the texts, the texts, and the words of three buffers.
 abbrev pub laid_out : List Directive → Filled
@@ -80,9 +89,9 @@ lacks m ds =
     (ltb (room_for action_words m.actions) (action_counts ds)))
 
 -- Number 4 comes last, with all three counts.
-abbrev pub roomed : Rooms → Result (List Directive) → Outcome
-roomed m (bad f) = faulty f
-roomed m (good ds) = pick (lacks m ds) (overfull (length ds) (listed_counts ds) (action_counts ds)) (filled (laid_out ds))
+abbrev pub roomed : Rooms → Result (List Directive) Cause → Outcome
+roomed m (Err f) = faulty f
+roomed m (Ok ds) = pick (lacks m ds) (overfull (length ds) (listed_counts ds) (action_counts ds)) (filled (laid_out ds))
 
 -- What a call comes to for a version, with n bytes of text and k of scratch lent: 1 to 3, the first fault in text order, then 4.
 unfoldable pub directives_outcome : Version → List ℕ → ℕ → ℕ → Rooms → Outcome

@@ -1,5 +1,5 @@
 -- What settling promises: the spans of what was read of a directive, put into the input.
-use Rattle.std.specs.Prelude.{◌≡◌, ℕ, zero, suc, ◌*◌, ◌≤◌, ◌<◌, Bool, List, [], ◌∷◌, length, ltb, eqb}
+use Rattle.std.specs.Prelude.{◌≡◌, ℕ, zero, suc, ◌*◌, ◌≤◌, ◌<◌, Bool, List, [], ◌∷◌, length, ltb, eqb, Option, Some, None}
 use Rattle.ascii.specs.Choice.{pick, or}
 use Rattle.lent.specs.Sizes.{limit, variable_words, action_words}
 use Rattle.lent.specs.Sources.{Part, part_word}
@@ -55,6 +55,13 @@ list_in a name =
     (record { token = a.first; first = name; past = a.one })
     (record { token = a.third; first = a.two; past = a.three })
 
+-- The list is there: one argument, or three at least.
+abbrev pub list_there : ℕ → Bool
+list_there count = or (eqb count 1) (ltb 2 count)
+
+abbrev pub list_found : Arguments → ℕ → Option ListPlace
+list_found a name = pick (list_there a.count) (Some (list_in a name)) None
+
 abbrev pub list_text : List ℕ → Cursor → List ℕ
 list_text s from = text_number (list_among (length (taken_from s from))) (taken_from s from)
 
@@ -80,10 +87,6 @@ abbrev pub list_moved : List ℕ → Cursor → Part → ℕ → ℕ → ℕ →
 list_moved s from t shrunk count at records =
     last_changed (token_word s t) action_words count at
     (pick (ltb 0 shrunk) (last_changed (site_word Rule.Joined 0 (list_text s from)) action_words count at records) records)
-
--- The list is there: one argument, or three at least.
-abbrev pub list_there : ℕ → Bool
-list_there count = or (eqb count 1) (ltb 2 count)
 
 -- What is read of a directive, put into the input.
 pub record Settled (s : List ℕ) (from : Cursor) (a : Arguments) (name : ℕ) (t : Tally) (e : Entry) (variables variables' actions actions' : List ℕ) : Type 0 where

@@ -1,5 +1,6 @@
 -- What the private functions promise, from a token to the whole text.
-use Rattle.std.specs.Prelude.{◌≡◌, ℕ, zero, suc, ◌+◌, ◌-◌, ◌*◌, ◌≤◌, ◌<◌, Bool, true, false, not, List, [], ◌∷◌, ◌++◌, length, take, drop, ltb, leb, eqb}
+use Rattle.directives.specs.declared.DirectivesError.TheVariants.{NoRoom}
+use Rattle.std.specs.Prelude.{◌≡◌, ℕ, zero, suc, ◌+◌, ◌-◌, ◌*◌, ◌≤◌, ◌<◌, Bool, true, false, not, List, [], ◌∷◌, ◌++◌, length, take, drop, ltb, leb, eqb, Ok, Err, Result}
 use Rattle.ascii.specs.Choice.{pick, and, or, bit}
 use Rattle.lent.specs.Sizes.{limit, variable_words, action_words, directive_words, span_word, room_for}
 use Rattle.lent.specs.Buffers.{zeros, padded, placed, stored_each}
@@ -24,26 +25,24 @@ use Rattle.records.specs.Codes.{id_code, chain_code}
 use Rattle.actions.specs.Having.{has}
 use Rattle.actions.specs.Cores.{core_reached, core_records}
 use Rattle.directives.specs.Groups.{arguments_of, items}
-use Rattle.directives.specs.Directives.{Listed, Body, rule, act, marker, defaults, unknown, Directive, Fault, within, Result, bad, good, actions_read, Shape, of_rule, of_action, of_marker, of_defaults, of_other, last_past, standing}
-use Rattle.directives.specs.Layout.{Reached, reached, past_body, kind_code, name_slot, listed_in, actions_in, negated_word, operator_word, argument_slot, name_end, listed_end, argument_end, body_text, directive_text, directive_record, listed_count, action_count, texts, listed_counts, action_counts}
+use Rattle.directives.specs.Directives.{Listed, Body, rule, act, marker, defaults, unknown, Directive, Fault, within, actions_read, Shape, of_rule, of_action, of_marker, of_defaults, of_other, last_past, standing}
+use Rattle.directives.specs.Layout.{Reached, reached, past_body, shape_in, shape_code, name_slot, listed_in, actions_in, negated_word, operator_word, argument_slot, name_end, listed_end, argument_end, body_text, directive_text, directive_record, listed_count, action_count, texts, listed_counts, action_counts}
 use Rattle.directives.specs.Versions.{Version, TwoSix, TwoSeven, chained_on, directives_for}
 use Rattle.directives.specs.Table.{name_left, fault_given, fault_name}
-use Rattle.directives.specs.Promises.{fault_told, naming}
+use Rattle.directives.specs.Promises.{Answer, fault_told, naming, read_as}
 use Rattle.directives.specs.declared.LineFault.{LineFault}
 use Rattle.directives.specs.declared.LineFault.TheVariants.{Stopped}
-use Rattle.directives.specs.declared.ArgumentFault.{ArgumentFault}
 use Rattle.directives.specs.declared.Fault.{Fault as Told}
-use Rattle.directives.specs.declared.Answer.{Answer}
 use Rattle.directives.specs.declared.tokens.Role.{Role}
 use Rattle.directives.specs.declared.tokens.Role.TheVariants.{Opens, Argues, Closes}
-use Rattle.directives.specs.declared.tokens.Next.{Next}
+use Rattle.lexer.specs.declared.stepping.Found.{Found}
+use Rattle.actions.specs.declared.Reached.{Reached as ListReached}
+use Rattle.actions.specs.declared.PieceError.{PieceError}
 use Rattle.directives.specs.declared.arguments.Arguments.{Arguments}
 use Rattle.directives.specs.declared.arguments.Taken.{Taken}
 use Rattle.directives.specs.declared.parts.Tally.{Tally}
 use Rattle.directives.specs.declared.parts.List.{List as ListAnswer}
 use Rattle.directives.specs.declared.parts.Entry.{Entry}
-use Rattle.directives.specs.declared.parts.Judged.{Judged}
-use Rattle.directives.specs.declared.reading.Ended.{Ended}
 
 -- ---- buffers
 
@@ -82,9 +81,9 @@ pub record None-is (s : List ℕ) (here : Cursor) (old new : List ℕ) (stop : C
   pub none : onward s here ≡ record { tokens = []; stop = stop }
   pub same : new ≡ old
 
-abbrev pub Nexts : List ℕ → Cursor → ℕ → List ℕ → List ℕ → Next → Type 0
-Nexts s here held old new (Next.Token l) = Token-is s here held old new l
-Nexts s here held old new (Next.Nothing stop) = None-is s here old new stop
+abbrev pub Nexts : List ℕ → Cursor → ℕ → List ℕ → List ℕ → Found → Type 0
+Nexts s here held old new (Found.Token l) = Token-is s here held old new l
+Nexts s here held old new (Found.Nothing stop) = None-is s here old new stop
 
 -- ---- arguments
 
@@ -161,7 +160,7 @@ shrunk_for (unknown m) n = 0
 -- What a directive's record has of its own.
 abbrev pub entry_of : Reached → ℕ → Body → Entry
 entry_of r shrunk x = record {
-  kind = kind_code x;
+  kind = shape_in x;
   name = Acts.slot_word r.text (name_slot x);
   negated = negated_word x;
   operator = operator_word x;
@@ -186,11 +185,8 @@ pub record Faulted (f : Fault) (text text' : List ℕ) (r : Told) : Type 0 where
   pub given : fault_told r ≡ fault_given f
   pub left : pick (naming r) text' (zeros (length text)) ≡ padded (length text) (fault_name f)
 
-abbrev pub in_argument : ArgumentFault → ℕ → ℕ → ℕ → ℕ → Told
-in_argument why line at len span = Told.Argument why line at len span
-
 -- An entry of that kind with nothing read yet; and one that is given more: a name, variables, an operator, actions.
-abbrev pub empty_entry : ℕ → ℕ → Entry
+abbrev pub empty_entry : Shape → ℕ → Entry
 empty_entry kind text = record { kind = kind; name = 0; negated = 0; operator = 0; argument = 0; variables = 0; actions = 0; text = text; shrunk = 0; id = false; chain = false }
 
 abbrev pub with_name : Entry → ℕ → ℕ → Entry
@@ -208,31 +204,31 @@ with_actions e n text shrunk id chain =
     record { kind = e.kind; name = e.name; negated = e.negated; operator = e.operator; argument = e.argument; variables = e.variables; actions = n; text = text; shrunk = shrunk; id = id; chain = chain }
 
 -- One part read into an entry: what it grew to, its text laid, and the records that are left.
-pub record Grew (e : Entry) (at : ℕ) (xs text text' words records' : List ℕ) (r : Judged) : Type 0 where
-  pub is : r ≡ Judged.Good e
+pub record Grew (e : Entry) (at : ℕ) (xs text text' words records' : List ℕ) (r : Result Entry Told) : Type 0 where
+  pub is : r ≡ Ok e
   pub laid : Laid text text' at xs
   pub records_are : records' ≡ words
 
 -- Or its fault.
-pub record Fell (f : Fault) (text text' : List ℕ) (r : Judged) : Type 0 where
+pub record Fell (f : Fault) (text text' : List ℕ) (r : Result Entry Told) : Type 0 where
   pub told : Told
-  pub is : r ≡ Judged.Bad told
+  pub is : r ≡ Err told
   pub faulted : Faulted f text text' told
 
-abbrev pub AddsVariables : Entry → ℕ → ℕ → List ℕ → List ℕ → List ℕ → List ℕ → Outcome Listed → Judged → Type 0
+abbrev pub AddsVariables : Entry → ℕ → ℕ → List ℕ → List ℕ → List ℕ → List ℕ → Outcome Listed → Result Entry Told → Type 0
 AddsVariables e line place text text' records records' (reads x) =
     Grew (with_variables e (length x.variables + length x.exclusions) (e.text + length (Targets.texts x.variables x.exclusions))) e.text
     (Targets.texts x.variables x.exclusions) text text'
     (stored_each records (place * variable_words) (Cores.records_from e.text x.variables x.exclusions)) records'
 AddsVariables e line place text text' records records' (refuses f) = Fell (within line f) text text'
 
-abbrev pub AddsOperator : Entry → ℕ → List ℕ → List ℕ → Outcome Spec → Judged → Type 0
+abbrev pub AddsOperator : Entry → ℕ → List ℕ → List ℕ → Outcome Spec → Result Entry Told → Type 0
 AddsOperator e line text text' (reads x) =
     Grew (with_operator e (bit x.negated) x.name (span_word e.text (length x.argument)) (e.text + length x.argument)) e.text
     x.argument text text' [] []
 AddsOperator e line text text' (refuses f) = Fell (within line f) text text'
 
-abbrev pub AddsActions : Entry → ℕ → ℕ → List ℕ → List ℕ → List ℕ → List ℕ → Outcome (List (Sourced Action)) → ℕ → Judged → Type 0
+abbrev pub AddsActions : Entry → ℕ → ℕ → List ℕ → List ℕ → List ℕ → List ℕ → Outcome (List (Sourced Action)) → ℕ → Result Entry Told → Type 0
 AddsActions e line place text text' records records' (reads xs) shrunk =
     Grew (with_actions e (length xs) (e.text + length (Acts.texts xs)) shrunk (has id_code xs) (has chain_code xs)) e.text (Acts.texts xs) text text'
     (stored_each records (place * action_words) (Acts.records_from e.text xs)) records'
@@ -243,22 +239,25 @@ abbrev pub ListLeft : Outcome (List (Sourced Action)) → ℕ → List ℕ → L
 ListLeft (reads xs) used text text' = Laid text text' used (Acts.texts xs)
 ListLeft (refuses f) used text text' = text' ≡ padded (length text) (name_left f)
 
-pub record ListRead (s : List ℕ) (used place : ℕ) (text text' records records' : List ℕ) (r : ListAnswer) : Type 0 where
-  pub shrunk : r.shrunk ≡ shrunk_by s
-  pub answer : r.reached ≡ core_reached used (actions_read s)
+abbrev pub with_shrunk : ℕ → Result ListReached PieceError → Result ListAnswer PieceError
+with_shrunk n (Ok x) = Ok (record { reached = x; shrunk = n })
+with_shrunk n (Err e) = Err e
+
+pub record ListRead (s : List ℕ) (used place : ℕ) (text text' records records' : List ℕ) (r : Result ListAnswer PieceError) : Type 0 where
+  pub answer : r ≡ with_shrunk (shrunk_by s) (core_reached used (actions_read s))
   pub left : ListLeft (actions_read s) used text text'
   pub words : records' ≡ core_records used place records (actions_read s)
 
 -- A directive's body: its entry and what is written, or its first fault.
-pub record Wrote (x : Body) (shrunk : ℕ) (t : Tally) (text text' variables variables' actions actions' : List ℕ) (r : Judged) : Type 0 where
-  pub is : r ≡ Judged.Good (entry_of (reached_by t) shrunk x)
+pub record Wrote (x : Body) (shrunk : ℕ) (t : Tally) (text text' variables variables' actions actions' : List ℕ) (r : Result Entry Told) : Type 0 where
+  pub is : r ≡ Ok (entry_of (reached_by t) shrunk x)
   pub laid : Laid text text' t.text (body_text x)
   pub listed : variables' ≡ stored_each variables (t.variables * variable_words) (listed_each t.text x)
   pub acted : actions' ≡ stored_each actions (t.actions * action_words) (acted_each t.text x)
 
-abbrev pub Bodied : Result Body → ℕ → Tally → List ℕ → List ℕ → List ℕ → List ℕ → List ℕ → List ℕ → Judged → Type 0
-Bodied (good x) shrunk t text text' variables variables' actions actions' = Wrote x shrunk t text text' variables variables' actions actions'
-Bodied (bad f) shrunk t text text' variables variables' actions actions' = Fell f text text'
+abbrev pub Bodied : Result Body Fault → ℕ → Tally → List ℕ → List ℕ → List ℕ → List ℕ → List ℕ → List ℕ → Result Entry Told → Type 0
+Bodied (Ok x) shrunk t text text' variables variables' actions actions' = Wrote x shrunk t text text' variables variables' actions actions'
+Bodied (Err f) shrunk t text text' variables variables' actions actions' = Fell f text text'
 
 -- A directive of that shape takes so many arguments.
 abbrev pub takes : Shape → ℕ → Bool
@@ -300,19 +299,23 @@ pub record Ready (scratch text : List ℕ) (name : ℕ) (a : Arguments) (t : Tal
 -- The record of a directive of that line and place, by its entry.
 abbrev pub entry_record : ℕ → ℕ → ℕ → Tally → Entry → List ℕ
 entry_record line first past t e =
-    e.kind ∷ line ∷ span_word first (past - first) ∷ e.name ∷ e.negated ∷ e.operator ∷ e.argument ∷ t.variables ∷ e.variables ∷ t.actions ∷ e.actions ∷ []
+    shape_code e.kind ∷ line ∷ span_word first (past - first) ∷ e.name ∷ e.negated ∷ e.operator ∷ e.argument ∷ t.variables ∷ e.variables ∷ t.actions ∷ e.actions ∷ []
 
--- A rule, by the kind of its record.
-abbrev pub rule_kind : ℕ → Bool
-rule_kind k = or (eqb k 1) (eqb k 2)
+-- A rule, by its shape.
+abbrev pub rule_shape : Shape → Bool
+rule_shape of_rule = true
+rule_shape of_action = true
+rule_shape of_marker = false
+rule_shape of_defaults = false
+rule_shape of_other = false
 
 -- Whether the next rule continues one, and whether this one lacks an id, by entries.
 abbrev pub chain_behind : Tally → Entry → Bool
-chain_behind t e = pick (rule_kind e.kind) e.chain t.chained
+chain_behind t e = pick (rule_shape e.kind) e.chain t.chained
 
 abbrev pub lacks_by : Version → Tally → Entry → Bool
 lacks_by TwoSix t e = false
-lacks_by TwoSeven t e = and (rule_kind e.kind) (and (not t.chained) (not e.id))
+lacks_by TwoSeven t e = and (rule_shape e.kind) (and (not t.chained) (not e.id))
 
 -- And behind directives.
 unfoldable pub chained_by : Bool → List Directive → Bool
@@ -323,11 +326,11 @@ chained_by chained (d ∷ ds) = chained_by (chained_on chained d.body) ds
 abbrev pub tally_of : List Directive → Tally
 tally_of ds = record { directives = length ds; text = length (texts ds); variables = listed_counts ds; actions = action_counts ds; chained = chained_by false ds }
 
-abbrev pub ended_at : LineFault → ℕ → Ended
-ended_at why line = Ended.First (Told.Line why line)
+abbrev pub at_line : LineFault → ℕ → Told
+at_line why line = Told.Line why line
 
-abbrev pub ended_in : Cursor → ℕ → Tally → Ended
-ended_in stop n t = pick (ltb stop.place n) (ended_at Stopped stop.line.0) (Ended.All t)
+abbrev pub ended_in : Cursor → ℕ → Tally → Result Tally Told
+ended_in stop n t = pick (ltb stop.place n) (Err (at_line Stopped stop.line.0)) (Ok t)
 
 -- Behind none, and behind one more.
 abbrev pub empty_tally : Tally
@@ -355,18 +358,18 @@ pub record Written (ds : List Directive) (text text' records records' variables 
 
 pub record AllRead (v : Version) (s text text' records records' variables variables' actions actions' : List ℕ) (t : Tally) : Type 0 where
   pub ds : List Directive
-  pub read : directives_for v s ≡ good ds
+  pub read : directives_for v s ≡ Ok ds
   pub tally_is : t ≡ tally_of ds
   pub written : Written ds text text' records records' variables variables' actions actions'
 
 pub record FirstFault (v : Version) (s text text' : List ℕ) (r : Told) : Type 0 where
   pub fault : Fault
-  pub read : directives_for v s ≡ bad fault
+  pub read : directives_for v s ≡ Err fault
   pub faulted : Faulted fault text text' r
 
-abbrev pub Ends : Version → List ℕ → List ℕ → List ℕ → List ℕ → List ℕ → List ℕ → List ℕ → List ℕ → List ℕ → Ended → Type 0
-Ends v s text text' records records' variables variables' actions actions' (Ended.All t) = AllRead v s text text' records records' variables variables' actions actions' t
-Ends v s text text' records records' variables variables' actions actions' (Ended.First f) = FirstFault v s text text' f
+abbrev pub Ends : Version → List ℕ → List ℕ → List ℕ → List ℕ → List ℕ → List ℕ → List ℕ → List ℕ → List ℕ → Result Tally Told → Type 0
+Ends v s text text' records records' variables variables' actions actions' (Ok t) = AllRead v s text text' records records' variables variables' actions actions' t
+Ends v s text text' records records' variables variables' actions actions' (Err f) = FirstFault v s text text' f
 
 -- ---- the endings
 
@@ -390,7 +393,7 @@ pub record Refuses (f : Told) (text text' records records' variables variables' 
 
 -- The answer after all is read, and a buffer then: what was written, with zeros beyond; or that there is no room, and zeros.
 abbrev pub answer_by : Bool → Tally → Answer
-answer_by full t = pick full (Answer.NoRoom t.directives t.variables t.actions) (Answer.Read t.directives t.variables t.actions t.text)
+answer_by full t = pick full (Err (NoRoom t.directives t.variables t.actions)) (Ok (read_as t.directives t.variables t.actions t.text))
 
 abbrev pub left_from : Bool → ℕ → List ℕ → List ℕ
 left_from full n old = pick full (zeros (length old)) (cleared_from n old)

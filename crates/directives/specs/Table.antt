@@ -1,9 +1,9 @@
 -- What a call gives back, and what it leaves in lent memory: document 01's table as document 02 has it for directives.
-use Rattle.std.specs.Prelude.{ℕ, List, [], ◌∷◌, length}
+use Rattle.lent.specs.declared.gating.GateError.{GateError}
+use Rattle.lent.specs.declared.gating.GateError.TheVariants.{TooLong, Short, NotAscii}
+use Rattle.std.specs.Prelude.{ℕ, List, [], ◌∷◌, length, Result, Ok, Err}
 use Rattle.lent.specs.Buffers.{zeros, padded}
 use Rattle.lent.specs.Table.{Given, given, Refusal, too_long, not_ascii, short_buffer, no_room, named, unknown_operator, bad_cursor, refused}
-use Rattle.lent.specs.declared.gating.Gate.{Gate}
-use Rattle.lent.specs.declared.gating.Gate.TheVariants.{Open, TooLong, NotAscii, Short}
 use Rattle.directives.specs.Directives.{Fault, wrong_count, untaken, stopped, id_missing, within}
 
 -- Row 0: values, texts, and the words of the three record buffers.
@@ -24,11 +24,11 @@ pub data Outcome : Type 0 where
   filled : Filled → Outcome
 
 -- Rows 1, 2 and 3 come first.
-abbrev pub past_gate : Gate → Outcome → Outcome
-past_gate Open o = o
-past_gate TooLong o = shut too_long
-past_gate (NotAscii place) o = shut (not_ascii place)
-past_gate Short o = shut short_buffer
+abbrev pub past_gate : Result Unit GateError → Outcome → Outcome
+past_gate (Ok tt) o = o
+past_gate (Err TooLong) o = shut too_long
+past_gate (Err (NotAscii place)) o = shut (not_ascii place)
+past_gate (Err Short) o = shut short_buffer
 
 -- Number and values: a fault in a directive has the line first.
 abbrev pub fault_given : Fault → Given

@@ -1,20 +1,20 @@
 -- Worked packages of M-108, for both versions: what a rule, an id and a chain are, and the order of faults.
-use Rattle.std.specs.Prelude.{◌≡◌, refl, ℕ, List, [], ◌∷◌}
+use Rattle.std.specs.Prelude.{◌≡◌, refl, ℕ, List, [], ◌∷◌, Result, Ok, Err}
 use Prim.Native.String.{String}
 use Rattle.ascii.specs.Text.{bytes}
 use Rattle.lent.specs.Sizes.{span_word}
 use Rattle.lent.specs.Table.{Given, given}
 use Rattle.actions.specs.Having.{has}
-use Rattle.directives.specs.Directives.{Result, bad, good, Directive, over}
+use Rattle.directives.specs.Directives.{Directive, over, Fault}
 use Rattle.directives.specs.Versions.{TwoSix, TwoSeven, asked, leading, directives_for}
 use Rattle.directives.specs.Table.{fault_given}
 use Rattle.directives.specs.Promises.{laid_out}
 use Rattle.directives.specs.Cases.{Comes}
 
 -- number and values, all room being there
-abbrev answered : Result (List Directive) → Given
-answered (bad f) = fault_given f
-answered (good ds) = given 0 (laid_out ds).values
+abbrev answered : Result (List Directive) Fault → Given
+answered (Err f) = fault_given f
+answered (Ok ds) = given 0 (laid_out ds).values
 
 -- What a text comes to for 2.6 and for 2.7.
 unfoldable pub Answers : String → Given → Given → Type 0

@@ -1,13 +1,13 @@
 // The arguments of a directive: the tokens that it takes, their texts one behind another.
-ghost use Rattle.std.specs.Prelude.{◌≡◌, [], ◌+◌, ◌≤◌, length, eqb};
+ghost use Rattle.std.specs.Prelude.{◌≡◌, [], ◌+◌, ◌≤◌, length};
 ghost use Rattle.ascii.specs.Choice.{pick};
 ghost use Rattle.lent.specs.Sizes.{limit};
 ghost use Rattle.lexer.specs.Calls.{Reached};
 ghost use Rattle.directives.specs.Steps.{one_more, arguments_as, Took};
 
-use crate::tokens::{Next, Role, role_of, token_from};
+use crate::tokens::{Role, role_of, token_from};
 use ascii::Part;
-use lexer::Cursor;
+use lexer::{Cursor, Found};
 
 // How many arguments there are, where the texts of the first, of the first two and of the first three end, and those of all;
 // where the last one ends in the input, and where the first three stand there.
@@ -31,18 +31,11 @@ pub struct Taken {
     pub next: Cursor,
 }
 
-// An end that is still open moves with every argument.
-fn end_at(growing: bool, old: usize, new: usize) -> usize
+// What is still open moves with every argument: an end while there are fewer, a place when its own argument comes.
+fn moved<T: Copy>(growing: bool, old: T, new: T) -> T
     ensures { result ≡ pick growing new old }
 {
     if growing { new } else { old }
-}
-
-// The place of the argument with this number is that of the one which comes when so many are there.
-fn part_at(number: usize, count: usize, old: Part, new: Part) -> Part
-    ensures { result ≡ pick (eqb count number) new old }
-{
-    if count == number { new } else { old }
 }
 
 // One argument more, with so many bytes of text, that stands there in the input.
@@ -51,19 +44,16 @@ fn with_one(a: Arguments, len: usize, here: Part) -> Arguments
     ensures { result ≡ one_more a len here }
 {
     let end = a.end + len;
-    let first = a.first;
-    let second = a.second;
-    let third = a.third;
     Arguments {
         count: a.count + 1,
-        one: end_at(a.count < 1, a.one, end),
-        two: end_at(a.count < 2, a.two, end),
-        three: end_at(a.count < 3, a.three, end),
+        one: moved(a.count < 1, a.one, end),
+        two: moved(a.count < 2, a.two, end),
+        three: moved(a.count < 3, a.three, end),
         end,
         past: here.past,
-        first: part_at(0, a.count, first, here),
-        second: part_at(1, a.count, second, here),
-        third: part_at(2, a.count, third, here),
+        first: moved(a.count == 0, a.first, here),
+        second: moved(a.count == 1, a.second, here),
+        third: moved(a.count == 2, a.third, here),
     }
 }
 
@@ -94,34 +84,30 @@ pub fn take_arguments(s: &[u8], from: Cursor, past: usize, scratch: &mut [u8], h
 {
     let mut here = from;
     let mut arguments = none_yet(held, past);
+    // token after token: what ends the arguments is read again, or passed
     loop {
-        let end = arguments.end;
-        match token_from(s, here, scratch, end) {
-            Next::Nothing(_) => {
-                return Taken {
-                    arguments,
-                    next: here,
-                };
+        let t = match token_from(s, here, scratch, arguments.end) {
+            Found::Nothing(_) => {
+                let next = here;
+                return Taken { arguments, next };
             }
-            Next::Token(t) => {
-                let kind = t.kind;
+            Found::Token(t) => t,
+        };
+        match role_of(t.kind) {
+            // it is read again, as the next one
+            Role::Opens => {
+                let next = here;
+                return Taken { arguments, next };
+            }
+            Role::Closes => {
                 let next = t.next;
-                match role_of(kind) {
-                    // it is read again, as the next one
-                    Role::Opens => {
-                        return Taken {
-                            arguments,
-                            next: here,
-                        };
-                    }
-                    Role::Closes => return Taken { arguments, next },
-                    Role::Argues => {
-                        let first = t.first;
-                        let past = next.place;
-                        arguments = with_one(arguments, t.len, Part { first, past });
-                        here = next;
-                    }
-                }
+                return Taken { arguments, next };
+            }
+            Role::Argues => {
+                let first = t.first;
+                let past = t.next.place;
+                arguments = with_one(arguments, t.len, Part { first, past });
+                here = t.next;
             }
         }
     }

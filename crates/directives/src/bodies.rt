@@ -5,9 +5,7 @@ ghost use Rattle.directives.specs.Directives.{rule_by, told, variables_read, ope
 ghost use Rattle.directives.specs.Steps.{takes as takes_so, held_arguments, held_list, shrunk_by, Ready, Bodied};
 
 use crate::arguments::Arguments;
-use crate::parts::{
-    Judged, Tally, add_actions, add_name, add_operator, add_variables, empty_entry,
-};
+use crate::parts::{Entry, Tally, add_actions, add_name, add_operator, add_variables, empty_entry};
 use crate::shapes::{Shape, shape_of};
 use crate::{Fault, LineFault};
 
@@ -16,20 +14,14 @@ fn takes(shape: Shape, count: usize) -> bool
     ensures { result ≡ takes_so shape count }
 {
     match shape {
-        Shape::Rule => {
-            if count < 2 {
-                return false;
-            }
-            count <= 3
-        }
+        Shape::Rule => (2..=3).contains(&count),
+        Shape::Action | Shape::Marker | Shape::Defaults => count == 1,
         Shape::Other => true,
-        Shape::Action => count == 1,
-        Shape::Marker => count == 1,
-        Shape::Defaults => count == 1,
     }
 }
 
 // Variables, operator and actions in this order. Where there is no third argument its text is empty, and so is its list.
+// Each buffer is lent by itself, and in no struct: a part is lent only those that it writes.
 fn read_rule(
     line: usize,
     scratch: &mut [u8],
@@ -39,29 +31,15 @@ fn read_rule(
     variables: &mut [u64],
     actions: &mut [u64],
     t: Tally,
-) -> Judged
+) -> Result<Entry, Fault>
     requires { Ready scratch.old text.old name a t }
     ensures { Bodied (told line (rule_by (variables_read (part scratch.old name a.one)) (operator_read (part scratch.old a.one a.two)) (actions_read (part scratch.old a.two a.three)))) (shrunk_by (part scratch.old a.two a.three)) t text.old text.new variables.old variables.new actions.old actions.new result }
 {
-    let one = a.one;
-    let two = a.two;
-    let empty = empty_entry(1, t.text);
-    match add_variables(
-        empty,
-        line,
-        &scratch[name..one],
-        text,
-        variables,
-        t.variables,
-    ) {
-        Judged::Bad(f) => Judged::Bad(f),
-        Judged::Good(targeted) => match add_operator(targeted, line, &scratch[one..two], text) {
-            Judged::Bad(f) => Judged::Bad(f),
-            Judged::Good(e) => add_actions(
-                e, line, scratch, two, a.three, text, actions, t.actions,
-            ),
-        },
-    }
+    let empty = empty_entry(Shape::Rule, t.text);
+    let listed = &scratch[name..a.one];
+    let targeted = add_variables(empty, line, listed, text, variables, t.variables)?;
+    let e = add_operator(targeted, line, &scratch[a.one..a.two], text)?;
+    add_actions(e, line, scratch, a.two, a.three, text, actions, t.actions)
 }
 
 // What a directive's arguments come to: their count first, then each in turn.
@@ -74,43 +52,22 @@ pub fn read_body(
     variables: &mut [u64],
     actions: &mut [u64],
     t: Tally,
-) -> Judged
+) -> Result<Entry, Fault>
     requires { Ready scratch.old text.old name a t }
     ensures { Bodied (body_by (shape_of (take name scratch.old)) line (take name scratch.old) (held_arguments scratch.old name a)) (shrunk_by (held_list scratch.old name a)) t text.old text.new variables.old variables.new actions.old actions.new result }
 {
     let shape = shape_of(&scratch[..name]);
     if !takes(shape, a.count) {
         let why = LineFault::WrongCount;
-        return Judged::Bad(Fault::Line { why, line });
+        return Err(Fault::Line { why, line });
     }
-    let one = a.one;
+    let empty = empty_entry(shape, t.text);
     match shape {
         Shape::Rule => read_rule(line, scratch, name, a, text, variables, actions, t),
-        Shape::Action => {
-            add_actions(
-                empty_entry(2, t.text),
-                line,
-                scratch,
-                name,
-                one,
-                text,
-                actions,
-                t.actions,
-            )
+        Shape::Action | Shape::Defaults => {
+            add_actions(empty, line, scratch, name, a.one, text, actions, t.actions)
         }
-        Shape::Defaults => {
-            add_actions(
-                empty_entry(4, t.text),
-                line,
-                scratch,
-                name,
-                one,
-                text,
-                actions,
-                t.actions,
-            )
-        }
-        Shape::Marker => Judged::Good(add_name(empty_entry(3, t.text), &scratch[name..one], text)),
-        Shape::Other => Judged::Good(add_name(empty_entry(5, t.text), &scratch[..name], text)),
+        Shape::Marker => Ok(add_name(empty, &scratch[name..a.one], text)),
+        Shape::Other => Ok(add_name(empty, &scratch[..name], text)),
     }
 }

@@ -3,6 +3,10 @@
 
 #![tactic(auto)]
 
+ghost use Rattle.std.specs.Prelude.{◌≡◌};
+ghost use Rattle.directives.specs.Promises.{line_number, argument_number};
+ghost use Rattle.directives.specs.declared.DirectivesError.TheVariants.{Gate, Refused};
+
 mod arguments;
 mod bodies;
 mod chains;
@@ -14,18 +18,18 @@ mod sites;
 mod tokens;
 mod writing;
 
-use lent::Flaw;
+use lent::{Flaw, GateError};
 pub use reading::directives;
 
 // The version of ModSecurity that a package is written for: from 2.7 a rule that continues none must have an id.
-#[derive(Clone, Copy)]
+#[derive(Clone, Copy, Debug, PartialEq, Eq)]
 pub enum Version {
     TwoSix,
     TwoSeven,
 }
 
 // Why a line is refused.
-#[derive(Clone, Copy)]
+#[derive(Clone, Copy, Debug, PartialEq, Eq)]
 pub enum LineFault {
     // 13, 14, 15 and 18
     WrongCount,
@@ -35,7 +39,7 @@ pub enum LineFault {
 }
 
 // Why an argument of a directive is refused.
-#[derive(Clone, Copy)]
+#[derive(Clone, Copy, Debug, PartialEq, Eq)]
 pub enum ArgumentFault {
     // 7, 8, 5, and 10 to 12
     UnknownVariable,
@@ -44,8 +48,34 @@ pub enum ArgumentFault {
     BadArgument(Flaw),
 }
 
+impl From<LineFault> for u64 {
+    ghost from_gives = { λ why n. n ≡ line_number why };
+
+    fn from(why: LineFault) -> u64 {
+        match why {
+            LineFault::WrongCount => 13,
+            LineFault::Untaken => 14,
+            LineFault::Stopped => 15,
+            LineFault::IdMissing => 18,
+        }
+    }
+}
+
+impl From<ArgumentFault> for u64 {
+    ghost from_gives = { λ why n. n ≡ argument_number why };
+
+    fn from(why: ArgumentFault) -> u64 {
+        match why {
+            ArgumentFault::UnknownVariable => 7,
+            ArgumentFault::UnknownOperator => 8,
+            ArgumentFault::UnknownAction => 5,
+            ArgumentFault::BadArgument(flaw) => u64::from(flaw),
+        }
+    }
+}
+
 // What no directive is read for.
-#[derive(Clone, Copy)]
+#[derive(Clone, Copy, Debug, PartialEq, Eq)]
 pub enum Fault {
     // the line of the directive, the token or the stop
     Line {
@@ -63,22 +93,20 @@ pub enum Fault {
     },
 }
 
-// The paper's numbers, by name.
-#[derive(Clone, Copy)]
-pub enum Answer {
-    // 0: how many records of each kind, and bytes of text
-    Read {
-        directives: usize,
-        variables: usize,
-        actions: usize,
-        text: usize,
-    },
-    // 1
-    TooLong,
-    // 2: the place of the first byte past ASCII
-    NotAscii(usize),
-    // 3
-    Short,
+// How many records of each kind, and bytes of text.
+#[derive(Clone, Copy, Debug, PartialEq, Eq)]
+pub struct Read {
+    pub directives: usize,
+    pub variables: usize,
+    pub actions: usize,
+    pub text: usize,
+}
+
+// The paper's other numbers, by name.
+#[derive(Clone, Copy, Debug, PartialEq, Eq)]
+pub enum DirectivesError {
+    // 1 to 3
+    Gate(GateError),
     // 5, 7, 8, 10 to 15 and 18
     Refused(Fault),
     // 4: the records needed of each kind
@@ -87,4 +115,20 @@ pub enum Answer {
         variables: usize,
         actions: usize,
     },
+}
+
+impl From<GateError> for DirectivesError {
+    ghost from_gives = { λ e r. r ≡ Gate e };
+
+    fn from(e: GateError) -> DirectivesError {
+        DirectivesError::Gate(e)
+    }
+}
+
+impl From<Fault> for DirectivesError {
+    ghost from_gives = { λ f r. r ≡ Refused f };
+
+    fn from(f: Fault) -> DirectivesError {
+        DirectivesError::Refused(f)
+    }
 }

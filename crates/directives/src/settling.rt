@@ -2,7 +2,7 @@
 ghost use Rattle.std.specs.Prelude.{◌≡◌, ◌*◌, ◌≤◌};
 ghost use Rattle.lent.specs.Sizes.{limit, action_words};
 ghost use Rattle.directives.specs.Steps.{arguments_as, taken_from};
-ghost use Rattle.directives.specs.Settling.{Stand, list_in, Heard, Listing, list_moved, list_word, list_there, Settled, span_moved, fault_moved};
+ghost use Rattle.directives.specs.Settling.{Stand, list_found, Heard, Listing, list_moved, list_word, Settled, span_moved, fault_moved};
 
 use crate::arguments::{Arguments, take_arguments};
 use crate::parts::{Entry, Tally};
@@ -21,23 +21,24 @@ pub struct Listed {
 }
 
 // The list of actions is the only argument, or the third.
-fn list_of(a: Arguments, name: usize) -> Listed
-    ensures { result ≡ list_in a name }
+fn list_of(a: Arguments, name: usize) -> Option<Listed>
+    ensures { result ≡ list_found a name }
 {
-    let only = a.first;
-    let third = a.third;
     if a.count == 1 {
-        return Listed {
-            token: only,
+        return Some(Listed {
+            token: a.first,
             first: name,
             past: a.one,
-        };
+        });
     }
-    Listed {
-        token: third,
-        first: a.two,
-        past: a.three,
+    if 2 < a.count {
+        return Some(Listed {
+            token: a.third,
+            first: a.two,
+            past: a.three,
+        });
     }
+    None
 }
 
 // The records of a list of actions. Where it was shorter when it was normalised, its text is taken once more, into scratch.
@@ -55,15 +56,11 @@ fn settle_list(
     requires { Heard s.now from name scratch.old × Listing s.now from name list × (place ≤ limit) }
     ensures { records.new ≡ list_moved s.now from list.token shrunk count (place * action_words) records.old }
 {
-    let token = list.token;
     let at = place * lent::ACTION_WORDS;
     if 0 < shrunk {
         take_arguments(s, from, from.place, scratch, name);
-        let first = list.first;
-        let past = list.past;
-        let text = &scratch[first..past];
         places::resite(
-            text,
+            &scratch[list.first..list.past],
             0,
             Rule::Joined,
             records,
@@ -72,7 +69,7 @@ fn settle_list(
             lent::ACTION_WORDS,
         );
     }
-    site_records(s, token, records, at, count, lent::ACTION_WORDS);
+    site_records(s, list.token, records, at, count, lent::ACTION_WORDS);
 }
 
 // The span of a piece of such a list.
@@ -87,21 +84,10 @@ fn settle_span(
     requires { Heard s.now from name scratch.old × Listing s.now from name list }
     ensures { result ≡ list_word s.now from list.token span }
 {
-    let token = list.token;
     take_arguments(s, from, from.place, scratch, name);
-    let first = list.first;
-    let past = list.past;
-    let inner = places::site_word(&scratch[first..past], 0, Rule::Joined, span);
-    site_span(s, token, inner)
-}
-
-fn has_list(count: usize) -> bool
-    ensures { result ≡ list_there count }
-{
-    if count == 1 {
-        return true;
-    }
-    2 < count
+    let text = &scratch[list.first..list.past];
+    let inner = places::site_word(text, 0, Rule::Joined, span);
+    site_span(s, list.token, inner)
 }
 
 // The records of what was read of a directive.
@@ -120,14 +106,11 @@ pub fn settle(
     requires variables_le_limit { (t.variables ≤ limit) × (t.actions ≤ limit) }
     ensures { Settled s.now from a name t e variables.old variables.new actions.old actions.new }
 {
-    let count = a.count;
-    if 0 < count {
-        let token = a.first;
+    if 0 < a.count {
         let at = t.variables * lent::VARIABLE_WORDS;
-        site_records(s, token, variables, at, e.variables, lent::VARIABLE_WORDS);
+        site_records(s, a.first, variables, at, e.variables, lent::VARIABLE_WORDS);
     }
-    if has_list(count) {
-        let list = list_of(a, name);
+    if let Some(list) = list_of(a, name) {
         settle_list(
             s, from, name, list, e.shrunk, scratch, actions, t.actions, e.actions,
         );
@@ -147,28 +130,14 @@ fn span_moved(
     requires { Heard s.now from name scratch.old × (a ≡ arguments_as name from.place (taken_from s.now from)) × Stand s.now a }
     ensures { result ≡ span_moved s.now from a name why span }
 {
-    let count = a.count;
-    let first = a.first;
-    let second = a.second;
     match why {
-        ArgumentFault::UnknownVariable => {
-            if 0 < count {
-                return site_span(s, first, span);
-            }
-            span
-        }
-        ArgumentFault::UnknownOperator => {
-            if 1 < count {
-                return site_span(s, second, span);
-            }
-            span
-        }
-        ArgumentFault::UnknownAction | ArgumentFault::BadArgument(_) => {
-            if has_list(count) {
-                return settle_span(s, from, name, list_of(a, name), scratch, span);
-            }
-            span
-        }
+        ArgumentFault::UnknownVariable if 0 < a.count => site_span(s, a.first, span),
+        ArgumentFault::UnknownOperator if 1 < a.count => site_span(s, a.second, span),
+        ArgumentFault::UnknownVariable | ArgumentFault::UnknownOperator => span,
+        ArgumentFault::UnknownAction | ArgumentFault::BadArgument(_) => match list_of(a, name) {
+            Some(list) => settle_span(s, from, name, list, scratch, span),
+            None => span,
+        },
     }
 }
 
@@ -185,7 +154,7 @@ pub fn settle_fault(
     ensures { result ≡ fault_moved s.now from a name f }
 {
     match f {
-        Fault::Line { why, line } => Fault::Line { why, line },
+        Fault::Line { .. } => f,
         Fault::Argument {
             why,
             line,

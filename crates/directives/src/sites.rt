@@ -1,20 +1,11 @@
 // Spans in an argument's text put where they stand in the input.
 ghost use Rattle.std.specs.Prelude.{◌≡◌, ◌≤◌};
 ghost use Rattle.places.specs.Moves.{last_changed};
-ghost use Rattle.directives.specs.Directives.{is_mark};
 ghost use Rattle.directives.specs.Settling.{Stands, token_word};
 
 use ascii::Part;
 use places::Rule;
-
-fn is_mark(b: u8) -> bool
-    ensures { result ≡ is_mark b }
-{
-    if b == 34 {
-        return true;
-    }
-    b == 39
-}
+use single_action::is_quotation;
 
 // The last words of records, spans of the text of the token there, put into the input.
 pub fn site_records(
@@ -30,7 +21,7 @@ pub fn site_records(
 {
     let first = token.first;
     let past = token.past;
-    if is_mark(s[first]) {
+    if is_quotation(s[first]) {
         places::resite(
             &s[..past],
             first + 1,
@@ -52,7 +43,7 @@ pub fn site_span(s: &[u8], token: Part, span: u64) -> u64
 {
     let first = token.first;
     let past = token.past;
-    if is_mark(s[first]) {
+    if is_quotation(s[first]) {
         return places::site_word(&s[..past], first + 1, Rule::Quoted, span);
     }
     places::site_word(&s[..past], first, Rule::Word, span)

@@ -4,7 +4,7 @@ ghost use Rattle.lent.specs.Sizes.{limit};
 ghost use Rattle.lexer.specs.Calls.{Reached};
 ghost use Rattle.directives.specs.Steps.{role_of, Nexts};
 
-use lexer::{Cursor, Kind, Lexeme, Step};
+use lexer::{Cursor, Found, Kind};
 
 // What a token does to a directive: it opens one, is an argument of the one before it, or ends that one.
 #[derive(Clone, Copy)]
@@ -19,31 +19,18 @@ pub fn role_of(kind: Kind) -> Role
 {
     match kind {
         Kind::Directive => Role::Opens,
-        Kind::Word => Role::Argues,
-        Kind::QuotedString => Role::Argues,
-        Kind::Comment => Role::Closes,
-        Kind::Newline => Role::Closes,
+        Kind::Word | Kind::QuotedString => Role::Argues,
+        Kind::Comment | Kind::Newline => Role::Closes,
     }
 }
 
-// The next token, or where reading stops.
-#[derive(Clone, Copy)]
-pub enum Next {
-    Token(Lexeme),
-    Nothing(Cursor),
-}
-
 // The token from a cursor on that was reached; its text goes to `scratch` behind what is held there.
-pub fn token_from(s: &[u8], here: Cursor, scratch: &mut [u8], held: usize) -> Next
+pub fn token_from(s: &[u8], here: Cursor, scratch: &mut [u8], held: usize) -> Found
     requires s_len_bound { length s.now ≤ limit }
     requires reached { Reached s.now here }
     requires s_in_bounds { (length s.now ≤ length scratch.old) × (held ≤ here.place) }
     ensures { Nexts s.now here held scratch.old scratch.new result }
 {
-    match lexer::step_in(s, here, &mut scratch[held..]) {
-        Step::Token(t) => Next::Token(t),
-        Step::Nothing(stop) => Next::Nothing(stop),
-        // a cursor that was reached is not refused
-        _ => Next::Nothing(here),
-    }
+    // a cursor that was reached is not refused
+    lexer::step_in(s, here, &mut scratch[held..]).unwrap()
 }

@@ -6,7 +6,7 @@ ghost use Rattle.directives.specs.Promises.{leaves_name, naming};
 ghost use Rattle.directives.specs.Steps.{entry_record, lacks_for, cleared_from, Refuses, Finishes};
 
 use crate::parts::{Entry, Tally};
-use crate::{Answer, ArgumentFault, Fault};
+use crate::{ArgumentFault, DirectivesError, Fault, Read};
 
 // The record of a directive of that line, from `first` up to `past` in the input, where it fits.
 pub fn put_directive(
@@ -21,7 +21,7 @@ pub fn put_directive(
     ensures { records.new ≡ stored records.old (t.directives * directive_words) (entry_record line first past t e) }
 {
     let record = [
-        e.kind,
+        u64::from(e.kind),
         line as u64,
         lent::span(first as u32, (past - first) as u32),
         e.name,
@@ -33,18 +33,13 @@ pub fn put_directive(
         t.actions as u64,
         e.actions as u64,
     ];
-    lent::store_words(records, t.directives * lent::DIRECTIVE_WORDS, &record);
+    lent::store(records, t.directives * lent::DIRECTIVE_WORDS, &record);
 }
 
 fn leaves_name(why: ArgumentFault) -> bool
     ensures { result ≡ leaves_name why }
 {
-    match why {
-        ArgumentFault::UnknownVariable => true,
-        ArgumentFault::UnknownOperator => false,
-        ArgumentFault::UnknownAction => true,
-        ArgumentFault::BadArgument(_) => true,
-    }
+    !matches!(why, ArgumentFault::UnknownOperator)
 }
 
 // Whether a fault leaves a name in the text buffer.
@@ -67,11 +62,11 @@ pub fn refuse(
 )
     ensures { Refuses f text.old text.new records.old records.new variables.old variables.new actions.old actions.new }
 {
-    lent::clear_words(records);
-    lent::clear_words(variables);
-    lent::clear_words(actions);
+    records.fill(0);
+    variables.fill(0);
+    actions.fill(0);
     if !is_named(f) {
-        lent::clear_bytes(text);
+        text.fill(0);
     }
 }
 
@@ -79,13 +74,9 @@ pub fn refuse(
 fn lacks_room(records: usize, variables: usize, actions: usize, t: Tally) -> bool
     ensures { result ≡ lacks_for records variables actions t }
 {
-    if lent::room(records, lent::DIRECTIVE_WORDS) < t.directives {
-        return true;
-    }
-    if lent::room(variables, lent::VARIABLE_WORDS) < t.variables {
-        return true;
-    }
-    lent::room(actions, lent::ACTION_WORDS) < t.actions
+    lent::room(records, lent::DIRECTIVE_WORDS) < t.directives
+        || lent::room(variables, lent::VARIABLE_WORDS) < t.variables
+        || lent::room(actions, lent::ACTION_WORDS) < t.actions
 }
 
 // Zeros beyond what was written.
@@ -93,7 +84,7 @@ fn clear_beyond(bytes: &mut [u8], used: usize)
     ensures { bytes.new ≡ cleared_from used bytes.old }
 {
     if used < bytes.len() {
-        lent::clear_bytes(&mut bytes[used..]);
+        bytes[used..].fill(0);
     }
 }
 
@@ -104,31 +95,31 @@ pub fn finish(
     variables: &mut [u64],
     actions: &mut [u64],
     t: Tally,
-) -> Answer
+) -> Result<Read, DirectivesError>
     ensures { Finishes t text.old text.new records.old records.new variables.old variables.new actions.old actions.new result }
 {
     if lacks_room(records.len(), variables.len(), actions.len(), t) {
-        lent::clear_bytes(text);
-        lent::clear_words(records);
-        lent::clear_words(variables);
-        lent::clear_words(actions);
-        return Answer::NoRoom {
+        text.fill(0);
+        records.fill(0);
+        variables.fill(0);
+        actions.fill(0);
+        return Err(DirectivesError::NoRoom {
             directives: t.directives,
             variables: t.variables,
             actions: t.actions,
-        };
+        });
     }
     let words = t.directives * lent::DIRECTIVE_WORDS;
-    lent::clear_words(&mut records[words..]);
+    records[words..].fill(0);
     let listed = t.variables * lent::VARIABLE_WORDS;
-    lent::clear_words(&mut variables[listed..]);
+    variables[listed..].fill(0);
     let acted = t.actions * lent::ACTION_WORDS;
-    lent::clear_words(&mut actions[acted..]);
+    actions[acted..].fill(0);
     clear_beyond(text, t.text);
-    Answer::Read {
+    Ok(Read {
         directives: t.directives,
         variables: t.variables,
         actions: t.actions,
         text: t.text,
-    }
+    })
 }

@@ -1,8 +1,8 @@
 -- The loops of the check: what holds where a loop begins, what each turn does, and what holds at the end.
-use mathlib.Core.Path.{◌≡◌, ◌∙◌, refl, sym}
+use mathlib.Core.Path.{◌≡◌, refl}
 use mathlib.Core.Bool.{Bool, true, false}
 use mathlib.Core.List.{List}
-use Prim.Native.Nat.{ℕ, suc, ◌+◌, ◌-◌, ◌*◌, ◌≤◌, ◌<◌}
+use Prim.Native.Nat.{ℕ, zero, suc, ◌+◌, ◌-◌, ◌*◌, ◌≤◌, ◌<◌}
 use native.Mathlib.Omega.{arith}
 use lib.Bits.{bit_or, and_le_l, and_le_r, or_add_and}
 use lib.Dec.{eqb}
@@ -29,24 +29,25 @@ or_none a b = go (eqb a 0) refl (eqb b 0) refl
     go false e d f = ne_eqb (bit_or a b) 0 (λ z. eqb-false a 0 e (u z).0)
 
 -- the bits of the words so far, and the words still to be read, decide
-pub record Zeroing (w : List ℕ) (first bits at : ℕ) : Type 0 where
-  pub rest : all_zero (drop first w) ≡ and (eqb bits 0) (all_zero (drop at w))
+unfoldable pub zeroing : List ℕ → ℕ → ℕ → Bool
+zeroing w bits i = and (eqb bits 0) (all_zero (drop i w))
 
-pub zero_begun : (w : List ℕ) (first : ℕ) → Zeroing w first 0 first
-zero_begun w first = record { rest = refl }
+module _ (w : List ℕ) where
+  pub zero_begun : all_zero w ≡ zeroing w 0 0
+  unfolding zeroing
+  zero_begun = refl
 
-module _ {w : List ℕ} {first bits at : ℕ} (x : Zeroing w first bits at) where
-  pub zero_next : at < length w → Zeroing w first (bit_or bits (get_or w at 0)) (at + 1)
-  unfolding all_zero
-  zero_next h = record { rest = x.rest ∙ rw (next_byte w at h, or_none bits (get_or w at 0)) (assoc (eqb bits 0) (eqb (get_or w at 0) 0) (all_zero (drop (at + 1) w))) }
+  pub zero_next : (bits i : ℕ) → i < length w → zeroing w bits i ≡ zeroing w (bit_or bits (get_or w i 0)) (i + 1)
+  unfolding zeroing all_zero
+  zero_next bits i h = rw (next_byte w i h, or_none bits (get_or w i 0)) (assoc (eqb bits 0) (eqb (get_or w i 0) 0) (all_zero (drop (i + 1) w)))
     where
       assoc : (a b c : Bool) → and a (and b c) ≡ and (and a b) c
       assoc true b c = refl
       assoc false b c = refl
 
-  pub zero_end : length w ≤ at → eqb bits 0 ≡ all_zero (drop first w)
-  unfolding all_zero
-  zero_end h = sym (x.rest ∙ rw (drop_of_length-le w {i = at} h) (last (eqb bits 0)))
+  pub zero_end : (bits i : ℕ) → length w ≤ i → zeroing w bits i ≡ eqb bits 0
+  unfolding zeroing all_zero
+  zero_end bits i h = rw (drop_of_length-le w {i = i} h) (last (eqb bits 0))
     where
       last : (a : Bool) → and a true ≡ a
       last true = refl
@@ -54,32 +55,36 @@ module _ {w : List ℕ} {first bits at : ℕ} (x : Zeroing w first bits at) wher
 
 -- ---- ascending ids
 
-pub record Climbing (w : List ℕ) (count before at left : ℕ) : Type 0 where
-  pub here : at + left * 2 ≡ 1 + count * 2
-  pub rest : from 0 (rules_of count (drop 1 w)) ≡ from (suc before) (rules_of left (drop at w))
+-- whether the ids from a rule on ascend, from above the one before it
+unfoldable pub climbing : List ℕ → ℕ → ℕ → Bool
+climbing w count i = from (suc (get_or w (i * 2 - 1) 0)) (rules_of (count - i) (drop (1 + i * 2) w))
 
 module _ (w : List ℕ) (count : ℕ) where
-  pub climb_none : count ≤ 0 → true ≡ from 0 (rules_of count (drop 1 w))
-  unfolding from
-  climb_none h = rw (no_rule (drop 1 w) count h)
+  pub climb_begun : from 0 (rules_of count (drop 1 w)) ≡ climbing w count 1
+  unfolding climbing from
+  climb_begun = go count
+    where
+      go : (n : ℕ) → from 0 (rules_of n (drop 1 w)) ≡ from (suc (get_or w 1 0)) (rules_of (n - 1) (drop 3 w))
+      go zero = rw (no_rule (drop 1 w) 0 (omega arith), no_rule (drop 3 w) (0 - 1) (omega arith))
+      go (suc n) = rw (next_rule w 1 (suc n) (omega arith), le-leb 0 (get_or w 1 0) (omega arith))
 
-  pub climb_first : 0 < count → Climbing w count (get_or w 1 0) 3 (count - 1)
-  unfolding from
-  climb_first h = record { here = omega arith; rest = rw (next_rule w 1 count h, le-leb 0 (get_or w 1 0) (omega arith)) }
+  module _ (i : ℕ) where
+    pub climb_falls : i < count → get_or w (1 + i * 2) 0 ≤ get_or w (i * 2 - 1) 0 → climbing w count i ≡ false
+    unfolding climbing from
+    climb_falls h l = rw (next_rule w (1 + i * 2) (count - i) (omega arith), lt-leb (suc (get_or w (i * 2 - 1) 0)) (get_or w (1 + i * 2) 0) (omega arith))
 
-module _ {w : List ℕ} {count before at left : ℕ} (x : Climbing w count before at left) where
-  module _ (h : 0 < left) where
-    pub climb_falls : get_or w at 0 ≤ before → false ≡ from 0 (rules_of count (drop 1 w))
-    unfolding from
-    climb_falls l = sym (x.rest ∙ rw (next_rule w at left h, lt-leb (suc before) (get_or w at 0) (omega arith)))
+    pub climb_next : i < count → get_or w (i * 2 - 1) 0 < get_or w (1 + i * 2) 0 → climbing w count i ≡ climbing w count (i + 1)
+    unfolding climbing from
+    climb_next h l =
+        let a : (i + 1) * 2 - 1 ≡ 1 + i * 2 = omega arith in
+        let b : 1 + (i + 1) * 2 ≡ 1 + i * 2 + 2 = omega arith in
+        let c : count - (i + 1) ≡ count - i - 1 = omega arith in
+        rw (next_rule w (1 + i * 2) (count - i) (omega arith), le-leb (suc (get_or w (i * 2 - 1) 0)) (get_or w (1 + i * 2) 0) (omega arith), a, b, c)
 
-    pub climb_next : before < get_or w at 0 → Climbing w count (get_or w at 0) (at + 2) (left - 1)
-    unfolding from
-    climb_next l = record {
-      here = omega (arith, x.here);
-      rest = x.rest ∙ rw (next_rule w at left h, le-leb (suc before) (get_or w at 0) (omega arith));
-    }
+    pub climb_end : count ≤ i → climbing w count i ≡ true
+    unfolding climbing from
+    climb_end h = rw (no_rule (drop (1 + i * 2) w) (count - i) (omega arith))
 
-  pub climb_end : left ≤ 0 → true ≡ from 0 (rules_of count (drop 1 w))
-  unfolding from
-  climb_end h = sym (x.rest ∙ rw (no_rule (drop at w) left h))
+pub ruleset climbs = (climb_begun, climb_falls, climb_next, climb_end)
+
+pub ruleset zeros = (zero_begun, zero_next, zero_end)

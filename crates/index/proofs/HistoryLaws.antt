@@ -1,5 +1,6 @@
 -- After any calls from an index of zeros, the slice is the index of the rules that stand by the history of the calls.
 -- The idea: removing goes past entering, so one call more at the front of a history is one step of the rules that stood before.
+use Rattle.std.specs.Prelude.{Option, Some, None, Result}
 use mathlib.Core.Path.{◌≡◌, ◌∙◌, refl, sym, ap, subst}
 use mathlib.Core.Bool.{Bool, true, false}
 use mathlib.Core.List.{List, [], ◌∷◌}
@@ -13,9 +14,9 @@ use Rattle.lent.specs.Buffers.{zeros}
 use Rattle.rules.specs.Entries.{entries}
 use Rattle.rules.specs.Selectors.{matched}
 use Rattle.rules.specs.declared.selecting.RuleIdSelector.{RuleIdSelector}
-use Rattle.index.specs.Standing.{Rule, Found, Number, Nothing, name_of, line_of, from, insert, entered, afresh, without, Verdict, verdict, passes, taken, full, enters}
+use Rattle.index.specs.Standing.{Rule, name_of, line_of, from, insert, entered, afresh, without, Verdict, verdict, passes, taken, full, enters}
 use Rattle.index.specs.Words.{pairs, laid, places_in}
-use Rattle.index.specs.Promises.{Added, Removed, Adds, Removes, added_by, left_by}
+use Rattle.index.specs.Promises.{Added, AddError, Removed, Broken, Adds, Removes, added_by, left_by}
 use Rattle.index.specs.Histories.{Event, accepted, removed, refused, removed_in, standing}
 use Rattle.index.specs.Runs.{add_event, remove_event, Ran, done, added, took}
 use Rattle.index.proofs.RuleLaws.{from_insert, from_without, length_insert, length_without, without_insert, without_both, without_none, without_same}
@@ -35,7 +36,7 @@ gone_refused : (h : List Event) (i : ℕ) → removed_in (refused ∷ h) i ≡ r
 unfolding removed_in
 gone_refused h i = refl
 
-gone_accepted : (m : Found) (l : ℕ) (h : List Event) (i : ℕ) → removed_in (accepted m l ∷ h) i ≡ removed_in h i
+gone_accepted : (m : Option ℕ) (l : ℕ) (h : List Event) (i : ℕ) → removed_in (accepted m l ∷ h) i ≡ removed_in h i
 unfolding removed_in
 gone_accepted m l h i = refl
 
@@ -49,7 +50,7 @@ gone_none i = refl
 
 -- ---- one call
 
-module _ {n : ℕ} {rs : List Rule} (x : Holds n rs) {actions : List ℕ} {line : ℕ} {new : List ℕ} {r : Added} (a : Adds actions line (laid n rs) new r) where
+module _ {n : ℕ} {rs : List Rule} (x : Holds n rs) {actions : List ℕ} {line : ℕ} {new : List ℕ} {r : Result Added AddError} (a : Adds actions line (laid n rs) new r) where
   judge : Verdict
   judge = verdict (places_in n) rs (name_of (entries actions)) line
 
@@ -71,26 +72,26 @@ module _ {n : ℕ} {rs : List Rule} (x : Holds n rs) {actions : List ℕ} {line 
     carried = λ h. ap (entered (standing h)) (sym (without_same (removed_in h) (removed_in (refused ∷ h)) (gone_refused h) rs));
   }
 
-  passing : name_of (entries actions) ≡ Nothing → Step n rs new (accepted Nothing line)
+  passing : name_of (entries actions) ≡ None → Step n rs new (accepted None line)
   unfolding standing judge
   passing e = record {
     next = rs;
     left = leaves {v = passes} (rw e);
     held = x;
-    carried = λ h. ap (entered (standing h)) (sym (without_same (removed_in h) (removed_in (accepted Nothing line ∷ h)) (gone_accepted Nothing line h) rs));
+    carried = λ h. ap (entered (standing h)) (sym (without_same (removed_in h) (removed_in (accepted None line ∷ h)) (gone_accepted None line h) rs));
   }
 
   module _ (id : ℕ) where
     it : Rule
     it = record { id = id; line = line }
 
-    entering : name_of (entries actions) ≡ Number id → line_of id rs ≡ Nothing → ltb (length rs) (places_in n) ≡ true → Step n rs new (accepted (Number id) line)
+    entering : name_of (entries actions) ≡ Some id → line_of id rs ≡ None → ltb (length rs) (places_in n) ≡ true → Step n rs new (accepted (Some id) line)
     unfolding standing entered judge it
     entering e m l = record {
       next = insert it rs;
       left = leaves {v = enters it} (rw (e, m, l)) ∙ rw (laid_length x, laid_rules x);
       held = (let k = ltb-true (length rs) (places_in n) l in record { some = x.some; sorted = from_insert it 0 rs (omega arith) m x.sorted; fits = rw (length_insert it rs) (omega arith) });
-      carried = λ h. rw (without_insert (removed_in h) it 0 rs x.sorted, without_same (removed_in h) (removed_in (accepted (Number id) line ∷ h)) (gone_accepted (Number id) line h) rs) (go h (removed_in h id));
+      carried = λ h. rw (without_insert (removed_in h) it 0 rs x.sorted, without_same (removed_in h) (removed_in (accepted (Some id) line ∷ h)) (gone_accepted (Some id) line h) rs) (go h (removed_in h id));
     }
       where
         go : (h : List Event) (b : Bool) → entered (standing h) (pick b (without (removed_in h) rs) (insert it (without (removed_in h) rs)))
@@ -98,22 +99,22 @@ module _ {n : ℕ} {rs : List Rule} (x : Holds n rs) {actions : List ℕ} {line 
         go h true = refl
         go h false = refl
 
-    by_room : name_of (entries actions) ≡ Number id → line_of id rs ≡ Nothing → (b : Bool) → ltb (length rs) (places_in n) ≡ b → Step n rs new (add_event actions line r)
+    by_room : name_of (entries actions) ≡ Some id → line_of id rs ≡ None → (b : Bool) → ltb (length rs) (places_in n) ≡ b → Step n rs new (add_event actions line r)
     unfolding judge it
     by_room e m true l = rw (answered {v = enters it} (rw (e, m, l)), e) (entering e m l)
     by_room e m false l = rw (answered {v = full} (rw (e, m, l))) (refusing (leaves {v = full} (rw (e, m, l))))
 
-    by_line : name_of (entries actions) ≡ Number id → (f : Found) → line_of id rs ≡ f → Step n rs new (add_event actions line r)
+    by_line : name_of (entries actions) ≡ Some id → (f : Option ℕ) → line_of id rs ≡ f → Step n rs new (add_event actions line r)
     unfolding judge
-    by_line e Nothing m = by_room e m (ltb (length rs) (places_in n)) refl
-    by_line e (Number l) m = rw (answered {v = taken l} (rw (e, m))) (refusing (leaves {v = taken l} (rw (e, m))))
+    by_line e None m = by_room e m (ltb (length rs) (places_in n)) refl
+    by_line e (Some l) m = rw (answered {v = taken l} (rw (e, m))) (refusing (leaves {v = taken l} (rw (e, m))))
 
-  by_name : (f : Found) → name_of (entries actions) ≡ f → Step n rs new (add_event actions line r)
+  by_name : (f : Option ℕ) → name_of (entries actions) ≡ f → Step n rs new (add_event actions line r)
   unfolding judge
-  by_name Nothing e = rw (answered {v = passes} (rw e), e) (passing e)
-  by_name (Number id) e = by_line id e (line_of id rs) refl
+  by_name None e = rw (answered {v = passes} (rw e), e) (passing e)
+  by_name (Some id) e = by_line id e (line_of id rs) refl
 
-module _ {n : ℕ} {rs : List Rule} (x : Holds n rs) {selector : RuleIdSelector} {new : List ℕ} {r : Removed} (a : Removes selector (laid n rs) new r) where
+module _ {n : ℕ} {rs : List Rule} (x : Holds n rs) {selector : RuleIdSelector} {new : List ℕ} {r : Result Removed Broken} (a : Removes selector (laid n rs) new r) where
   removing : Step n rs new (remove_event selector r)
   unfolding standing
   removing = rw (laid_removed x a) record {

@@ -1,4 +1,5 @@
 -- Lists of rules: ascending ids are kept, and removing goes past entering.
+use Rattle.std.specs.Prelude.{Some, None}
 use mathlib.Core.Path.{◌≡◌, ◌∙◌, refl, sym, ap}
 use mathlib.Core.Bool.{Bool, true, false}
 use mathlib.Core.List.{List, [], ◌∷◌}
@@ -8,7 +9,7 @@ use lib.ListN.{length}
 use lib.Dec.{eqb, leb, ltb}
 use borrow.Author.Tests.{eqb-false, eq-eqb, ne_eqb, le-leb, leb-true, lt-ltb, ltb-true, ltb-false}
 use Rattle.ascii.specs.Choice.{pick, and, or}
-use Rattle.index.specs.Standing.{Rule, Number, Nothing, line_of, Distinct, none, more, from, insert, without}
+use Rattle.index.specs.Standing.{Rule, line_of, Distinct, none, more, from, insert, without}
 
 pub and_both : (a b : Bool) → and a b ≡ true → (a ≡ true) × (b ≡ true)
 and_both true b e = (refl, e)
@@ -51,11 +52,11 @@ from_without t n (x ∷ r) f = go (from_head n x r f) (from_without t (suc x.id)
 -- ---- an id that is not there
 
 module _ (id : ℕ) (y : Rule) (r : List Rule) where
-  pub line_other : line_of id (y ∷ r) ≡ Nothing → (y.id ≡ id → ⊥) × (line_of id r ≡ Nothing)
+  pub line_other : line_of id (y ∷ r) ≡ None → (y.id ≡ id → ⊥) × (line_of id r ≡ None)
   unfolding line_of
   line_other e = go (eqb y.id id) refl e
     where
-      go : (b : Bool) → eqb y.id id ≡ b → pick b (Number y.line) (line_of id r) ≡ Nothing → (y.id ≡ id → ⊥) × (line_of id r ≡ Nothing)
+      go : (b : Bool) → eqb y.id id ≡ b → pick b (Some y.line) (line_of id r) ≡ None → (y.id ≡ id → ⊥) × (line_of id r ≡ None)
       go true q m = let z : ◌≡◌ {A = ℕ} 0 1 = cc in absurd (omega arith)
       go false q m = (eqb-false y.id id q, m)
 
@@ -63,7 +64,7 @@ module _ (id : ℕ) (y : Rule) (r : List Rule) where
   unfolding line_of
   line_past n = rw (ne_eqb y.id id n)
 
-pub line_low : (id n : ℕ) (rs : List Rule) → id < n → from n rs ≡ true → line_of id rs ≡ Nothing
+pub line_low : (id n : ℕ) (rs : List Rule) → id < n → from n rs ≡ true → line_of id rs ≡ None
 unfolding line_of
 line_low id n [] h f = refl
 line_low id n (y ∷ r) h f =
@@ -78,12 +79,12 @@ module _ (x : Rule) where
   insert_front [] f = refl
   insert_front (y ∷ r) f = let k = from_head (suc x.id) y r f in rw (lt-ltb x.id y.id (omega arith))
 
-  pub from_insert : (n : ℕ) (rs : List Rule) → n ≤ x.id → line_of x.id rs ≡ Nothing → from n rs ≡ true → from n (insert x rs) ≡ true
+  pub from_insert : (n : ℕ) (rs : List Rule) → n ≤ x.id → line_of x.id rs ≡ None → from n rs ≡ true → from n (insert x rs) ≡ true
   unfolding insert from
   from_insert n [] h m f = from_cons n x [] h refl
   from_insert n (y ∷ r) h m f = go (λ l o. from_insert (suc y.id) r l o (from_tail n y r f)) (ltb x.id y.id) refl
     where
-      go : (suc y.id ≤ x.id → line_of x.id r ≡ Nothing → from (suc y.id) (insert x r) ≡ true) → (b : Bool) → ltb x.id y.id ≡ b → from n (pick b (x ∷ y ∷ r) (y ∷ insert x r)) ≡ true
+      go : (suc y.id ≤ x.id → line_of x.id r ≡ None → from (suc y.id) (insert x r) ≡ true) → (b : Bool) → ltb x.id y.id ≡ b → from n (pick b (x ∷ y ∷ r) (y ∷ insert x r)) ≡ true
       go ih true e =
           let k = ltb-true x.id y.id e in
           from_cons n x (y ∷ r) h (from_cons (suc x.id) y r (omega arith) (from_tail n y r f))
@@ -188,13 +189,13 @@ module _ (x : Rule) where
       go true e g = from_head n x (y ∷ r) g
       go false e g = let k = from_head n y (insert x r) g in let l = ltb-false x.id y.id e in omega arith
 
-  pub insert_new : (n : ℕ) (rs : List Rule) → from n (insert x rs) ≡ true → (from n rs ≡ true) × (line_of x.id rs ≡ Nothing)
+  pub insert_new : (n : ℕ) (rs : List Rule) → from n (insert x rs) ≡ true → (from n rs ≡ true) × (line_of x.id rs ≡ None)
   unfolding insert from line_of
   insert_new n [] f = (refl, refl)
   insert_new n (y ∷ r) f = go (insert_new (suc y.id) r) (ltb x.id y.id) refl f
     where
-      go : (from (suc y.id) (insert x r) ≡ true → (from (suc y.id) r ≡ true) × (line_of x.id r ≡ Nothing)) →
-          (b : Bool) → ltb x.id y.id ≡ b → from n (pick b (x ∷ y ∷ r) (y ∷ insert x r)) ≡ true → (from n (y ∷ r) ≡ true) × (line_of x.id (y ∷ r) ≡ Nothing)
+      go : (from (suc y.id) (insert x r) ≡ true → (from (suc y.id) r ≡ true) × (line_of x.id r ≡ None)) →
+          (b : Bool) → ltb x.id y.id ≡ b → from n (pick b (x ∷ y ∷ r) (y ∷ insert x r)) ≡ true → (from n (y ∷ r) ≡ true) × (line_of x.id (y ∷ r) ≡ None)
       go ih true e g =
           let h = from_head n x (y ∷ r) g in
           let t = from_tail n x (y ∷ r) g in
@@ -207,11 +208,11 @@ module _ (x : Rule) where
           (from_cons n y r h i.0, line_past x.id y r (λ q. omega arith) ∙ i.1)
 
 -- the line of an id, in a list that the rule was entered into
-pub line_inserted : (x : Rule) (rs : List Rule) → line_of x.id rs ≡ Nothing → line_of x.id (insert x rs) ≡ Number x.line
+pub line_inserted : (x : Rule) (rs : List Rule) → line_of x.id rs ≡ None → line_of x.id (insert x rs) ≡ Some x.line
 unfolding insert line_of
 line_inserted x [] m = rw (eq-eqb x.id x.id refl)
 line_inserted x (y ∷ r) m = go (line_inserted x r) (ltb x.id y.id)
   where
-    go : (line_of x.id r ≡ Nothing → line_of x.id (insert x r) ≡ Number x.line) → (b : Bool) → line_of x.id (pick b (x ∷ y ∷ r) (y ∷ insert x r)) ≡ Number x.line
+    go : (line_of x.id r ≡ None → line_of x.id (insert x r) ≡ Some x.line) → (b : Bool) → line_of x.id (pick b (x ∷ y ∷ r) (y ∷ insert x r)) ≡ Some x.line
     go ih true = rw (eq-eqb x.id x.id refl)
     go ih false = let o = line_other x.id y r m in line_past x.id y (insert x r) o.0 ∙ ih o.1

@@ -1,4 +1,5 @@
 -- What follows of the rules that stand after any calls from an index of zeros.
+use Rattle.std.specs.Prelude.{Option, Some, None, Ok, Result}
 use mathlib.Core.Path.{◌≡◌, ◌∙◌, refl, sym, ap, ap₂}
 use mathlib.Core.Bool.{Bool, true, false}
 use mathlib.Core.List.{List, [], ◌∷◌, ◌++◌, append_assoc}
@@ -15,9 +16,9 @@ use Rattle.lent.specs.Table.{Given, given}
 use Rattle.rules.specs.Entries.{entries_of, entries, id_code, first_of}
 use Rattle.rules.specs.Selectors.{matched}
 use Rattle.rules.specs.declared.selecting.RuleIdSelector.{RuleIdSelector}
-use Rattle.index.specs.Standing.{Rule, Found, Number, Nothing, name_of, line_of, Distinct, none, more, from, insert, entered, afresh, without, Verdict, verdict, placing, passes, taken, full, enters}
+use Rattle.index.specs.Standing.{Rule, name_of, line_of, Distinct, none, more, from, insert, entered, afresh, without, Verdict, verdict, placing, passes, taken, full, enters}
 use Rattle.index.specs.Words.{pairs, laid, places_in, sound}
-use Rattle.index.specs.Promises.{Added, Removed, Adds, Removes, added_given, removed_given, added_by, add_answer, add_leaves, remove_answer, remove_leaves}
+use Rattle.index.specs.Promises.{Added, AddError, Removed, Broken, Adds, Removes, added_given, removed_given, added_by, add_answer, add_leaves, remove_answer, remove_leaves}
 use Rattle.index.specs.Histories.{Event, removed_in, standing, accepting, added_told, removed_told}
 use Rattle.index.specs.Runs.{Ran, done, added, took}
 use Rattle.index.proofs.RuleLaws.{from_cons, from_tail, line_past, line_low, line_insert, line_inserted, insert_new, length_insert}
@@ -41,30 +42,30 @@ unfolding entered
 entered_sorted [] rs f = f
 entered_sorted (x ∷ xs) rs f = (insert_new x 0 rs (entered_sorted xs (insert x rs) f)).0
 
-entered_new : (x : Rule) (xs rs : List Rule) → from 0 (entered (x ∷ xs) rs) ≡ true → line_of x.id rs ≡ Nothing
+entered_new : (x : Rule) (xs rs : List Rule) → from 0 (entered (x ∷ xs) rs) ≡ true → line_of x.id rs ≡ None
 unfolding entered
 entered_new x xs rs f = (insert_new x 0 rs (entered_sorted xs (insert x rs) f)).1
 
 -- the line of an id in either of two lists, the first one's first
-abbrev either : Found → Found → Found
-either Nothing b = b
-either (Number l) b = Number l
+abbrev either : Option ℕ → Option ℕ → Option ℕ
+either None b = b
+either (Some l) b = Some l
 
-either_none : (a : Found) → either a Nothing ≡ a
-either_none Nothing = refl
-either_none (Number l) = refl
+either_none : (a : Option ℕ) → either a None ≡ a
+either_none None = refl
+either_none (Some l) = refl
 
 line_entered : (id : ℕ) (xs rs : List Rule) → from 0 (entered xs rs) ≡ true → line_of id (entered xs rs) ≡ either (line_of id rs) (line_of id xs)
 unfolding entered line_of
 line_entered id [] rs f = sym (either_none (line_of id rs))
 line_entered id (x ∷ xs) rs f = line_entered id xs (insert x rs) f ∙ go (eqb x.id id) refl (entered_new x xs rs f)
   where
-    go : (b : Bool) → eqb x.id id ≡ b → line_of x.id rs ≡ Nothing →
-        either (line_of id (insert x rs)) (line_of id xs) ≡ either (line_of id rs) (pick b (Number x.line) (line_of id xs))
+    go : (b : Bool) → eqb x.id id ≡ b → line_of x.id rs ≡ None →
+        either (line_of id (insert x rs)) (line_of id xs) ≡ either (line_of id rs) (pick b (Some x.line) (line_of id xs))
     go true e m =
         let q = eqb-true x.id id e in
-        let a : line_of id (insert x rs) ≡ Number x.line = rw (← q) (line_inserted x rs m) in
-        let b : line_of id rs ≡ Nothing = rw (← q) m in
+        let a : line_of id (insert x rs) ≡ Some x.line = rw (← q) (line_inserted x rs m) in
+        let b : line_of id rs ≡ None = rw (← q) m in
         rw (a, b)
     go false e m = rw (line_insert x id rs (eqb-false x.id id e))
 
@@ -73,11 +74,11 @@ unfolding line_of
 line_afresh id xs f = line_entered id xs [] f
 
 -- an id that was there before is none of theirs
-entered_apart : (id l : ℕ) (xs rs : List Rule) → from 0 (entered xs rs) ≡ true → line_of id rs ≡ Number l → line_of id xs ≡ Nothing
+entered_apart : (id l : ℕ) (xs rs : List Rule) → from 0 (entered xs rs) ≡ true → line_of id rs ≡ Some l → line_of id xs ≡ None
 unfolding entered line_of
 entered_apart id l [] rs f e = refl
 entered_apart id l (x ∷ xs) rs f e =
-    let d : x.id ≡ id → ⊥ = λ q. (let m : line_of id rs ≡ Nothing = rw (← q) (entered_new x xs rs f) in let z : ◌≡◌ {A = ℕ} 0 1 = cc in omega arith) in
+    let d : x.id ≡ id → ⊥ = λ q. (let m : line_of id rs ≡ None = rw (← q) (entered_new x xs rs f) in let z : ◌≡◌ {A = ℕ} 0 1 = cc in omega arith) in
     line_past id x xs d ∙ entered_apart id l xs (insert x rs) f (line_insert x id rs d ∙ e)
 
 entered_distinct : (xs rs : List Rule) → from 0 (entered xs rs) ≡ true → Distinct xs
@@ -110,14 +111,14 @@ length_left t (x ∷ xs) rs = length_left t xs (insert x rs) ∙ ap (λ (k : ℕ
 
 -- ---- lists that ascend and have the same rules are one list
 
-other : {l : ℕ} {a b : Found} → a ≡ Number l → b ≡ Nothing → a ≡ b → ⊥
+other : {l : ℕ} {a b : Option ℕ} → a ≡ Some l → b ≡ None → a ≡ b → ⊥
 other e f q = let z : ◌≡◌ {A = ℕ} 0 1 = cc in omega arith
 
-line_here : (x : Rule) (r : List Rule) → line_of x.id (x ∷ r) ≡ Number x.line
+line_here : (x : Rule) (r : List Rule) → line_of x.id (x ∷ r) ≡ Some x.line
 unfolding line_of
 line_here x r = rw (eq-eqb x.id x.id refl)
 
-line_before : (id n : ℕ) (y : Rule) (r : List Rule) → from n (y ∷ r) ≡ true → id < y.id → line_of id (y ∷ r) ≡ Nothing
+line_before : (id n : ℕ) (y : Rule) (r : List Rule) → from n (y ∷ r) ≡ true → id < y.id → line_of id (y ∷ r) ≡ None
 line_before id n y r f h = line_low id y.id (y ∷ r) h (from_cons y.id y r (omega arith) (from_tail n y r f))
 
 pub same_lists : (m n : ℕ) (xs ys : List Rule) → from m xs ≡ true → from n ys ≡ true → ((id : ℕ) → line_of id xs ≡ line_of id ys) → xs ≡ ys
@@ -143,7 +144,7 @@ same_lists m n (x ∷ xs) (y ∷ ys) f g e =
         let a = ltb-false x.id y.id k in
         let b = ltb-false y.id x.id l in
         let q : x.id ≡ y.id = omega arith in
-        let p : Number x.line ≡ Number y.line = sym (line_here x xs) ∙ e x.id ∙ ap (λ (i : ℕ). line_of i (y ∷ ys)) q ∙ line_here y ys in
+        let p : Some x.line ≡ Some y.line = sym (line_here x xs) ∙ e x.id ∙ ap (λ (i : ℕ). line_of i (y ∷ ys)) q ∙ line_here y ys in
         let r : x.line ≡ y.line = cc in
         let s : x ≡ y = ap₂ (λ (i j : ℕ). record { id = i; line = j }) q r in
         ap₂ (λ (z : Rule) (zs : List Rule). z ∷ zs) s (ih (λ id. tails q id (eqb x.id id) refl))
@@ -171,16 +172,16 @@ module _ {n : ℕ} {s : List ℕ} {h : List Event} (some : 1 ≤ n) (q : Ran (ze
       ∙ ap (laid n) (same_lists 0 0 (afresh (standing h)) (afresh (standing k)) held.sorted g.sorted (λ id. line_afresh id (standing h) held.sorted ∙ e id ∙ sym (line_afresh id (standing k) g.sorted)))
       ∙ sym (index_afresh some w)
 
-  module _ {actions : List ℕ} {line : ℕ} {new : List ℕ} {r : Added} (a : Adds actions line s new r) where
+  module _ {actions : List ℕ} {line : ℕ} {new : List ℕ} {r : Result Added AddError} (a : Adds actions line s new r) where
     row : (v : Verdict) → added_given (added_by (laid n (afresh (standing h))) v) ≡ added_told (places_in n) (length (afresh (standing h))) v
     row passes = rw (laid_count held)
     row (taken l) = refl
     row full = rw (laid_length held)
     row (enters x) = rw (laid_count held)
 
-    judged_so : (f : Found) → verdict (places_in n) (afresh (standing h)) f line ≡ verdict (places_in n) (standing h) f line
-    judged_so Nothing = refl
-    judged_so (Number id) = rw (length_afresh, line_afresh id (standing h) held.sorted)
+    judged_so : (f : Option ℕ) → verdict (places_in n) (afresh (standing h)) f line ≡ verdict (places_in n) (standing h) f line
+    judged_so None = refl
+    judged_so (Some id) = rw (length_afresh, line_afresh id (standing h) held.sorted)
 
     pub told_added : added_given r ≡ added_told (places_in n) (length (standing h)) (verdict (places_in n) (standing h) (name_of (entries actions)) line)
     told_added =
@@ -189,8 +190,8 @@ module _ {n : ℕ} {s : List ℕ} {h : List Event} (some : 1 ≤ n) (q : Ran (ze
         ∙ rw (judged_so (name_of (entries actions)), length_afresh)
 
     -- 17 for a new id exactly if as many rules stand as there are places; 16 exactly if a rule with the id stands, with its line
-    module _ (id : ℕ) (e : name_of (entries actions) ≡ Number id) where
-      pub full_exactly : line_of id (standing h) ≡ Nothing → ((added_given r).number ≡ 17) ↔ (length (standing h) ≡ places_in n)
+    module _ (id : ℕ) (e : name_of (entries actions) ≡ Some id) where
+      pub full_exactly : line_of id (standing h) ≡ None → ((added_given r).number ≡ 17) ↔ (length (standing h) ≡ places_in n)
       full_exactly m = (λ k. there (ltb (length (standing h)) (places_in n)) refl k, back)
         where
           number : {b : Bool} → ltb (length (standing h)) (places_in n) ≡ b → (added_given r).number ≡ (added_told (places_in n) (length (standing h)) (pick b (enters (record { id = id; line = line })) full)).number
@@ -203,16 +204,16 @@ module _ {n : ℕ} {s : List ℕ} {h : List Event} (some : 1 ≤ n) (q : Ran (ze
           back : length (standing h) ≡ places_in n → (added_given r).number ≡ 17
           back j = number (le-ltb (length (standing h)) (places_in n) (omega arith))
 
-      pub taken_exactly : (l : ℕ) → (added_given r ≡ given 16 (l ∷ [])) ↔ (line_of id (standing h) ≡ Number l)
+      pub taken_exactly : (l : ℕ) → (added_given r ≡ given 16 (l ∷ [])) ↔ (line_of id (standing h) ≡ Some l)
       taken_exactly l = (λ k. there (line_of id (standing h)) (ltb (length (standing h)) (places_in n)) refl (sym (rw e at told_added) ∙ k), λ m. rw (e, m) at told_added)
         where
-          there : (f : Found) (b : Bool) → ltb (length (standing h)) (places_in n) ≡ b →
-              added_told (places_in n) (length (standing h)) (placing (places_in n) (length (standing h)) (record { id = id; line = line }) f) ≡ given 16 (l ∷ []) → f ≡ Number l
-          there (Number k) b j g = ap (λ (i : Given). Number (get_or i.values 0 0)) g
-          there Nothing true j g = let k = ap (λ (i : Given). i.number) g in absurd (omega (arith, rw j at k))
-          there Nothing false j g = let k = ap (λ (i : Given). i.number) g in absurd (omega (arith, rw j at k))
+          there : (f : Option ℕ) (b : Bool) → ltb (length (standing h)) (places_in n) ≡ b →
+              added_told (places_in n) (length (standing h)) (placing (places_in n) (length (standing h)) (record { id = id; line = line }) f) ≡ given 16 (l ∷ []) → f ≡ Some l
+          there (Some k) b j g = ap (λ (i : Given). Some (get_or i.values 0 0)) g
+          there None true j g = let k = ap (λ (i : Given). i.number) g in absurd (omega (arith, rw j at k))
+          there None false j g = let k = ap (λ (i : Given). i.number) g in absurd (omega (arith, rw j at k))
 
-  module _ {selector : RuleIdSelector} {new : List ℕ} {r : Removed} (a : Removes selector s new r) where
+  module _ {selector : RuleIdSelector} {new : List ℕ} {r : Result Removed Broken} (a : Removes selector s new r) where
     pub told_removed : removed_given r ≡ removed_told selector (standing h)
     unfolding without
     told_removed =
@@ -225,13 +226,13 @@ module _ {n : ℕ} {s : List ℕ} {h : List Event} (some : 1 ≤ n) (q : Ran (ze
 abbrev id_record : ℕ → List ℕ
 id_record id = id_code ∷ id ∷ 0 ∷ 0 ∷ 0 ∷ 0 ∷ 0 ∷ []
 
-id_named : (id : ℕ) → name_of (entries (id_record id)) ≡ Number id
+id_named : (id : ℕ) → name_of (entries (id_record id)) ≡ Some id
 unfolding first_of entries entries_of room_for
 id_named id = refl
 
 -- a new rule, where there is a place, is added by one call
-add_new : {n : ℕ} {rs : List Rule} (x : Rule) → Holds n rs → line_of x.id rs ≡ Nothing → length rs < places_in n →
-    Adds (id_record x.id) x.line (laid n rs) (laid n (insert x rs)) (Added.Entered (length rs + 1))
+add_new : {n : ℕ} {rs : List Rule} (x : Rule) → Holds n rs → line_of x.id rs ≡ None → length rs < places_in n →
+    Adds (id_record x.id) x.line (laid n rs) (laid n (insert x rs)) (Ok (Added.Entered (length rs + 1)))
 unfolding add_answer add_leaves
 add_new {n} {rs} x k m l =
     let t = lt-ltb (length rs) (places_in n) l in

@@ -5,16 +5,17 @@ use mathlib.Core.List.{List, [], ◌∷◌, ◌++◌, append_assoc}
 use Prim.Native.Nat.{ℕ, suc, ◌+◌, ◌-◌, ◌*◌, ◌≤◌, ◌<◌}
 use native.Mathlib.Omega.{arith}
 use lib.ListN.{length, take, drop, get_or, length-append, length-drop, drop_of_length-le}
-use lib.Seq.{take-add, drop-drop, length-take-le}
+use lib.Seq.{take-add, drop-drop, length-take-le, length-paste, take-paste, drop-paste}
 use lib.Dec.{leb, ltb}
 use borrow.Author.Tests.{ne_eqb, eqb-false, le-leb, leb-false, lt-leb, ltb-true, ltb-false}
 use Rattle.ascii.specs.Choice.{pick, and}
+use Rattle.std.specs.List.{copy_within}
 use Rattle.rules.specs.Selectors.{matched}
 use Rattle.rules.specs.declared.selecting.RuleIdSelector.{RuleIdSelector}
 use Rattle.rules.specs.declared.selecting.RuleIdSelector.TheVariants.{Single, Range}
 use Rattle.index.specs.Standing.{Rule, from, without}
 use Rattle.index.specs.Words.{pairs, rules_of}
-use Rattle.index.specs.Steps.{Sorted, Placed, below, least_of, run, Closable, Closed, Compacted, kept_of}
+use Rattle.index.specs.Steps.{Sorted, Placed, below, least_of, run, Compacted, kept_of}
 use Rattle.index.proofs.RuleLaws.{from_head, from_tail, from_less, from_cons}
 use Rattle.index.proofs.WordLaws.{rule_at_lem, length_rules, pairs_append, pairs_rules, take_rules, drop_rules}
 use Rattle.index.proofs.SeekLaws.{run_most, below_most}
@@ -75,44 +76,39 @@ module _ (selector : RuleIdSelector) where
 
 -- ---- one rule after another that a selector takes
 
-pub record Passing (w : List ℕ) (count place : ℕ) (selector : RuleIdSelector) (at : ℕ) : Type 0 where
-  pub given : Placed count place w
-  pub begun : place ≤ at
-  pub ends : at ≤ count
-  pub rest : place + run (matched selector) (drop place (rules_of count (drop 1 w))) ≡ at + run (matched selector) (drop at (rules_of count (drop 1 w)))
-
-pub pass_begun : {w : List ℕ} {count place : ℕ} (selector : RuleIdSelector) → Placed count place w → Passing w count place selector place
-pass_begun selector x = record { given = x; begun = omega arith; ends = x.inside; rest = refl }
-
-module _ {w : List ℕ} {count place : ℕ} {selector : RuleIdSelector} {at : ℕ} (x : Passing w count place selector at) where
+module _ (w : List ℕ) (count : ℕ) (selector : RuleIdSelector) (at : ℕ) where
   rules : List Rule
   rules = rules_of count (drop 1 w)
 
   module _ (h : at < count) where
-    pub pass_next : matched selector (get_or w (1 + at * 2) 0) ≡ true → Passing w count place selector (at + 1)
+    pub pass_next : matched selector (get_or w (1 + at * 2) 0) ≡ true →
+        at + run (matched selector) (drop at (rules_of count (drop 1 w))) ≡ at + 1 + run (matched selector) (drop (at + 1) (rules_of count (drop 1 w)))
     unfolding run rules
     pass_next m =
         let e : at + 1 ≡ suc at = omega arith in
         let r : run (matched selector) (drop at rules) ≡ suc (run (matched selector) (drop (suc at) rules)) = rw (rule_at_lem w count at h, m) in
-        record { given = x.given; begun = omega (arith, x.begun); ends = omega arith; rest = x.rest ∙ rw (r, e) (omega arith) }
+        rw (r, e) (omega arith)
 
-    pub pass_found : matched selector (get_or w (1 + at * 2) 0) ≡ false → at ≡ place + run (matched selector) (drop place (rules_of count (drop 1 w)))
+    pub pass_found : matched selector (get_or w (1 + at * 2) 0) ≡ false → at + run (matched selector) (drop at (rules_of count (drop 1 w))) ≡ at
     unfolding run rules
     pass_found m =
         let r : run (matched selector) (drop at rules) ≡ 0 = rw (rule_at_lem w count at h, m) in
-        omega (arith, x.rest, r)
+        omega (arith, r)
 
-  pub pass_end : count ≤ at → at ≡ place + run (matched selector) (drop place (rules_of count (drop 1 w)))
+  pub pass_end : count ≤ at → at + run (matched selector) (drop at (rules_of count (drop 1 w))) ≡ at
   unfolding run rules
   pass_end h =
       let d : drop at rules ≡ [] = drop_of_length-le rules {i = at} (let l = length_rules count (drop 1 w) in omega arith) in
       let r : run (matched selector) (drop at rules) ≡ 0 = rw d in
-      omega (arith, x.rest, r)
+      omega (arith, r)
 
 -- ---- the pairs before them and the pairs behind them, moved together
 
 pub low_inside : (old : List ℕ) (count id : ℕ) {low : ℕ} → low ≡ below id (rules_of count (drop 1 old)) → low ≤ count
 low_inside old count id l = let a = below_most id (rules_of count (drop 1 old)) in let b = length_rules count (drop 1 old) in omega (arith, l)
+
+pub low_placed : (old : List ℕ) (count id : ℕ) {low : ℕ} → Sorted count old → low ≡ below id (rules_of count (drop 1 old)) → Placed count low old
+low_placed old count id s l = record { room = s.room; inside = low_inside old count id l }
 
 module _ {old : List ℕ} {count : ℕ} (selector : RuleIdSelector) (s : Sorted count old) {low high : ℕ}
     (l : low ≡ below (least_of selector) (rules_of count (drop 1 old))) (h : high ≡ low + run (matched selector) (drop low (rules_of count (drop 1 old)))) where
@@ -131,9 +127,6 @@ module _ {old : List ℕ} {count : ℕ} (selector : RuleIdSelector) (s : Sorted 
       let a = run_most (matched selector) (drop low rs) in
       let b : length (drop low rs) ≡ count - low = length-drop low rs ∙ rw (length_rules count (drop 1 old)) in
       omega (arith, h, a, b, front_inside)
-
-  pub compact_closable : Closable (1 + low * 2) (1 + high * 2) (1 + count * 2) old
-  compact_closable = record { order = omega (arith, high_behind); ends = omega (arith, high_inside); room = s.room }
 
   kept_parts : kept_of count selector old ≡ take low rs ++ drop high rs
   unfolding rs
@@ -155,14 +148,26 @@ module _ {old : List ℕ} {count : ℕ} (selector : RuleIdSelector) (s : Sorted 
       let q : pairs (rules_of (count - high) (drop (high * 2) v)) ≡ take ((count - high) * 2) (drop (high * 2) v) = pairs_rules (count - high) (drop (high * 2) v) (rw (length-drop, length-drop) (omega (arith, s.room, high_inside))) in
       ap pairs kept_parts ∙ pairs_append (take low rs) (drop high rs) ∙ rw (take_rules low count v front_inside, drop_rules high count v, p, q)
 
-  pub compact_end : {new : List ℕ} → Closed (1 + low * 2) (1 + high * 2) (1 + count * 2) old new → Compacted count selector old new (count - (high - low))
+  pub compact_end : {new : List ℕ} → new ≡ copy_within old (1 + high * 2) (1 + count * 2) (1 + low * 2) → Compacted count selector old new (count - (high - low))
+  unfolding rs
   compact_end {new} x =
-      let a : 1 + count * 2 - (1 + high * 2) ≡ (count - high) * 2 = omega (arith, high_inside) in
+      let n : ℕ = 1 + count * 2 - (1 + high * 2) in
+      let k : ℕ = (high - low) * 2 in
+      let a : n ≡ (count - high) * 2 = omega (arith, high_inside) in
       let b : 1 + low * 2 + (count - high) * 2 ≡ 1 + (count - (high - low)) * 2 = omega (arith, front_inside, high_inside, high_behind) in
+      let c : 1 + low * 2 + n + k ≡ 1 + count * 2 = omega (arith, front_inside, high_inside, high_behind) in
+      let i : 1 + low * 2 ≤ length old = omega (arith, s.room, front_inside) in
+      let j : n ≤ length (drop (1 + high * 2) old) = rw length-drop (omega (arith, s.room)) in
+      let f : take (1 + low * 2 + n) new ≡ take (1 + low * 2) old ++ take n (drop (1 + high * 2) old) = rw x (take-paste old (1 + low * 2) (drop (1 + high * 2) old) n i j) in
+      let d : drop (1 + low * 2 + n) new ≡ drop (1 + low * 2 + n) old = rw x (drop-paste old (1 + low * 2) (drop (1 + high * 2) old) n i j) in
       record {
         number = sym kept_count_lem;
         least = omega arith;
-        long = x.long;
-        front = rw (a, b) at x.front ∙ rw (kept_pairs, take-add 1 (low * 2) old, ← drop-drop (high * 2) 1 old) (append_assoc (take 1 old) (take (low * 2) (drop 1 old)) (take ((count - high) * 2) (drop (high * 2) (drop 1 old))));
-        back = x.back;
+        long = rw x (length-paste old (1 + low * 2) (drop (1 + high * 2) old) n (omega (arith, s.room, front_inside, high_inside, high_behind)) j);
+        front = rw (a, b) at f ∙ rw (kept_pairs, take-add 1 (low * 2) old, ← drop-drop (high * 2) 1 old) (append_assoc (take 1 old) (take (low * 2) (drop 1 old)) (take ((count - high) * 2) (drop (high * 2) (drop 1 old))));
+        back = rw (drop-drop, drop-drop, c) at (ap (drop k) d);
       }
+
+pub ruleset passing = (pass_next, pass_found, pass_end)
+
+pub ruleset bounds = (low_inside, low_placed, high_behind, high_inside)

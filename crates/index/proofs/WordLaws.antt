@@ -1,6 +1,6 @@
 -- The index as words: what is laid out is read back, and what is read is what was laid out.
 use mathlib.Core.Path.{◌≡◌, ◌∙◌, refl, ap}
-use mathlib.Core.Bool.{Bool, true, false}
+use mathlib.Core.Bool.{true, false}
 use mathlib.Core.List.{List, [], ◌∷◌, ◌++◌}
 use Prim.Native.Nat.{ℕ, zero, suc, ◌+◌, ◌-◌, ◌*◌, ◌≤◌, ◌<◌}
 use native.Mathlib.Omega.{arith}
@@ -9,6 +9,7 @@ use lib.ListN.{length, take, drop, get_or, length-drop}
 use lib.Seq.{get_or-drop, drop_at, drop-drop}
 use lib.Dec.{eqb, leb}
 use borrow.Author.Tests.{eqb-true, le-leb, lt-leb, leb-true}
+use Rattle.ascii.proofs.ListLaws.{rest_is}
 use Rattle.lent.specs.Buffers.{zeros}
 use Rattle.lent.proofs.BufferLaws.{padded_length}
 use Rattle.index.specs.Standing.{Rule, from}
@@ -176,9 +177,10 @@ module _ (s : List ℕ) where
       unfolding sound rules_in
       unsound_order h = rw (le-leb 1 (length s) some, le-leb (count_of s) (places_in (length s)) fits, h)
 
-      pub sound_rest : {r : Bool} → from 0 (rules_of (count_of s) (drop 1 s)) ≡ true → r ≡ all_zero (drop (1 + count_of s * 2) s) → r ≡ sound s
+      -- the words beyond, as the part of a slice that they are
+      pub sound_rest : (n : ℕ) → n ≡ count_of s → from 0 (rules_of n (drop 1 s)) ≡ true → sound s ≡ all_zero (take (length s - (1 + n * 2)) (drop (1 + n * 2) s))
       unfolding sound rules_in
-      sound_rest h e = rw (le-leb 1 (length s) some, le-leb (count_of s) (places_in (length s)) fits, h) e
+      sound_rest n e h = rw (le-leb 1 (length s) some, le-leb (count_of s) (places_in (length s)) fits, ← e, h, rest_is s (1 + n * 2))
 
 -- the words of an index
 module _ (s : List ℕ) (e : sound s ≡ true) where
@@ -207,3 +209,5 @@ sound_zeros s e =
     let n : 1 + count_of s * 2 + 2 ≡ 3 + count_of s * 2 = omega arith in
     let a : all_zero (drop (1 + count_of s * 2 + 2) s) ≡ true = rw (← drop-drop 2 (1 + count_of s * 2) s) (all_drop 2 (drop (1 + count_of s * 2) s) (sound_is s e).beyond) in
     are_zeros (drop (3 + count_of s * 2) s) (rw n at a) ∙ ap zeros (length-drop (3 + count_of s * 2) s)
+
+pub ruleset checks = (places_room, unsound_empty, unsound_count, unsound_order, sound_rest)

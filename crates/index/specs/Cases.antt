@@ -1,11 +1,11 @@
 -- Worked cases, the edges of document 02 first: the answer's number and values, and the words afterwards.
-use Rattle.std.specs.Prelude.{◌≡◌, refl, ℕ, List, [], ◌∷◌}
+use Rattle.std.specs.Prelude.{◌≡◌, refl, ℕ, List, [], ◌∷◌, Some, None}
 use Rattle.lent.specs.Table.{Given, given}
 use Rattle.lent.specs.Sizes.{room_for}
 use Rattle.rules.specs.Entries.{entries_of, entries, first_of}
 use Rattle.rules.specs.declared.selecting.RuleIdSelector.{RuleIdSelector}
 use Rattle.rules.specs.declared.selecting.RuleIdSelector.TheVariants.{Single, Range}
-use Rattle.index.specs.Standing.{Rule, Number, Nothing, from, line_of, insert, entered, afresh, without}
+use Rattle.index.specs.Standing.{Rule, from, line_of, insert, entered, afresh, without}
 use Rattle.index.specs.Histories.{Event, accepted, removed, refused, removed_in, standing}
 use Rattle.index.specs.Words.{pairs, laid, places_in, rules_of, rules_in, all_zero, sound}
 use Rattle.index.specs.Promises.{added_given, removed_given, add_answer, add_leaves, remove_answer, remove_leaves}
@@ -182,7 +182,7 @@ Stand h rs placed = (standing h ≡ rs) × (afresh rs ≡ placed)
 
 -- rules 5, 9 and one without an id; 9 removed, and there again on another line; 5 once more, refused; 3 the last
 pub again : Stand
-    (accepted (Number 5) 1 ∷ accepted (Number 9) 2 ∷ accepted Nothing 3 ∷ removed (Single 9) ∷ accepted (Number 9) 4 ∷ refused ∷ accepted (Number 3) 6 ∷ [])
+    (accepted (Some 5) 1 ∷ accepted (Some 9) 2 ∷ accepted None 3 ∷ removed (Single 9) ∷ accepted (Some 9) 4 ∷ refused ∷ accepted (Some 3) 6 ∷ [])
     (record { id = 5; line = 1 } ∷ record { id = 9; line = 4 } ∷ record { id = 3; line = 6 } ∷ [])
     (record { id = 3; line = 6 } ∷ record { id = 5; line = 1 } ∷ record { id = 9; line = 4 } ∷ [])
 unfolding Stand
@@ -190,7 +190,7 @@ again = (refl, refl)
 
 -- a range takes both its ends, and nothing that comes later
 pub since : Stand
-    (accepted (Number 18446744073709551615) 1 ∷ accepted (Number 0) 2 ∷ removed (Range 0 18446744073709551615) ∷ accepted (Number 0) 3 ∷ [])
+    (accepted (Some 18446744073709551615) 1 ∷ accepted (Some 0) 2 ∷ removed (Range 0 18446744073709551615) ∷ accepted (Some 0) 3 ∷ [])
     (record { id = 0; line = 3 } ∷ [])
     (record { id = 0; line = 3 } ∷ [])
 unfolding Stand

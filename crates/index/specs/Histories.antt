@@ -1,14 +1,14 @@
 -- Which rules stand after a history, and what is answered then. Nothing here knows of slices.
-use Rattle.std.specs.Prelude.{ℕ, ◌+◌, ◌-◌, Bool, false, List, [], ◌∷◌, length}
+use Rattle.std.specs.Prelude.{ℕ, ◌+◌, ◌-◌, Bool, false, List, [], ◌∷◌, length, Option, Some, None}
 use Rattle.ascii.specs.Choice.{pick, or}
 use Rattle.lent.specs.Table.{Given, given}
 use Rattle.rules.specs.Selectors.{matched}
 use Rattle.rules.specs.declared.selecting.RuleIdSelector.{RuleIdSelector}
-use Rattle.index.specs.Standing.{Rule, Found, Number, Nothing, without, Verdict, passes, taken, full, enters}
+use Rattle.index.specs.Standing.{Rule, without, Verdict, passes, taken, full, enters}
 
 -- What a call did: a rule was accepted, by its id if it has one and with its line; rules were removed; or the call was refused.
 pub data Event : Type 0 where
-  accepted : Found → ℕ → Event
+  accepted : Option ℕ → ℕ → Event
   removed : RuleIdSelector → Event
   refused : Event
 
@@ -20,9 +20,9 @@ removed_in (removed selector ∷ h) id = or (matched selector id) (removed_in h 
 removed_in (refused ∷ h) id = removed_in h id
 
 -- a rule that was accepted stands if it has an id and nothing later removes it
-abbrev pub stays : Found → ℕ → (ℕ → Bool) → List Rule → List Rule
-stays Nothing line gone rs = rs
-stays (Number id) line gone rs = pick (gone id) rs (record { id = id; line = line } ∷ rs)
+abbrev pub stays : Option ℕ → ℕ → (ℕ → Bool) → List Rule → List Rule
+stays None line gone rs = rs
+stays (Some id) line gone rs = pick (gone id) rs (record { id = id; line = line } ∷ rs)
 
 -- The rules that stand after a history: accepted with an id, and not since removed.
 unfoldable pub standing : List Event → List Rule
@@ -44,4 +44,4 @@ removed_told selector rs = given 0 ((length rs - length (without (matched select
 -- each of these rules accepted, and nothing else
 unfoldable pub accepting : List Rule → List Event
 accepting [] = []
-accepting (x ∷ xs) = accepted (Number x.id) x.line ∷ accepting xs
+accepting (x ∷ xs) = accepted (Some x.id) x.line ∷ accepting xs

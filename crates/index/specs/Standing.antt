@@ -1,27 +1,25 @@
 -- Rules that stand, each by its id and its directive's line: adding one, and removing some. Nothing here knows of slices.
-use Rattle.std.specs.Prelude.{ℕ, suc, ◌≡◌, Bool, true, List, [], ◌∷◌, length, eqb, leb, ltb}
+use Rattle.std.specs.Prelude.{ℕ, suc, ◌≡◌, Bool, true, List, [], ◌∷◌, length, eqb, leb, ltb, Option, Some, None}
 use Rattle.ascii.specs.Choice.{pick, and}
 use Rattle.rules.specs.Entries.{Entry, id_code, first_of}
-pub use Rattle.rules.specs.declared.finding.Found.{Found}
-pub use Rattle.rules.specs.declared.finding.Found.TheVariants.{Number, Nothing}
 
 pub record Rule : Type 0 where
   pub id : ℕ
   pub line : ℕ
 
 -- what a rule goes by: its first id, if it has one
-abbrev pub name_of : List Entry → Found
+abbrev pub name_of : List Entry → Option ℕ
 name_of es = first_of id_code es
 
 -- the line of the rule that has an id
-unfoldable pub line_of : ℕ → List Rule → Found
-line_of id [] = Nothing
-line_of id (x ∷ r) = pick (eqb x.id id) (Number x.line) (line_of id r)
+unfoldable pub line_of : ℕ → List Rule → Option ℕ
+line_of id [] = None
+line_of id (x ∷ r) = pick (eqb x.id id) (Some x.line) (line_of id r)
 
 -- No two rules have one id.
 pub data Distinct : List Rule → Type 0 where
   none : Distinct []
-  more : {x : Rule} {r : List Rule} → line_of x.id r ≡ Nothing → Distinct r → Distinct (x ∷ r)
+  more : {x : Rule} {r : List Rule} → line_of x.id r ≡ None → Distinct r → Distinct (x ∷ r)
 
 -- ids strictly ascending, the first no less than `least`
 unfoldable pub from : ℕ → List Rule → Bool
@@ -54,10 +52,10 @@ pub data Verdict : Type 0 where
   full : Verdict
   enters : Rule → Verdict
 
-abbrev pub placing : ℕ → ℕ → Rule → Found → Verdict
-placing places count x (Number l) = taken l
-placing places count x Nothing = pick (ltb count places) (enters x) full
+abbrev pub placing : ℕ → ℕ → Rule → Option ℕ → Verdict
+placing places count x (Some l) = taken l
+placing places count x None = pick (ltb count places) (enters x) full
 
-abbrev pub verdict : ℕ → List Rule → Found → ℕ → Verdict
-verdict places rs Nothing line = passes
-verdict places rs (Number id) line = placing places (length rs) (record { id = id; line = line }) (line_of id rs)
+abbrev pub verdict : ℕ → List Rule → Option ℕ → ℕ → Verdict
+verdict places rs None line = passes
+verdict places rs (Some id) line = placing places (length rs) (record { id = id; line = line }) (line_of id rs)

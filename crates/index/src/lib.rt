@@ -9,5 +9,5 @@ mod checking;
 mod removing;
 mod seeking;
 
-pub use adding::{Added, add};
-pub use removing::{Removed, remove};
+pub use adding::{AddError, Added, add};
+pub use removing::{Broken, Removed, remove};

@@ -6,44 +6,26 @@ ghost use Rattle.index.specs.Steps.{Sorted, Placed, below, seen, least_of, run};
 
 use rules::RuleIdSelector;
 
-#[derive(Clone, Copy)]
-pub enum Sought {
-    // The line of the rule that has it.
-    OnLine(u64),
-    // How many rules have smaller ids.
-    Missing(usize),
-}
-
-// How many of so many rules have ids smaller than this: those before the place that halving finds.
+// How many of so many rules have ids smaller than this.
 pub fn smaller(words: &[u64], count: usize, id: u64) -> usize
     requires { Sorted count words.now }
     ensures { result ≡ below id (rules_of count (drop 1 words.now)) }
 {
-    let mut low = 0;
-    let mut high = count;
-    while low < high {
-        let middle = low + (high - low) / 2;
-        if words[1 + middle * 2] < id {
-            low = middle + 1;
-        } else {
-            high = middle;
-        }
-    }
-    low
+    let (rules, _) = words[1..].as_chunks::<2>();
+    rules[..count].partition_point(|rule| rule[0] < id)
 }
 
-pub fn seek(words: &[u64], count: usize, id: u64) -> Sought
+// The line of the rule that has the id, or the place that the id would have.
+#[tactic(auto, using(crate::proofs::SeekLaws::sought))]
+pub fn seek(words: &[u64], count: usize, id: u64) -> Result<u64, usize>
     requires { Sorted count words.now }
     ensures { result ≡ seen id (rules_of count (drop 1 words.now)) }
 {
     let place = smaller(words, count, id);
-    if place < count {
-        let at = 1 + place * 2;
-        if words[at] == id {
-            return Sought::OnLine(words[at + 1]);
-        }
+    if place < count && words[1 + place * 2] == id {
+        return Ok(words[2 + place * 2]);
     }
-    Sought::Missing(place)
+    Err(place)
 }
 
 // The smallest id that a selector may take.
@@ -57,16 +39,15 @@ pub fn least(selector: RuleIdSelector) -> u64
 }
 
 // The place behind the rules that a selector takes one after another from a place on.
+#[tactic(auto, using(crate::proofs::TakenLaws::passing))]
 pub fn past_taken(words: &[u64], count: usize, place: usize, selector: RuleIdSelector) -> usize
     requires { Placed count place words.now }
     ensures { result ≡ place + run (matched selector) (drop place (rules_of count (drop 1 words.now))) }
 {
-    let mut at = place;
-    while at < count {
+    for at in place..count {
         if !selector.matches(words[1 + at * 2]) {
             return at;
         }
-        at += 1;
     }
-    at
+    count
 }

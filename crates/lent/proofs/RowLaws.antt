@@ -1,5 +1,8 @@
 -- Each number exactly when, for every reader: rows of a number and the fact that it stands for.
 -- The idea: one of the facts holds, each fact gives its number, and the numbers differ by one computed test.
+use Rattle.lent.specs.declared.gating.GateError.TheVariants.{TooLong, Short, NotAscii}
+use Rattle.lent.specs.declared.gating.GateError.{GateError}
+use Rattle.std.specs.Prelude.{Result, Ok, Err}
 use mathlib.Core.Path.{◌≡◌, ◌∙◌, refl, sym, ap}
 use mathlib.Core.Bool.{Bool, true, false}
 use mathlib.Core.List.{List, [], ◌∷◌}
@@ -14,8 +17,6 @@ use Rattle.ascii.proofs.SameLaws.{and_left, and_right}
 use Rattle.lent.specs.Sizes.{limit}
 use Rattle.lent.specs.Gates.{gate_of}
 use Rattle.lent.specs.Table.{Outcome, past_gate}
-use Rattle.lent.specs.declared.gating.Gate.{Gate}
-use Rattle.lent.specs.declared.gating.Gate.TheVariants.{Open, TooLong, NotAscii, Short}
 use Rattle.lent.specs.Admission.{FirstAt, Opened, Shortened}
 use Rattle.lent.proofs.GateLaws.{gate_row}
 use Rattle.lent.proofs.GateLaws as Gates
@@ -110,21 +111,21 @@ module _ (s : List ℕ) (lent asked : ℕ) where
     abbrev whole : ℕ
     whole = number_of (past_gate (gate_of s lent asked) o)
 
-    by_gate : (g : Gate) → Gates.Row s lent asked g → whole ≡ number_of (past_gate g o)
+    by_gate : (g : Result Unit GateError) → Gates.Row s lent asked g → whole ≡ number_of (past_gate g o)
     by_gate g h = ap number_of (past_row s lent asked o g h)
 
     numbered : (rs : List Row) → Numbered (number_of o) rs → Numbered whole (behind rs)
     unfolding Numbered behind
     numbered [] g = tt
-    numbered (r ∷ rs) g = (λ p. by_gate Open p.0 ∙ g.0 p.1, numbered rs g.1)
+    numbered (r ∷ rs) g = (λ p. by_gate (Ok tt) p.0 ∙ g.0 p.1, numbered rs g.1)
 
     -- every number of a call, by the facts of what stands past its gate
     pub exactly_gated : (rs : List Row) → differ (gated rs) ≡ true → OneOf rs → Numbered (number_of o) rs → Exactly (number_of (past_gate (gate_of s lent asked) o)) (gated rs)
     unfolding OneOf Numbered
-    exactly_gated rs d one g = exactly whole (gated rs) d (go (gate_of s lent asked) (gate_row s lent asked)) (by_gate TooLong, (λ k. by_gate (NotAscii k.1.0) (k.0, k.1.1), (by_gate Short, numbered rs g)))
+    exactly_gated rs d one g = exactly whole (gated rs) d (go (gate_of s lent asked) (gate_row s lent asked)) (by_gate (Err TooLong), (λ k. by_gate (Err (NotAscii k.1.0)) (k.0, k.1.1), (by_gate (Err Short), numbered rs g)))
       where
-        go : (g : Gate) → Gates.Row s lent asked g → OneOf (gated rs)
-        go TooLong h = inl h
-        go (NotAscii p) h = inr (inl (h.0, (p, h.1)))
-        go Short h = inr (inr (inl h))
-        go Open h = inr (inr (inr (opened h rs one)))
+        go : (g : Result Unit GateError) → Gates.Row s lent asked g → OneOf (gated rs)
+        go (Err TooLong) h = inl h
+        go (Err (NotAscii p)) h = inr (inl (h.0, (p, h.1)))
+        go (Err Short) h = inr (inr (inl h))
+        go (Ok tt) h = inr (inr (inr (opened h rs one)))

@@ -4,9 +4,9 @@ ghost use Rattle.lent.specs.Gates.{first_high, highest, gate_of};
 
 use crate::LIMIT;
 
-#[derive(Clone, Copy)]
-pub enum Gate {
-    Open,
+// Why reading may not begin.
+#[derive(Clone, Copy, Debug, PartialEq, Eq)]
+pub enum GateError {
     // 1: the input is over the limit.
     TooLong,
     // 2: the place of the first byte that is 128 or more.
@@ -19,14 +19,9 @@ pub enum Gate {
 fn highest_byte(s: &[u8]) -> u8
     ensures { result ≡ highest s.now }
 {
-    let mut top = 0;
-    let mut i = 0;
-    while i < s.len() {
-        let b = s[i];
-        if top < b {
-            top = b;
-        }
-        i += 1;
+    let mut top = 0u8;
+    for b in s {
+        top = top.max(*b);
     }
     top
 }
@@ -35,28 +30,26 @@ fn highest_byte(s: &[u8]) -> u8
 pub fn first_high(s: &[u8]) -> usize
     ensures { result ≡ first_high s.now }
 {
-    let mut i = 0;
-    while i < s.len() {
-        if 128 <= s[i] {
+    for (i, b) in s.iter().enumerate() {
+        if !b.is_ascii() {
             return i;
         }
-        i += 1;
     }
-    i
+    s.len()
 }
 
 // Whether reading may begin: `lent` is the length of the shortest buffer lent, `asked` what it must have.
-pub fn admit(input: &[u8], lent: usize, asked: usize) -> Gate
+pub fn admit(input: &[u8], lent: usize, asked: usize) -> Result<(), GateError>
     ensures { result ≡ gate_of input.now lent asked }
 {
     if LIMIT < input.len() {
-        return Gate::TooLong;
+        return Err(GateError::TooLong);
     }
-    if 128 <= highest_byte(input) {
-        return Gate::NotAscii(first_high(input));
+    if !highest_byte(input).is_ascii() {
+        return Err(GateError::NotAscii(first_high(input)));
     }
     if lent < asked {
-        return Gate::Short;
+        return Err(GateError::Short);
     }
-    Gate::Open
+    Ok(())
 }

@@ -9,10 +9,10 @@ mod packing;
 mod refusing;
 
 pub use ending::{finish, refuse_piece, starts};
-pub use filling::{clear_bytes, clear_words, store_bytes, store_words};
-pub use gating::{Gate, admit, first_high};
+pub use filling::store;
+pub use gating::{GateError, admit, first_high};
 pub use packing::{room, span, span_length, span_offset};
-pub use refusing::{Flaw, flaw_number};
+pub use refusing::Flaw;
 
 // The longest input, in bytes.
 pub const LIMIT: usize = 1048576;

@@ -2,7 +2,7 @@
 ghost use Rattle.std.specs.Prelude.{◌≡◌};
 ghost use Rattle.lent.specs.Table.{flaw_number};
 
-#[derive(Clone, Copy)]
+#[derive(Clone, Copy, Debug, PartialEq, Eq)]
 pub enum Flaw {
     // 10: there is none
     Absent,
@@ -12,12 +12,14 @@ pub enum Flaw {
     TooLarge,
 }
 
-pub fn flaw_number(flaw: Flaw) -> u64
-    ensures { result ≡ flaw_number flaw }
-{
-    match flaw {
-        Flaw::Absent => 10,
-        Flaw::Unreadable => 11,
-        Flaw::TooLarge => 12,
+impl From<Flaw> for u64 {
+    ghost from_gives = { λ flaw number. number ≡ flaw_number flaw };
+
+    fn from(flaw: Flaw) -> u64 {
+        match flaw {
+            Flaw::Absent => 10,
+            Flaw::Unreadable => 11,
+            Flaw::TooLarge => 12,
+        }
     }
 }

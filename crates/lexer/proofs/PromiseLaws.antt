@@ -1,5 +1,8 @@
 -- What step_in and next_token promise, in plain words: every number exactly when it is given, and what is given and written with it.
 -- The idea: lent's OutcomeLaws has numbers 1 to 3, and the check of the cursor tells the others apart.
+use Rattle.lent.specs.declared.gating.GateError.TheVariants.{TooLong, Short, NotAscii}
+use Rattle.lent.specs.declared.gating.GateError.{GateError}
+use Rattle.std.specs.Prelude.{Result, Ok, Err}
 use mathlib.Core.Path.{◌≡◌, ◌∙◌, refl, ap}
 use mathlib.Core.Bool.{Bool, true, false}
 use mathlib.Core.List.{List, [], ◌∷◌, ◌++◌}
@@ -13,8 +16,6 @@ use Rattle.ascii.specs.Choice.{pick}
 use Rattle.lent.specs.Sizes.{limit, cursor_most}
 use Rattle.lent.specs.Gates.{gate_of}
 use Rattle.lent.specs.Table.{Given, given, too_long, short_buffer, bad_cursor, Outcome, refuses, reads, past_gate}
-use Rattle.lent.specs.declared.gating.Gate.{Gate}
-use Rattle.lent.specs.declared.gating.Gate.TheVariants.{Open, TooLong, NotAscii, Short}
 use Rattle.lent.specs.Admission.{FirstAt, Opened, Shortened}
 use Rattle.lent.proofs.GateLaws as Gates
 use Rattle.lent.proofs.RowLaws.{Row, row, OneOf, Numbered, Exactly, absent, differ, exactly}
@@ -24,7 +25,8 @@ use Rattle.lexer.specs.Tokens.{next}
 use Rattle.lexer.specs.Tokens as T
 use Rattle.lexer.specs.Promises.{counted, cursor_refused, step_given, step_values, step_text, step_outcome, next_outcome, next_given_by, next_text_by, StepIn, NextToken}
 use Rattle.lexer.specs.Calls.{Counted, Uncounted, nought, above, Fit, Astray, far, off_line, off_column}
-use Rattle.lexer.specs.declared.stepping.Step.{Step}
+use Rattle.lexer.specs.declared.stepping.Found.{Found}
+use Rattle.lexer.specs.declared.stepping.StepError.{StepError}
 use Rattle.lexer.proofs.TestLaws.{either, told_is}
 use Rattle.lexer.proofs.GivenLaws.{step_told}
 
@@ -77,7 +79,7 @@ next_number : (o : Outcome T.Step) → (next_given_by o).number ≡ number_of o
 next_number (refuses f) = refl
 next_number (reads x) = refl
 
-module _ {s : List ℕ} {c : Cursor} {old new : List ℕ} {r : Step} (x : StepIn s c old new r) where
+module _ {s : List ℕ} {c : Cursor} {old new : List ℕ} {r : Result Found StepError} (x : StepIn s c old new r) where
   -- the text is within the limit, the cursor fits it, and so much of it is left as P says
   abbrev Left : (ℕ → Type 0) → Type 0
   Left P = (length s ≤ limit) × Fit s c × P (length s - c.place)
@@ -136,7 +138,7 @@ module _ {s : List ℕ} {c : Cursor} {old new : List ℕ} {r : Step} (x : StepIn
 abbrev next_past : List ℕ → Cursor → Outcome T.Step
 next_past s c = pick (cursor_refused s c) (refuses bad_cursor) (reads (next (drop c.place s) c))
 
-module _ {s : List ℕ} {c : Cursor} {old new : List ℕ} {r : Step} (x : NextToken s c old new r) where
+module _ {s : List ℕ} {c : Cursor} {old new : List ℕ} {r : Result Found StepError} (x : NextToken s c old new r) where
   number_is : (step_given r).number ≡ number_of (past_gate (gate_of s (length old) (length s)) (next_past s c))
   unfolding next_outcome
   number_is = ap (λ (g : Given). g.number) x.answer ∙ next_number (next_outcome s c (length old))
@@ -165,7 +167,7 @@ module _ {s : List ℕ} {c : Cursor} {old new : List ℕ} {r : Step} (x : NextTo
   next_token_0 = rw number_is (number_read bad_cursor (next (drop c.place s) c) (omega arith) s (length old) (length s) (cursor_refused s c) (cursor_is s c false))
 
   -- what is given back and written, by the gate's answer
-  by_gate : (g : Gate) → Gates.Row s (length old) (length s) g
+  by_gate : (g : Result Unit GateError) → Gates.Row s (length old) (length s) g
       → (step_given r ≡ next_given_by (past_gate g (next_past s c))) × (new ≡ next_text_by (past_gate g (next_past s c)) old)
   unfolding next_outcome
   by_gate g h =
@@ -173,19 +175,19 @@ module _ {s : List ℕ} {c : Cursor} {old new : List ℕ} {r : Step} (x : NextTo
       (x.answer ∙ ap next_given_by e, x.text ∙ ap (λ (o : Outcome T.Step). next_text_by o old) e)
 
   -- Each refusal in full: the answer, for number 2 with the first such byte's place, and a buffer that is untouched.
-  pub next_token_long : limit < length s → (r ≡ Step.TooLong) × (new ≡ old)
-  next_token_long h = (step_told r Step.TooLong (by_gate TooLong h).0, (by_gate TooLong h).1)
+  pub next_token_long : limit < length s → (r ≡ Err (StepError.Gate TooLong)) × (new ≡ old)
+  next_token_long h = (step_told r (Err (StepError.Gate TooLong)) (by_gate (Err TooLong) h).0, (by_gate (Err TooLong) h).1)
 
-  pub next_token_high : (p : ℕ) → (length s ≤ limit) × FirstAt s p → (r ≡ Step.NotAscii p) × (new ≡ old)
-  next_token_high p h = (step_told r (Step.NotAscii p) (by_gate (NotAscii p) h).0, (by_gate (NotAscii p) h).1)
+  pub next_token_high : (p : ℕ) → (length s ≤ limit) × FirstAt s p → (r ≡ Err (StepError.Gate (NotAscii p))) × (new ≡ old)
+  next_token_high p h = (step_told r (Err (StepError.Gate (NotAscii p))) (by_gate (Err (NotAscii p)) h).0, (by_gate (Err (NotAscii p)) h).1)
 
-  pub next_token_short : Shortened s (length old) (length s) → (r ≡ Step.Short) × (new ≡ old)
-  next_token_short h = (step_told r Step.Short (by_gate Short h).0, (by_gate Short h).1)
+  pub next_token_short : Shortened s (length old) (length s) → (r ≡ Err (StepError.Gate Short)) × (new ≡ old)
+  next_token_short h = (step_told r (Err (StepError.Gate Short)) (by_gate (Err Short) h).0, (by_gate (Err Short) h).1)
 
-  pub next_token_astray : Opened s (length old) (length s) → Astray s c → (r ≡ Step.BadCursor) × (new ≡ old)
+  pub next_token_astray : Opened s (length old) (length s) → Astray s c → (r ≡ Err StepError.BadCursor) × (new ≡ old)
   next_token_astray o a =
       let e : next_past s c ≡ refuses bad_cursor = rw ((cursor_is s c true).1 a) in
-      (step_told r Step.BadCursor ((by_gate Open o).0 ∙ ap next_given_by e), (by_gate Open o).1 ∙ ap (λ (o : Outcome T.Step). next_text_by o old) e)
+      (step_told r (Err StepError.BadCursor) ((by_gate (Ok tt) o).0 ∙ ap next_given_by e), (by_gate (Ok tt) o).1 ∙ ap (λ (o : Outcome T.Step). next_text_by o old) e)
 
   -- Else the step at the cursor, whose text stands at the buffer's front, with nothing beyond touched.
   pub next_token_reads : Opened s (length old) (length s) → Fit s c
@@ -193,4 +195,4 @@ module _ {s : List ℕ} {c : Cursor} {old new : List ℕ} {r : Step} (x : NextTo
       × (new ≡ step_text (next (drop c.place s) c) ++ drop (length (step_text (next (drop c.place s) c))) old)
   next_token_reads o f =
       let e : next_past s c ≡ reads (next (drop c.place s) c) = rw ((cursor_is s c false).1 f) in
-      ((by_gate Open o).0 ∙ ap next_given_by e, (by_gate Open o).1 ∙ ap (λ (o : Outcome T.Step). next_text_by o old) e)
+      ((by_gate (Ok tt) o).0 ∙ ap next_given_by e, (by_gate (Ok tt) o).1 ∙ ap (λ (o : Outcome T.Step). next_text_by o old) e)

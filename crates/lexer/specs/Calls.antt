@@ -1,5 +1,5 @@
 -- What a call is given, in plain words, and what is read back from what it leaves.
-use Rattle.std.specs.Prelude.{◌≡◌, ℕ, ◌+◌, ◌*◌, ◌≤◌, ◌<◌, false, List, ◌++◌, map, length, take, get_or}
+use Rattle.std.specs.Prelude.{◌≡◌, ℕ, ◌+◌, ◌*◌, ◌≤◌, ◌<◌, false, List, ◌++◌, map, length, take, get_or, Result, Ok, Err}
 use Rattle.lent.specs.Sizes.{limit, cursor_most, token_words}
 use Rattle.lexer.specs.Cursors.{Cursor, cursor, fresh, moves}
 use Rattle.lexer.specs.Tokens.{Token, Reading, reading}
@@ -8,7 +8,8 @@ use Rattle.lexer.specs.Parts.{raise, raised, puts, line_in, rest_in, bare}
 use Rattle.lexer.specs.Layout.{texts}
 use Rattle.lexer.specs.Promises.{Tokens}
 use Rattle.lexer.specs.Decoding.{decoded}
-use Rattle.lexer.specs.declared.writing.Answer.{Answer}
+use Rattle.lexer.specs.declared.writing.Read.{Read}
+use Rattle.lexer.specs.declared.writing.TokensError.{TokensError}
 
 -- A line or a column that a cursor may have.
 pub record Counted (n : ℕ) : Type 0 where
@@ -58,29 +59,23 @@ pub record Called (s : List ℕ) : Type 0 where
   pub buffer' : List ℕ
   pub words : List ℕ
   pub words' : List ℕ
-  pub answer : Answer
+  pub answer : Result Read TokensError
   pub roomy : Roomy s buffer words
   pub promise : Tokens s buffer buffer' words words' answer
 
 -- The answer for a reading: the count of records, the length of the texts, and the stop's place, line and column.
-abbrev pub read_answer : Reading → Answer
-read_answer x = Answer.Read (length x.tokens) (length (texts x.tokens)) x.stop.place x.stop.line x.stop.column
+abbrev pub read_answer : Reading → Result Read TokensError
+read_answer x = Ok (record { count = length x.tokens; text = length (texts x.tokens); place = x.stop.place; line = x.stop.line; column = x.stop.column })
 
 -- How many records an answer says there are.
-abbrev pub count_of : Answer → ℕ
-count_of (Answer.Read count used place line column) = count
-count_of Answer.TooLong = 0
-count_of (Answer.NotAscii place) = 0
-count_of Answer.Short = 0
-count_of (Answer.NoRoom needed) = 0
+abbrev pub count_of : Result Read TokensError → ℕ
+count_of (Ok r) = r.count
+count_of (Err e) = 0
 
 -- Where an answer says that reading stopped; it does not tell the mark.
-abbrev pub stop_of : Answer → Cursor
-stop_of (Answer.Read count used place line column) = record { place = place; line = line; column = column; mark = false }
-stop_of Answer.TooLong = cursor 0 0 0 false
-stop_of (Answer.NotAscii place) = cursor 0 0 0 false
-stop_of Answer.Short = cursor 0 0 0 false
-stop_of (Answer.NoRoom needed) = cursor 0 0 0 false
+abbrev pub stop_of : Result Read TokensError → Cursor
+stop_of (Ok r) = record { place = r.place; line = r.line; column = r.column; mark = false }
+stop_of (Err e) = cursor 0 0 0 false
 
 -- The tokens that are read back from what a call left.
 abbrev pub tokens_in : {s : List ℕ} → Called s → List Token

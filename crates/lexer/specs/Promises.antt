@@ -1,21 +1,23 @@
 -- What the public calls promise, by document 01's table: the answer, and every byte of lent memory, on every path.
-use Rattle.std.specs.Prelude.{◌≡◌, ℕ, ◌-◌, Bool, true, false, List, [], ◌∷◌, ◌++◌, length, drop, ltb, leb, eqb}
+use Rattle.lent.specs.declared.gating.GateError.TheVariants.{TooLong, Short, NotAscii}
+use Rattle.lent.specs.declared.gating.GateError.{GateError}
+use Rattle.std.specs.Prelude.{◌≡◌, ℕ, ◌-◌, Bool, true, false, List, [], ◌∷◌, ◌++◌, length, drop, ltb, leb, eqb, Result, Ok, Err}
 use Rattle.ascii.specs.Choice.{pick, and, bit}
 use Rattle.lent.specs.Sizes.{limit, cursor_most, token_words, room_for, span_word}
 use Rattle.lent.specs.Gates.{gate_of}
-use Rattle.lent.specs.declared.gating.Gate.{Gate}
 use Rattle.lent.specs.Buffers.{stored}
 use Rattle.lent.specs.Endings.{overfull, Finished}
-use Rattle.lent.specs.Table.{Given, given, too_long, not_ascii, short_buffer, no_room, bad_cursor, refused, refused_text, Outcome, refuses, reads, past_gate, Filled, given_by, text_by, records_by}
+use Rattle.lent.specs.Table.{Given, given, Refusal, too_long, not_ascii, short_buffer, no_room, bad_cursor, refused, refused_text, Outcome, refuses, reads, past_gate, Filled, given_by, text_by, records_by}
 use Rattle.lexer.specs.Cursors.{Cursor}
 use Rattle.lexer.specs.Tokens.{Token, Reading, next, reading, nothing, token}
 use Rattle.lexer.specs.Tokens as T
 use Rattle.lexer.specs.Layout.{kind_code, words_from, texts}
 use Rattle.lexer.specs.declared.stepping.Lexeme.{Lexeme}
-use Rattle.lexer.specs.declared.stepping.Step.{Step}
-use Rattle.lexer.specs.declared.writing.Passed.{Passed}
+use Rattle.lexer.specs.declared.stepping.Found.{Found}
+use Rattle.lexer.specs.declared.stepping.StepError.{StepError}
 use Rattle.lexer.specs.declared.writing.Tally.{Tally}
-use Rattle.lexer.specs.declared.writing.Answer.{Answer}
+use Rattle.lexer.specs.declared.writing.Read.{Read}
+use Rattle.lexer.specs.declared.writing.TokensError.{TokensError}
 
 -- ---- one token
 
@@ -27,14 +29,18 @@ cursor_values c = c.place ∷ c.line.0 ∷ c.column.0 ∷ bit c.mark ∷ []
 abbrev pub lexeme_values : Lexeme → List ℕ
 lexeme_values t = kind_code t.kind ∷ t.line.0 ∷ t.column.0 ∷ t.first ∷ t.len ∷ cursor_values t.next
 
+-- What refuses a text at the gate.
+abbrev pub gate_refusal : GateError → Refusal
+gate_refusal TooLong = too_long
+gate_refusal (NotAscii place) = not_ascii place
+gate_refusal Short = short_buffer
+
 -- The paper's number and values for each answer of a step: 1 and a token, or 0 and where reading stands.
-abbrev pub step_given : Step → Given
-step_given (Step.Token t) = given 0 (1 ∷ lexeme_values t)
-step_given (Step.Nothing c) = given 0 (0 ∷ cursor_values c)
-step_given Step.TooLong = refused too_long
-step_given (Step.NotAscii place) = refused (not_ascii place)
-step_given Step.Short = refused short_buffer
-step_given Step.BadCursor = refused bad_cursor
+abbrev pub step_given : Result Found StepError → Given
+step_given (Ok (Found.Token t)) = given 0 (1 ∷ lexeme_values t)
+step_given (Ok (Found.Nothing c)) = given 0 (0 ∷ cursor_values c)
+step_given (Err (StepError.Gate g)) = refused (gate_refusal g)
+step_given (Err StepError.BadCursor) = refused bad_cursor
 
 -- A line or a column: not 0, and at most one more than the limit.
 abbrev pub counted : ℕ → Bool
@@ -80,23 +86,21 @@ abbrev pub next_text_by : Outcome T.Step → List ℕ → List ℕ
 next_text_by (refuses f) old = refused_text f old
 next_text_by (reads x) old = step_text x ++ drop (length (step_text x)) old
 
-pub record StepIn (s : List ℕ) (c : Cursor) (old new : List ℕ) (r : Step) : Type 0 where
+pub record StepIn (s : List ℕ) (c : Cursor) (old new : List ℕ) (r : Result Found StepError) : Type 0 where
   pub answer : step_given r ≡ next_given_by (step_outcome s c (length old))
   pub text : new ≡ next_text_by (step_outcome s c (length old)) old
 
-pub record NextToken (s : List ℕ) (c : Cursor) (old new : List ℕ) (r : Step) : Type 0 where
+pub record NextToken (s : List ℕ) (c : Cursor) (old new : List ℕ) (r : Result Found StepError) : Type 0 where
   pub answer : step_given r ≡ next_given_by (next_outcome s c (length old))
   pub text : new ≡ next_text_by (next_outcome s c (length old)) old
 
 -- ---- a whole text
 
 -- The paper's number and values for each answer: the count of records, the length of the texts, and the stop's place, line and column.
-abbrev pub answer_given : Answer → Given
-answer_given (Answer.Read count used place line column) = given 0 (count ∷ used ∷ place ∷ line.0 ∷ column.0 ∷ [])
-answer_given Answer.TooLong = refused too_long
-answer_given (Answer.NotAscii place) = refused (not_ascii place)
-answer_given Answer.Short = refused short_buffer
-answer_given (Answer.NoRoom needed) = refused (no_room needed)
+abbrev pub answer_given : Result Read TokensError → Given
+answer_given (Ok r) = given 0 (r.count ∷ r.text ∷ r.place ∷ r.line.0 ∷ r.column.0 ∷ [])
+answer_given (Err (TokensError.Gate g)) = refused (gate_refusal g)
+answer_given (Err (TokensError.NoRoom needed)) = refused (no_room needed)
 
 -- A reading laid out: the values returned, the texts, and the records' words.
 abbrev pub laid_out : Reading → Filled
@@ -112,19 +116,12 @@ tokens_outcome s n m =
     past_gate (gate_of s n (length s))
     (pick (ltb (room_for token_words m) (length (reading s).tokens)) (refuses (no_room (length (reading s).tokens))) (reads (laid_out (reading s))))
 
-pub record Tokens (s text text' records records' : List ℕ) (r : Answer) : Type 0 where
+pub record Tokens (s text text' records records' : List ℕ) (r : Result Read TokensError) : Type 0 where
   pub answer : answer_given r ≡ given_by (tokens_outcome s (length text) (length records))
   pub texts : text' ≡ text_by (tokens_outcome s (length text) (length records)) text
   pub words : records' ≡ records_by (tokens_outcome s (length text) (length records)) records
 
 -- ---- what both lexers begin and end with
-
--- The gate's answer as a lexer's.
-abbrev pub passed_by : Gate → Passed
-passed_by Gate.Open = Passed.Open
-passed_by Gate.TooLong = Passed.Refused Answer.TooLong
-passed_by (Gate.NotAscii place) = Passed.Refused (Answer.NotAscii place)
-passed_by Gate.Short = Passed.Refused Answer.Short
 
 -- The five words of a token whose text starts at the offset o.
 abbrev pub lexeme_record : ℕ → Lexeme → List ℕ
@@ -139,10 +136,10 @@ abbrev pub token_stored : List ℕ → ℕ → ℕ → Lexeme → List ℕ
 token_stored old at o t = pick (narrow o t) (stored old at (lexeme_record o t)) old
 
 -- What is answered of a reading, by whether its records are too many.
-abbrev pub ended_by : Bool → Tally → Answer
-ended_by true r = Answer.NoRoom r.count
-ended_by false r = Answer.Read r.count r.used r.stop.place r.stop.line r.stop.column
+abbrev pub ended_by : Bool → Tally → Result Read TokensError
+ended_by true r = Err (TokensError.NoRoom r.count)
+ended_by false r = Ok (record { count = r.count; text = r.used; place = r.stop.place; line = r.stop.line; column = r.stop.column })
 
-pub record EndReading (r : Tally) (text text' records records' : List ℕ) (a : Answer) : Type 0 where
+pub record EndReading (r : Tally) (text text' records records' : List ℕ) (a : Result Read TokensError) : Type 0 where
   pub answer : a ≡ ended_by (overfull token_words r.count records) r
   pub left : Finished r.used r.count token_words text text' records records' (overfull token_words r.count records)

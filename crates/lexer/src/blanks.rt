@@ -13,10 +13,8 @@ pub fn skip_blanks(s: &[u8], c: Cursor) -> Cursor
     let mut line = c.line;
     let mut column = c.column;
     let mut mark = c.mark;
-    loop {
-        if s.len() <= place {
-            break;
-        }
+    // a `while`, since a backslash with its line end is passed at once
+    while place < s.len() {
         match class_of(s[place]) {
             Class::Gap | Class::Return => {
                 place += 1;

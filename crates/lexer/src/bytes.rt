@@ -16,39 +16,33 @@ pub enum Class {
     Other,
 }
 
+#[tactic(auto, unfolding(crate::specs::Bytes::class))]
 pub fn class_of(b: u8) -> Class
     ensures { result ≡ class b }
 {
     match b {
-        9 | 32 => Class::Gap,
-        10 => Class::Feed,
-        11..=12 => Class::Upright,
-        13 => Class::Return,
-        34 | 39 => Class::Quote,
-        35 => Class::Hash,
-        92 => Class::Slash,
+        b'\t' | b' ' => Class::Gap,
+        b'\n' => Class::Feed,
+        b'\x0b'..=b'\x0c' => Class::Upright,
+        b'\r' => Class::Return,
+        b'"' | b'\'' => Class::Quote,
+        b'#' => Class::Hash,
+        b'\\' => Class::Slash,
         _ => Class::Other,
     }
 }
 
 // How many bytes of a line end stand at a place: LF, or CR LF.
+#[tactic(auto, using(crate::proofs::LineEndLaws::none_past, crate::proofs::LineEndLaws::feed_one, crate::proofs::LineEndLaws::none_other, crate::proofs::LineEndLaws::none_end, crate::proofs::LineEndLaws::none_behind, crate::proofs::LineEndLaws::pair_two))]
 pub fn line_end(s: &[u8], at: usize) -> usize
     requires { at ≤ length s.now }
     ensures { result ≡ line_end (drop at s.now) }
 {
-    if s.len() <= at {
-        return 0;
-    }
-    let b = s[at];
-    if b == 10 {
+    if at < s.len() && s[at] == b'\n' {
         return 1;
     }
-    if b == 13 {
-        if at + 1 < s.len() {
-            if s[at + 1] == 10 {
-                return 2;
-            }
-        }
+    if at + 1 < s.len() && s[at] == b'\r' && s[at + 1] == b'\n' {
+        return 2;
     }
     0
 }

@@ -18,12 +18,10 @@ fn blank_between(s: &[u8], from: usize, to: usize) -> bool
     requires { (from ≤ to) × (to ≤ length s.now) }
     ensures { Blank s.now from to result }
 {
-    let mut at = from;
-    while at < to {
+    for at in from..to {
         if !ascii::is_white(s[at]) {
             return false;
         }
-        at += 1;
     }
     true
 }
@@ -34,22 +32,18 @@ pub fn cursor_past(s: &[u8], c: Cursor, run: Run) -> Cursor
     requires passes { Passes s.now c run }
     ensures { result ≡ past_bytes s.now c run.past }
 {
-    let past = run.past;
-    let feeds = run.feeds;
-    let line = c.line;
-    if feeds == 0 {
+    if run.feeds == 0 {
         return Cursor {
-            place: past,
-            line,
-            column: Column(c.column.0 + (past - c.place)),
+            place: run.past,
+            line: c.line,
+            column: Column(c.column.0 + (run.past - c.place)),
             mark: false,
         };
     }
-    let last = run.last;
     Cursor {
-        place: past,
-        line: Line(c.line.0 + feeds),
-        column: Column(past - last + 1),
-        mark: blank_between(s, last, past),
+        place: run.past,
+        line: Line(c.line.0 + run.feeds),
+        column: Column(run.past - run.last + 1),
+        mark: blank_between(s, run.last, run.past),
     }
 }

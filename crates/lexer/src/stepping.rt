@@ -2,6 +2,7 @@
 ghost use Rattle.std.specs.Prelude.{◌≡◌, ◌+◌, ◌≤◌, length};
 ghost use Rattle.lexer.specs.Steps.{Within, Stepped, lexeme_at};
 ghost use Rattle.lexer.specs.Promises.{counted, cursor_refused, StepIn, NextToken};
+ghost use Rattle.lexer.specs.declared.stepping.StepError.TheVariants.{Gate};
 
 use crate::blanks::skip_blanks;
 use crate::bytes::{Class, class_of};
@@ -10,10 +11,10 @@ use crate::moving::cursor_past;
 use crate::quotes::read_quoted;
 use crate::words::{read_word, word_kind};
 use crate::{Column, Cursor, Kind, Line};
-use lent::Gate;
+use lent::GateError;
 
 // A token without its text: it runs from `first` up to the next cursor's place, and `len` bytes of text were written.
-#[derive(Clone, Copy)]
+#[derive(Clone, Copy, Debug, PartialEq, Eq)]
 pub struct Lexeme {
     pub kind: Kind,
     pub line: Line,
@@ -23,24 +24,29 @@ pub struct Lexeme {
     pub next: Cursor,
 }
 
-// What a step answers.
-#[derive(Clone, Copy)]
-pub enum Step {
+// What stands at a cursor inside the text.
+#[derive(Clone, Copy, Debug, PartialEq, Eq)]
+pub enum Found {
     Token(Lexeme),
     // No token: the text ends here, or reading stops.
     Nothing(Cursor),
-    // The numbers 1, 2, 3 and 9.
-    TooLong,
-    NotAscii(usize),
-    Short,
+}
+
+// Why a step is refused.
+#[derive(Clone, Copy, Debug, PartialEq, Eq)]
+pub enum StepError {
+    // 1, 2 and 3.
+    Gate(GateError),
+    // 9: the text has no such cursor.
     BadCursor,
 }
 
-// What stands at a cursor inside the text.
-#[derive(Clone, Copy)]
-pub enum Found {
-    Token(Lexeme),
-    Nothing(Cursor),
+impl From<GateError> for StepError {
+    ghost from_gives = { λ g e. e ≡ Gate g };
+
+    fn from(error: GateError) -> StepError {
+        StepError::Gate(error)
+    }
 }
 
 // A token that starts at `from` and ends at `next`.
@@ -107,54 +113,38 @@ pub fn find(s: &[u8], c: Cursor, text: &mut [u8]) -> Found
 fn is_counted(n: usize) -> bool
     ensures { result ≡ counted n }
 {
-    if n == 0 {
-        return false;
-    }
-    n <= lent::LIMIT + 1
+    (1..=lent::LIMIT + 1).contains(&n)
 }
 
 // Number 9: a place past the end, or a line or column that no text within the limit has.
 fn refuses_cursor(s: &[u8], c: Cursor) -> bool
     ensures { result ≡ cursor_refused s.now c }
 {
-    if s.len() < c.place {
-        return true;
-    }
-    if !is_counted(c.line.0) {
-        return true;
-    }
-    !is_counted(c.column.0)
+    s.len() < c.place || !is_counted(c.line.0) || !is_counted(c.column.0)
 }
 
 // The next token from a cursor on, in any bytes, after the checks 1, 9 and 3, which read none: a text that was admitted once
 // is stepped through by it. As much text is asked as is left behind the cursor's place; what is written is as for `next_token`.
-pub fn step_in(input: &[u8], from: Cursor, text: &mut [u8]) -> Step
+pub fn step_in(input: &[u8], from: Cursor, text: &mut [u8]) -> Result<Found, StepError>
     ensures { StepIn input.now from text.old text.new result }
 {
     if lent::LIMIT < input.len() {
-        return Step::TooLong;
+        return Err(StepError::Gate(GateError::TooLong));
     }
     if refuses_cursor(input, from) {
-        return Step::BadCursor;
+        return Err(StepError::BadCursor);
     }
     if text.len() < input.len() - from.place {
-        return Step::Short;
+        return Err(StepError::Gate(GateError::Short));
     }
-    match find(input, from, text) {
-        Found::Token(t) => Step::Token(t),
-        Found::Nothing(c) => Step::Nothing(c),
-    }
+    Ok(find(input, from, text))
 }
 
 // The next token from a cursor on, after the checks 1, 2, 3 and 9. Its text stands at the front of `text`,
 // and nothing beyond is touched; where there is no token, nothing is written.
-pub fn next_token(input: &[u8], from: Cursor, text: &mut [u8]) -> Step
+pub fn next_token(input: &[u8], from: Cursor, text: &mut [u8]) -> Result<Found, StepError>
     ensures { NextToken input.now from text.old text.new result }
 {
-    match lent::admit(input, text.len(), input.len()) {
-        Gate::TooLong => Step::TooLong,
-        Gate::NotAscii(place) => Step::NotAscii(place),
-        Gate::Short => Step::Short,
-        Gate::Open => step_in(input, from, text),
-    }
+    lent::admit(input, text.len(), input.len())?;
+    step_in(input, from, text)
 }

@@ -19,10 +19,8 @@ pub fn read_word(s: &[u8], from: usize, text: &mut [u8]) -> Run
     let mut n = 0;
     let mut feeds = 0;
     let mut last = from;
-    loop {
-        if s.len() <= at {
-            break;
-        }
+    // a `while`, since a backslash with its line end is passed at once
+    while at < s.len() {
         let b = s[at];
         match class_of(b) {
             Class::Other => {
@@ -57,23 +55,17 @@ pub fn read_word(s: &[u8], from: usize, text: &mut [u8]) -> Run
 pub fn is_directive(w: &[u8]) -> bool
     ensures { result ≡ directive w.now }
 {
-    if 3 <= w.len() {
-        if ascii::same_lowered(&w[..3], b"sec") {
-            return true;
-        }
-    }
-    ascii::same_lowered(w, b"include")
+    3 <= w.len() && ascii::same_lowered(&w[..3], b"sec") || ascii::same_lowered(w, b"include")
 }
 
 // What a word is, by whether it stands at a line's start.
+#[tactic(auto, unfolding(crate::specs::Tokens::word_kind))]
 pub fn word_kind(mark: bool, w: &[u8]) -> Kind
     ensures { result ≡ word_kind mark w.now }
 {
-    if mark {
-        if is_directive(w) {
-            return Kind::Directive;
-        }
-        return Kind::Word;
+    if mark && is_directive(w) {
+        Kind::Directive
+    } else {
+        Kind::Word
     }
-    Kind::Word
 }

@@ -6,7 +6,6 @@
 mod printing;
 mod reading;
 
-use reading::Input;
 use std::env::FillError;
 use std::fs::{self, File};
 use std::io::{self, ErrorKind, Read};
@@ -36,8 +35,8 @@ fn room() -> [u8; listing::LIST_LINE] {
 fn list_from<R: Read>(rt: &HostRuntime, from: &mut R, name: &[u8]) -> io::Result<()> {
     let mut input = [0u8; listing::LIST_LIMIT + 1];
     let n = match reading::read_all(from, &mut input) {
-        Input::Read(n) => n,
-        Input::Failed(error) => return tell(rt, name, &error),
+        Ok(n) => n,
+        Err(error) => return tell(rt, name, &error),
     };
     let mut out = room();
     let len = printing::line_of(&input[..n], &mut out);

@@ -3,10 +3,10 @@ ghost use Rattle.std.specs.Prelude.{◌≤◌, length};
 ghost use Rattle.listing.specs.Listings.{line_most, list_limit};
 ghost use Rattle.list.specs.Printing.{Prints, Lists};
 
-use listing::Answer;
+use listing::ListingError;
 
 // What the library lists.
-fn list_within(input: &[u8], out: &mut [u8]) -> Answer
+fn list_within(input: &[u8], out: &mut [u8]) -> Result<usize, ListingError>
     requires { length input.now ≤ list_limit }
     ensures { Lists input.now out.old out.new result }
 {
@@ -16,7 +16,7 @@ fn list_within(input: &[u8], out: &mut [u8]) -> Answer
 }
 
 // The program's limit is its own, below the library's: a longer text is refused here, as the library would with that limit.
-fn list_any(input: &[u8], out: &mut [u8]) -> Answer
+fn list_any(input: &[u8], out: &mut [u8]) -> Result<usize, ListingError>
     ensures { Lists input.now out.old out.new result }
 {
     if listing::LIST_LIMIT < input.len() {
@@ -30,9 +30,5 @@ pub fn line_of(input: &[u8], out: &mut [u8]) -> usize
     requires { line_most ≤ length out.old }
     ensures { Prints input.now out.new result }
 {
-    match list_any(input, out) {
-        Answer::Written(n) => n,
-        Answer::NoRoom(n) => n,
-        Answer::NoToken(n) => n,
-    }
+    list_any(input, out).unwrap()
 }

@@ -1,5 +1,6 @@
 -- How long a listing gets: an element takes so many bytes with its comma, by how many digits lines and columns have, and six for each byte
 -- of its text, and a text has no more tokens, and no longer texts, than bytes.
+use Rattle.std.specs.Prelude.{None}
 use mathlib.Core.Bool.{Bool, true, false}
 use mathlib.Core.List.{List, [], ◌∷◌, ◌++◌}
 use Prim.Native.Nat.{ℕ, zero, suc, ◌+◌, ◌*◌, ◌/◌, ◌%◌, ◌≤◌, ◌<◌}
@@ -20,7 +21,7 @@ use Rattle.lexer.proofs.BoundLaws.{tokens_most}
 use Rattle.lexer.proofs.PlaceLaws.{all_map, places, texts_fit_lem}
 use Rattle.lexer.proofs.StopLaws.{stop_line, stop_column}
 use Rattle.listing.specs.Json.{onto, decimal, trail, joined}
-use Rattle.listing.specs.Listings.{End, Early, row_of, element, elements, stop_at, stop_of, listing, list_limit}
+use Rattle.listing.specs.Listings.{early, row_of, element, elements, stop_at, stop_of, listing, list_limit}
 use Rattle.listing.specs.Steps.{pair, stop_tail}
 use Rattle.listing.proofs.ElementLaws.{row_length, early_length, joined_stopped}
 
@@ -86,7 +87,7 @@ module _ (bound k : ℕ) (digits : Digits bound k) where
   unfolding stop_at
   tail_short n place len line column h g = go (ltb place len)
     where
-      go : (t : Bool) → length (stop_tail n (pick t (Early line column) End)) ≤ 2 * k + 14
+      go : (t : Bool) → length (stop_tail n (pick t (early line column) None)) ≤ 2 * k + 14
       go true = omega (arith, early_length n line column (2 * k + 1) (pair_short line.0 column.0 h g))
       go false = omega arith
 

@@ -1,4 +1,5 @@
 -- A table's names of one length: what is found among them is found in the table, and names of no other length are there.
+use Rattle.std.specs.Prelude.{Option, Some, None}
 use mathlib.Core.Path.{◌≡◌, ◌∙◌, refl, sym, ap, subst}
 use mathlib.Core.Bool.{Bool, true, false}
 use mathlib.Core.List.{List, [], ◌∷◌, map}
@@ -11,8 +12,6 @@ use Rattle.ascii.specs.Fold.{same}
 use Rattle.ascii.proofs.TestLaws.{apart}
 use Rattle.ascii.proofs.SameLaws.{same_false}
 use Rattle.names.specs.Tables.{Row, find, name_at}
-use Rattle.names.specs.declared.Lookup.{Lookup}
-use Rattle.names.specs.declared.Lookup.TheVariants.{Code, Unknown}
 use Rattle.names.proofs.Tests.{every, at}
 use Rattle.names.proofs.TableLaws.{find_none}
 
@@ -26,8 +25,8 @@ by_length n [] name e = refl
 by_length n (r ∷ rows) name e = go (eqb (length r.name) n) refl (by_length n rows name e)
   where
     go : (t : Bool) → eqb (length r.name) n ≡ t → find (of_length n rows) name ≡ find rows name
-        → find (pick t (r ∷ of_length n rows) (of_length n rows)) name ≡ pick (same r.name name) (Code r.code) (find rows name)
-    go true p q = ap (λ (l : Lookup). pick (same r.name name) (Code r.code) l) q
+        → find (pick t (r ∷ of_length n rows) (of_length n rows)) name ≡ pick (same r.name name) (Some r.code) (find rows name)
+    go true p q = ap (λ (l : Option ℕ). pick (same r.name name) (Some r.code) l) q
     go false p q = rw (same_false r.name name (λ f. eqb-false (length r.name) n p (ap length f ∙ e))) q
 
 -- ---- lengths that a match lists, the last first, and what is known where it lists none
@@ -49,7 +48,7 @@ unfoldable pub covers : List Row → List ℕ → (ℕ → Bool) → Bool
 covers table lengths elsewhere = every (λ k. or (elsewhere (length (name_at table k))) (listed (length (name_at table k)) lengths)) (length table)
 
 pub none_of : (f : ℕ → ℕ) (table : List Row) (lengths : List ℕ) (elsewhere : ℕ → Bool) → covers table lengths elsewhere ≡ true
-    → (name : List ℕ) → Rest lengths (length name) → elsewhere (length name) ≡ false → Unknown ≡ find table (map f name)
+    → (name : List ℕ) → Rest lengths (length name) → elsewhere (length name) ≡ false → None ≡ find table (map f name)
 unfolding covers
 none_of f table lengths elsewhere t name r o = sym (find_none table (map f name) other)
   where

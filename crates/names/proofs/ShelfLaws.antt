@@ -1,4 +1,5 @@
 -- A table in zero-filled rows, a row's number being its code: the rows with a name of one length hold the table's names of it.
+use Rattle.std.specs.Prelude.{Option}
 use mathlib.Core.Path.{◌≡◌, ◌∙◌, refl, sym, ap}
 use mathlib.Core.Bool.{Bool, true, false}
 use mathlib.Core.List.{List, [], ◌∷◌, map}
@@ -18,7 +19,6 @@ use Rattle.names.specs.Shelves.{shelved, rows_of}
 use Rattle.names.specs.Runs.{fronts, fronts_fit, FrontsFit, AmongFronts}
 use Rattle.names.specs.Operators.{operators}
 use Rattle.names.specs.Severities.{severities}
-use Rattle.names.specs.declared.Lookup.{Lookup}
 use Rattle.names.proofs.LengthLaws.{of_length, by_length}
 
 behind : {A : Type 0} (k : ℕ) (xs : List A) (x : A) (ys : List A) → drop k xs ≡ x ∷ ys → drop (suc k) xs ≡ ys
@@ -75,7 +75,7 @@ module _ (table : List Row) {rows : List (List ℕ)} (n : ℕ) (e : rows ≡ row
   pub rows_fit : 0 < n → n ≤ 20 → FrontsFit n rows (numbers_of n 0 table)
   rows_fit a b = record { fit = rw (e, length-map table (λ (r : Row). shelved r.name)) (numbers_fit n (length table) 0 table a b (omega arith)) }
 
-  pub of_rows : {name : List ℕ} {x : Lookup} → numbered 0 table ≡ true → AmongFronts n rows (numbers_of n 0 table) name x → length name ≡ n → x ≡ find table (lowered name)
+  pub of_rows : {name : List ℕ} {x : Option ℕ} → numbered 0 table ≡ true → AmongFronts n rows (numbers_of n 0 table) name x → length name ≡ n → x ≡ find table (lowered name)
   of_rows {name} t p l =
       p.found ∙ ap (λ (shelf : List (List ℕ)). find (fronts n shelf (numbers_of n 0 table)) (lowered name)) e
       ∙ ap (λ (some : List Row). find some (lowered name)) (fronts_are n 0 (rows_of table) table refl t)

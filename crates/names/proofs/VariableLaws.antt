@@ -1,4 +1,5 @@
 -- The run of variable names: one computed test shows that it ascends, and two that it holds VARIABLE_MAP; so those of one length do too.
+use Rattle.std.specs.Prelude.{Option}
 use mathlib.Core.Path.{◌≡◌, ◌∙◌, refl, sym, ap, ap₂}
 use mathlib.Core.Bool.{Bool, true, false}
 use mathlib.Core.List.{List, [], ◌∷◌}
@@ -16,7 +17,6 @@ use Rattle.names.specs.Sorted.{precedes, part_at, Ascending}
 use Rattle.names.specs.Run.{run, starts, codes}
 use Rattle.names.specs.Runs.{parts, parts_fit, PartsFit, AmongParts}
 use Rattle.names.specs.Variables.{variables, variable_code}
-use Rattle.names.specs.declared.Lookup.{Lookup}
 use Rattle.names.proofs.Tests.{every, at}
 use Rattle.names.proofs.TableLaws.{agree, tabulate}
 use Rattle.names.proofs.OrderLaws.{distinct}
@@ -78,19 +78,15 @@ map_found = refl
 width : ℕ → ℕ
 width k = get_or starts (k + 1) 0 - get_or starts k 0
 
--- a number for each of m places from k on whose name has n bytes
-chosen : (ℕ → ℕ) → ℕ → ℕ → ℕ → List ℕ
-chosen f n k zero = []
-chosen f n k (suc m) = pick (eqb (width k) n) (f k ∷ chosen f n (suc k) m) (chosen f n (suc k) m)
+-- where each of m names from k on stands, and its code, if it has n bytes
+chosen : ℕ → ℕ → ℕ → List (ℕ × ℕ)
+chosen n k zero = []
+chosen n k (suc m) = pick (eqb (width k) n) ((get_or starts k 0, get_or codes k 0) ∷ chosen n (suc k) m) (chosen n (suc k) m)
 
 -- where the names of n bytes stand, in the run's order, and their codes
-unfoldable pub places_of : ℕ → List ℕ
-unfolding chosen width starts
-places_of n = chosen (λ k. get_or starts k 0) n 0 76
-
-unfoldable pub codes_of : ℕ → List ℕ
+unfoldable pub parts_of : ℕ → List (ℕ × ℕ)
 unfolding chosen width starts codes
-codes_of n = chosen (λ k. get_or codes k 0) n 0 76
+parts_of n = chosen n 0 76
 
 part_long : (k : ℕ) → k < 76 → length (part_at run starts k) ≡ width k
 unfolding part_at width within
@@ -99,49 +95,42 @@ part_long k h =
     let m = leb-true (get_or starts (k + 1) 0) (length run) (at within 76 all_within k h) in
     length-take-le (get_or starts (k + 1) 0 - get_or starts k 0) (drop (get_or starts k 0) run) (rw (length-drop (get_or starts k 0) run) (omega arith))
 
-parts_are : (n k m : ℕ) → k + m ≤ 76
-    → parts n run (chosen (λ j. get_or starts j 0) n k m) (chosen (λ j. get_or codes j 0) n k m) ≡ of_length n (tabulate held k m)
+parts_are : (n k m : ℕ) → k + m ≤ 76 → parts n run (chosen n k m) ≡ of_length n (tabulate held k m)
 unfolding chosen width parts of_length tabulate held part_at
 parts_are n k zero h = refl
 parts_are n k (suc m) h = rw (part_long k (omega arith)) (go (eqb (width k) n) refl (parts_are n (suc k) m (omega arith)))
   where
-    places : List ℕ
-    places = chosen (λ j. get_or starts j 0) n (suc k) m
-
-    numbers : List ℕ
-    numbers = chosen (λ j. get_or codes j 0) n (suc k) m
-
     others : List Row
     others = of_length n (tabulate held (suc k) m)
 
-    go : (t : Bool) → eqb (width k) n ≡ t → parts n run places numbers ≡ others
-        → parts n run (pick t (get_or starts k 0 ∷ places) places) (pick t (get_or codes k 0 ∷ numbers) numbers) ≡ pick t (held k ∷ others) others
+    go : (t : Bool) → eqb (width k) n ≡ t → parts n run (chosen n (suc k) m) ≡ others
+        → parts n run (pick t ((get_or starts k 0, get_or codes k 0) ∷ chosen n (suc k) m) (chosen n (suc k) m)) ≡ pick t (held k ∷ others) others
     go true p q =
         ap₂ (λ (w : ℕ) (rows : List Row). record { name = take w (drop (get_or starts k 0) run); code = get_or codes k 0 } ∷ rows) (sym (eqb-true (width k) n p)) q
     go false p q = q
 
 -- each length's parts are within the run
 fitting : ℕ → Bool
-fitting n = or (eqb n 0) (parts_fit n 950 (places_of n) (codes_of n))
+fitting n = or (eqb n 0) (parts_fit n 950 (parts_of n))
 
 all_fitting : every fitting 33 ≡ true
-unfolding every fitting parts_fit places_of codes_of
+unfolding every fitting parts_fit parts_of
 all_fitting = refl
 
 run_length : length run ≡ 950
 unfolding run bytes
 run_length = refl
 
-pub variables_fit : {r : List ℕ} (n : ℕ) → r ≡ run → 0 < n → n < 33 → PartsFit n r (places_of n) (codes_of n)
+pub variables_fit : {r : List ℕ} (n : ℕ) → r ≡ run → 0 < n → n < 33 → PartsFit n r (parts_of n)
 unfolding fitting
 variables_fit n e z h = record {
   fit = rw (e, run_length) (rw (ne_eqb n 0 (λ q. omega arith)) at (at fitting 33 all_fitting n h));
 }
 
-pub of_variables : {r name : List ℕ} {x : Lookup} (n : ℕ) → r ≡ run → AmongParts n r (places_of n) (codes_of n) name x → length name ≡ n → x ≡ variable_code name
-unfolding places_of codes_of variable_code table
+pub of_variables : {r name : List ℕ} {x : Option ℕ} (n : ℕ) → r ≡ run → AmongParts n r (parts_of n) name x → length name ≡ n → x ≡ variable_code name
+unfolding parts_of variable_code table
 of_variables {r} {name} n e p l =
-    p.found ∙ ap (λ (s : List ℕ). find (parts n s (places_of n) (codes_of n)) (uppered name)) e
+    p.found ∙ ap (λ (s : List ℕ). find (parts n s (parts_of n)) (uppered name)) e
     ∙ ap (λ (rows : List Row). find rows (uppered name)) (parts_are n 0 76 (omega arith))
     ∙ by_length n table (uppered name) (length-map name upper ∙ l)
     ∙ agree table variables held_found map_found (uppered name)

@@ -1,7 +1,6 @@
 -- The operator names (operator.rs): OPERATOR_MAP, and which operators need an argument.
-use Rattle.std.specs.Prelude.{ℕ, Bool, true, false, List, [], ◌∷◌, get_or}
+use Rattle.std.specs.Prelude.{ℕ, Bool, true, false, List, [], ◌∷◌, get_or, Option}
 use Rattle.ascii.specs.Fold.{lowered}
-use Rattle.names.specs.declared.Lookup.{Lookup}
 use Rattle.names.specs.Tables.{Row, row, find}
 
 -- OPERATOR_MAP in the Rust's own order, which is that of the enum OperatorName
@@ -49,7 +48,7 @@ operators =
     []
 
 -- OperatorName::from_str: letter case ignored in ASCII
-unfoldable pub operator_code : List ℕ → Lookup
+unfoldable pub operator_code : List ℕ → Option ℕ
 operator_code name = find operators (lowered name)
 
 -- whether each operator needs an argument, in the enum's order

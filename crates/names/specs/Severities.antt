@@ -1,7 +1,6 @@
 -- The severity words (action.rs, and the ModSecurity Reference Manual).
-use Rattle.std.specs.Prelude.{ℕ, List, [], ◌∷◌}
+use Rattle.std.specs.Prelude.{ℕ, List, [], ◌∷◌, Option}
 use Rattle.ascii.specs.Fold.{lowered}
-use Rattle.names.specs.declared.Lookup.{Lookup}
 use Rattle.names.specs.Tables.{Row, row, find}
 
 -- the words of parse_severity, with their numbers
@@ -18,5 +17,5 @@ severities =
     []
 
 -- parse_severity where no number was read: letter case ignored, in ASCII as all input is
-unfoldable pub severity_code : List ℕ → Lookup
+unfoldable pub severity_code : List ℕ → Option ℕ
 severity_code word = find severities (lowered word)

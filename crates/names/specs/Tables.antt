@@ -1,11 +1,9 @@
 -- What a table of names is, and what is found in it.
-use Rattle.std.specs.Prelude.{ℕ, Bool, true, false, List, [], ◌∷◌, get_or, eqb}
+use Rattle.std.specs.Prelude.{ℕ, Bool, true, false, List, [], ◌∷◌, get_or, eqb, Option, Some, None}
 use Prim.Native.String.{String}
 use Rattle.ascii.specs.Choice.{pick, and}
 use Rattle.ascii.specs.Text.{bytes}
 use Rattle.ascii.specs.Fold.{lower, upper, same}
-use Rattle.names.specs.declared.Lookup.{Lookup}
-use Rattle.names.specs.declared.Lookup.TheVariants.{Code, Unknown}
 
 pub record Row : Type 0 where
   pub name : List ℕ
@@ -15,17 +13,17 @@ abbrev pub row : String → ℕ → Row
 row text n = record { name = bytes text; code = n }
 
 -- the code of the first row of that name: `get` of the Rust's maps, which have no name twice
-unfoldable pub find : List Row → List ℕ → Lookup
-find [] name = Unknown
-find (r ∷ rows) name = pick (same r.name name) (Code r.code) (find rows name)
+unfoldable pub find : List Row → List ℕ → Option ℕ
+find [] name = None
+find (r ∷ rows) name = pick (same r.name name) (Some r.code) (find rows name)
 
 -- a lookup gave this code
-abbrev pub gave : Lookup → ℕ → Bool
-gave (Code c) d = eqb c d
-gave Unknown d = false
+abbrev pub gave : Option ℕ → ℕ → Bool
+gave (Some c) d = eqb c d
+gave None d = false
 
 -- each row's name is answered with its code
-unfoldable pub answered : (List ℕ → Lookup) → List Row → Bool
+unfoldable pub answered : (List ℕ → Option ℕ) → List Row → Bool
 answered answer [] = true
 answered answer (r ∷ rows) = and (gave (answer r.name) r.code) (answered answer rows)
 

@@ -1,8 +1,7 @@
 -- The variable names (variable.rs): VARIABLE_MAP, the enum's places, and the tests on a place.
-use Rattle.std.specs.Prelude.{ℕ, Bool, true, false, List, [], ◌∷◌, get_or}
+use Rattle.std.specs.Prelude.{ℕ, Bool, true, false, List, [], ◌∷◌, get_or, Option}
 use Prim.Native.String.{String}
 use Rattle.ascii.specs.Fold.{uppered}
-use Rattle.names.specs.declared.Lookup.{Lookup}
 use Rattle.names.specs.Tables.{Row, row, find}
 
 -- VARIABLE_MAP in the Rust's own order: the name, and the place of its variant in the enum VariableName
@@ -87,7 +86,7 @@ variables =
     []
 
 -- VariableName::from_str: letter case ignored in ASCII
-unfoldable pub variable_code : List ℕ → Lookup
+unfoldable pub variable_code : List ℕ → Option ℕ
 variable_code name = find variables (uppered name)
 
 -- a place of the enum: its variant, whether it is a collection, whether it is implemented

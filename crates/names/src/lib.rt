@@ -11,16 +11,8 @@ mod severities;
 mod spelling;
 mod variable_names;
 mod variable_runs;
-mod widening;
 mod wording;
 
 pub use operator_names::{operator_code, requires_argument};
 pub use severities::severity_code;
 pub use variable_names::{is_collection, is_implemented, variable_code};
-
-// What a lookup finds: the name's place in the Rust's enum, from 0, or a severity word's number.
-#[derive(Clone, Copy)]
-pub enum Lookup {
-    Code(u64),
-    Unknown,
-}

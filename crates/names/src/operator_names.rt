@@ -2,7 +2,6 @@
 ghost use Rattle.std.specs.Prelude.{◌≡◌};
 ghost use Rattle.names.specs.Operators.{operator_code, requires_argument};
 
-use crate::Lookup;
 use crate::operator_rows::{of_twelve_and_more, up_to_eleven};
 
 // Zero-filled behind the name.
@@ -52,7 +51,7 @@ const ROWS: [[u8; 20]; 39] = [
 const NEEDS_ARGUMENT: [u8; 39] = *b"111111111111111110000111111111110111001";
 
 // The rows with a name of the length are compared with it one after another.
-pub fn operator_code(name: &[u8]) -> Lookup
+pub fn operator_code(name: &[u8]) -> Option<u64>
     ensures { result ≡ operator_code name.now }
 {
     let rows = &ROWS;

@@ -3,11 +3,10 @@ ghost use Rattle.std.specs.Prelude.{◌≡◌, ◌<◌, ◌≤◌, length};
 ghost use Rattle.names.specs.Shelves.{rows_of};
 ghost use Rattle.names.specs.Operators.{operators, operator_code};
 
-use crate::Lookup;
 use crate::matching::row_among;
 
 // Up to eleven letters.
-pub fn up_to_eleven(rows: &[[u8; 20]], name: &[u8]) -> Lookup
+pub fn up_to_eleven(rows: &[[u8; 20]], name: &[u8]) -> Option<u64>
     requires rows { rows.now ≡ rows_of operators }
     requires long { length name.now ≤ 11 }
     ensures { result ≡ operator_code name.now }
@@ -23,12 +22,12 @@ pub fn up_to_eleven(rows: &[[u8; 20]], name: &[u8]) -> Lookup
         9 => row_among(rows, name, 9, &[18, 26, 27, 32, 33, 35]), // detectxss, verifyssn, verifycpf, geolookup, gsblookup, fuzzyhash
         10 => row_among(rows, name, 10, &[2, 7, 17]), // pmfromfile, beginswith, detectsqli
         11 => row_among(rows, name, 11, &[23, 34]), // validatedtd, inspectfile
-        _ => Lookup::Unknown,
+        _ => None,
     }
 }
 
 // Twelve and more.
-pub fn of_twelve_and_more(rows: &[[u8; 20]], name: &[u8]) -> Lookup
+pub fn of_twelve_and_more(rows: &[[u8; 20]], name: &[u8]) -> Option<u64>
     requires rows { rows.now ≡ rows_of operators }
     requires long { 11 < length name.now }
     ensures { result ≡ operator_code name.now }
@@ -41,6 +40,6 @@ pub fn of_twelve_and_more(rows: &[[u8; 20]], name: &[u8]) -> Lookup
         18 => row_among(rows, name, 18, &[37]), // unconditionalmatch
         19 => row_among(rows, name, 19, &[19]), // validateurlencoding
         20 => row_among(rows, name, 20, &[20]), // validateutf8encoding
-        _ => Lookup::Unknown,
+        _ => None,
     }
 }

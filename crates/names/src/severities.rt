@@ -3,7 +3,6 @@ ghost use Rattle.std.specs.Prelude.{◌≡◌};
 ghost use Rattle.names.specs.Shelves.{rows_of};
 ghost use Rattle.names.specs.Severities.{severities, severity_code};
 
-use crate::Lookup;
 use crate::matching::row_among;
 
 const WORDS: [[u8; 20]; 8] = [
@@ -18,7 +17,7 @@ const WORDS: [[u8; 20]; 8] = [
 ];
 
 // A row's number is the word's.
-fn by_length(rows: &[[u8; 20]], word: &[u8]) -> Lookup
+fn by_length(rows: &[[u8; 20]], word: &[u8]) -> Option<u64>
     requires { rows.now ≡ rows_of severities }
     ensures { result ≡ severity_code word.now }
 {
@@ -29,11 +28,11 @@ fn by_length(rows: &[[u8; 20]], word: &[u8]) -> Lookup
         7 => row_among(rows, word, 7, &[4]), // warning
         8 => row_among(rows, word, 8, &[2]), // critical
         9 => row_among(rows, word, 9, &[0]), // emergency
-        _ => Lookup::Unknown,
+        _ => None,
     }
 }
 
-pub fn severity_code(word: &[u8]) -> Lookup
+pub fn severity_code(word: &[u8]) -> Option<u64>
     ensures { result ≡ severity_code word.now }
 {
     by_length(&WORDS, word)

@@ -2,7 +2,6 @@
 ghost use Rattle.std.specs.Prelude.{◌≡◌};
 ghost use Rattle.names.specs.Variables.{variable_code, is_collection, is_implemented};
 
-use crate::Lookup;
 use crate::packing::NAMES;
 use crate::variable_runs::{
     of_eighteen_and_more, of_nine_to_twelve, of_thirteen_to_seventeen, up_to_eight,
@@ -16,7 +15,7 @@ const IMPLEMENTED: [u8; 92] =
     *b"11111111111111111111110101101100111100000001111000000000100010000000000000000011000000111110";
 
 // The names of the length are compared with the name where they stand in the run.
-pub fn variable_code(name: &[u8]) -> Lookup
+pub fn variable_code(name: &[u8]) -> Option<u64>
     ensures { result ≡ variable_code name.now }
 {
     let n = name.len();

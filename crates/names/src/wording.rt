@@ -2,14 +2,12 @@
 ghost use Rattle.std.specs.Prelude.{◌≡◌, ◌+◌, ◌≤◌, length, take, drop};
 ghost use Rattle.names.specs.Words.{Packed};
 
-use crate::widening::wide;
-
 fn four(s: &[u8], at: usize) -> u64
     requires { at + 4 ≤ length s.now }
     ensures { Packed (take 4 (drop at s.now)) result }
 {
-    let low = wide(s[at]) + wide(s[at + 1]) * 256;
-    low + wide(s[at + 2]) * 65536 + wide(s[at + 3]) * 16777216
+    let low = u64::from(s[at]) + u64::from(s[at + 1]) * 256;
+    low + u64::from(s[at + 2]) * 65536 + u64::from(s[at + 3]) * 16777216
 }
 
 // Written without a loop and as one sum, so that it is one load wherever it stands.
@@ -27,10 +25,8 @@ pub fn up_to_eight(s: &[u8], at: usize, n: usize) -> u64
     ensures { Packed (take n (drop at s.now)) result }
 {
     let mut word = 0;
-    let mut k = n;
-    while 0 < k {
-        k -= 1;
-        word = word * 256 + wide(s[at + k]);
+    for k in (0..n).rev() {
+        word = word * 256 + u64::from(s[at + k]);
     }
     word
 }

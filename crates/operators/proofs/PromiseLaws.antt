@@ -1,5 +1,8 @@
 -- What the calls promise, in plain words: every number exactly when it is given, what is given with it, and where it stands.
 -- The idea: lent's RowLaws has numbers 1 and 2 and one law for all, and the name's lookup tells 8 from 0.
+use Rattle.lent.specs.declared.gating.GateError.TheVariants.{TooLong, NotAscii, Short}
+use Rattle.lent.specs.declared.gating.GateError.{GateError}
+use Rattle.std.specs.Prelude.{Option, Some, None, Result, Ok, Err}
 use mathlib.Core.Path.{◌≡◌, ◌∙◌, refl, sym, ap, subst}
 use mathlib.Core.Bool.{Bool, true, false}
 use mathlib.Core.List.{List, [], ◌∷◌}
@@ -14,23 +17,24 @@ use Rattle.ascii.specs.Trim.{trim_start, trim_ends}
 use Rattle.lent.specs.Sizes.{limit, span_word}
 use Rattle.lent.specs.Gates.{gate_of}
 use Rattle.lent.specs.Table.{Given, Outcome, refuses, reads, past_gate}
-use Rattle.lent.specs.declared.gating.Gate.{Gate}
 use Rattle.lent.specs.Admission.{FirstAt, Opened}
 use Rattle.lent.proofs.GateLaws.{Row}
 use Rattle.lent.proofs.OutcomeLaws.{number_of, past_row}
 use Rattle.lent.proofs.RowLaws as Rows
 use Rattle.lent.proofs.RowLaws.{row, OneOf, Numbered, Exactly, absent, differ, exactly, behind, gated, exactly_gated}
 use Rattle.names.specs.Operators.{operator_code}
-use Rattle.names.specs.declared.Lookup.{Lookup}
 use Rattle.ascii.proofs.TrimLaws.{ends_fit, leading_fits}
 use Rattle.operators.specs.Operators.{Spec, Reading, accepted, unknown, starts, name_length, name_of, after_name, unsigned, operator, in_name}
 use Rattle.operators.specs.Places.{after_at, name_place, is_named, argument_place}
-use Rattle.operators.specs.Promises.{answer_given, outcome_of, operator_outcome, given_by, argument_by, part_place, argument_of, OperatorIn, ParseOperator, OperatorArgument}
+use Rattle.operators.specs.Promises.{in_given, answer_given, outcome_of, operator_outcome, given_by, argument_by, part_place, argument_of, OperatorIn, ParseOperator, OperatorArgument}
 use Rattle.operators.specs.Calls.{Missing, Meant, unwritten, written}
-use Rattle.operators.specs.declared.Answer.{Answer}
+use Rattle.operators.specs.declared.Operator.{Operator}
+use Rattle.operators.specs.declared.UnknownOperator.{UnknownOperator}
+use Rattle.operators.specs.declared.OperatorError.{OperatorError}
+use Rattle.operators.specs.declared.OperatorError.TheVariants.{Gate, Unknown}
 use Rattle.operators.proofs.PlaceLaws.{past_fits, name_stands, argument_at}
 use Rattle.operators.proofs.FoundLaws.{plain, known, missed}
-use Rattle.operators.proofs.AnswerLaws.{Argued, gate_argued}
+use Rattle.operators.proofs.AnswerLaws.{Argued, gate_argued, never_short}
 use Rattle.operators.proofs.GivenLaws.{answer_told}
 
 -- ---- past the gate
@@ -52,9 +56,9 @@ module _ (s : List ℕ) where
   pub missing_or_meant : Missing s ⊎ Meant s
   missing_or_meant = go (is_named s) refl
     where
-      look : is_named s ≡ true → (l : Lookup) → operator_code (name_of (after_at s)) ≡ l → Missing s ⊎ Meant s
-      look h (Lookup.Code code) e = inr (written h code e)
-      look h Lookup.Unknown e = inl (record { written = h; missing = e })
+      look : is_named s ≡ true → (l : Option ℕ) → operator_code (name_of (after_at s)) ≡ l → Missing s ⊎ Meant s
+      look h (Some code) e = inr (written h code e)
+      look h None e = inl (record { written = h; missing = e })
 
       go : (b : Bool) → is_named s ≡ b → Missing s ⊎ Meant s
       go true h = look h (operator_code (name_of (after_at s))) refl
@@ -114,8 +118,8 @@ module _ (s : List ℕ) where
   refused_stands name e = let r = refused_name name e in rw r.1 (unknown_stands s r.0)
 
 -- What 8 gives back: the name's place and length, and its span.
-pub unknown_values : (place len : ℕ) → (answer_given (Answer.Unknown place len)).values ≡ place ∷ len ∷ span_word place len ∷ []
-unknown_values place len = let e : place + len - place ≡ len = omega arith in rw e
+pub unknown_values : (u : UnknownOperator) → (answer_given (Err (Unknown u))).values ≡ u.place ∷ u.len ∷ span_word u.place u.len ∷ []
+unknown_values u = let e : u.place + u.len - u.place ≡ u.len = omega arith in rw e
 
 -- ---- operator_in and parse_operator
 
@@ -123,27 +127,30 @@ given_number : (s : List ℕ) (o : Outcome Spec) → (given_by s o).number ≡ n
 given_number s (refuses f) = refl
 given_number s (reads x) = refl
 
--- No number but 0, 1, 2 and 8.
-pub parse_operator_numbers : (r : Answer) → ((answer_given r).number ≡ 0) ⊎ (((answer_given r).number ≡ 1) ⊎ (((answer_given r).number ≡ 2) ⊎ ((answer_given r).number ≡ 8)))
-parse_operator_numbers (Answer.Parsed negated name place len) = inl refl
-parse_operator_numbers Answer.TooLong = inr (inl refl)
-parse_operator_numbers (Answer.NotAscii place) = inr (inr (inl refl))
-parse_operator_numbers (Answer.Unknown place len) = inr (inr (inr refl))
+abbrev pub Numbers : ℕ → Type 0
+Numbers n = (n ≡ 0) ⊎ ((n ≡ 1) ⊎ ((n ≡ 2) ⊎ (n ≡ 8)))
 
-module _ {s : List ℕ} {r : Answer} (x : OperatorIn s r) where
-  in_number : (answer_given r).number ≡ number_of (past s)
+numbers : (s : List ℕ) (g : Result Unit GateError) → gate_of s 0 0 ≡ g → (y : Reading) → Numbers (number_of (past_gate g (outcome_of s y)))
+numbers s (Ok tt) e (accepted x) = inl refl
+numbers s (Ok tt) e (unknown n) = inr (inr (inr refl))
+numbers s (Err TooLong) e y = inr (inl refl)
+numbers s (Err (NotAscii p)) e y = inr (inr (inl refl))
+numbers s (Err Short) e y = absurd (never_short s e)
+
+module _ {s : List ℕ} {r : Result Operator UnknownOperator} (x : OperatorIn s r) where
+  in_number : (in_given r).number ≡ number_of (past s)
   in_number = ap (λ (g : Given). g.number) x.answer ∙ given_number s (past s)
 
   -- Number 8: a name is written that no operator has. Number 0: else.
-  pub operator_in_8 : ((answer_given r).number ≡ 8) ↔ Missing s
+  pub operator_in_8 : ((in_given r).number ≡ 8) ↔ Missing s
   unfolding Exactly
   operator_in_8 = rw in_number (in_exact s).0
 
-  pub operator_in_0 : ((answer_given r).number ≡ 0) ↔ Meant s
+  pub operator_in_0 : ((in_given r).number ≡ 0) ↔ Meant s
   unfolding Exactly
   operator_in_0 = rw in_number (in_exact s).1.0
 
-module _ {s : List ℕ} {r : Answer} (x : ParseOperator s r) where
+module _ {s : List ℕ} {r : Result Operator OperatorError} (x : ParseOperator s r) where
   number_is : (answer_given r).number ≡ number_of (past_gate (gate_of s 0 0) (past s))
   unfolding operator_outcome
   number_is = ap (λ (g : Given). g.number) x.answer ∙ given_number s (operator_outcome s)
@@ -168,27 +175,31 @@ module _ {s : List ℕ} {r : Answer} (x : ParseOperator s r) where
   unfolding Exactly behind
   parse_operator_0 = rw number_is (exact s).1.1.1.1.0
 
+  -- No number but 0, 1, 2 and 8.
+  pub parse_operator_numbers : Numbers (answer_given r).number
+  parse_operator_numbers = rw number_is (numbers s (gate_of s 0 0) refl (operator s))
+
   -- what is given back, by the gate's answer
-  by_gate : (g : Gate) → Row s 0 0 g → answer_given r ≡ given_by s (past_gate g (past s))
+  by_gate : (g : Result Unit GateError) → Row s 0 0 g → answer_given r ≡ given_by s (past_gate g (past s))
   unfolding operator_outcome
   by_gate g h = x.answer ∙ ap (given_by s) (past_row s 0 0 (past s) g h)
 
   -- Each answer in full.
-  pub parse_operator_long : limit < length s → r ≡ Answer.TooLong
-  parse_operator_long h = answer_told r Answer.TooLong (by_gate Gate.TooLong h)
+  pub parse_operator_long : limit < length s → r ≡ Err (Gate TooLong)
+  parse_operator_long h = answer_told r (Err (Gate TooLong)) (by_gate (Err TooLong) h)
 
-  pub parse_operator_high : (p : ℕ) → (length s ≤ limit) × FirstAt s p → r ≡ Answer.NotAscii p
-  parse_operator_high p h = answer_told r (Answer.NotAscii p) (by_gate (Gate.NotAscii p) h)
+  pub parse_operator_high : (p : ℕ) → (length s ≤ limit) × FirstAt s p → r ≡ Err (Gate (NotAscii p))
+  parse_operator_high p h = answer_told r (Err (Gate (NotAscii p))) (by_gate (Err (NotAscii p)) h)
 
-  pub parse_operator_unknown : Opened s 0 0 → Missing s → r ≡ Answer.Unknown (name_place s) (length (name_of (after_at s)))
+  pub parse_operator_unknown : Opened s 0 0 → Missing s → r ≡ Err (Unknown (record { place = name_place s; len = length (name_of (after_at s)) }))
   parse_operator_unknown o m =
-      answer_told r (Answer.Unknown (name_place s) (length (name_of (after_at s))))
-      (by_gate Gate.Open o ∙ ap (λ (y : Reading). given_by s (outcome_of s y)) (operator_missing s m))
+      answer_told r (Err (Unknown (record { place = name_place s; len = length (name_of (after_at s)) })))
+      (by_gate (Ok tt) o ∙ ap (λ (y : Reading). given_by s (outcome_of s y)) (operator_missing s m))
 
-  pub parse_operator_reads : Opened s 0 0 → (m : Meant s) → r ≡ Answer.Parsed (meaning s m).negated (meaning s m).name (argument_place s) (length (meaning s m).argument)
+  pub parse_operator_reads : Opened s 0 0 → (m : Meant s) → r ≡ Ok (record { negated = (meaning s m).negated; name = (meaning s m).name; place = argument_place s; len = length (meaning s m).argument })
   parse_operator_reads o m =
-      answer_told r (Answer.Parsed (meaning s m).negated (meaning s m).name (argument_place s) (length (meaning s m).argument))
-      (by_gate Gate.Open o ∙ ap (λ (y : Reading). given_by s (outcome_of s y)) (operator_meant s m))
+      answer_told r (Ok (record { negated = (meaning s m).negated; name = (meaning s m).name; place = argument_place s; len = length (meaning s m).argument }))
+      (by_gate (Ok tt) o ∙ ap (λ (y : Reading). given_by s (outcome_of s y)) (operator_meant s m))
 
 -- ---- operator_argument
 
@@ -204,7 +215,7 @@ module _ (s : List ℕ) where
       subst (λ (t : List ℕ). take (length t) (drop (argument_place s) s) ≡ t) (sym (ap argument_by a.is_read ∙ a.text_is)) (argument_at s)
 
 module _ {s part : Standing} (x : OperatorArgument s part) where
-  argument_by_lem : (g : Gate) → Row s.bytes 0 0 g → part ≡ argument_of s (past_gate g (past s.bytes))
+  argument_by_lem : (g : Result Unit GateError) → Row s.bytes 0 0 g → part ≡ argument_of s (past_gate g (past s.bytes))
   unfolding operator_outcome
   argument_by_lem g h = x.argument ∙ ap (argument_of s) (past_row s.bytes 0 0 (past s.bytes) g h)
 
@@ -217,13 +228,13 @@ module _ {s part : Standing} (x : OperatorArgument s part) where
 
   -- The empty part at the front on every refusal, and else the operator's own.
   pub operator_argument_long : limit < length s.bytes → part ≡ part_at s 0 []
-  operator_argument_long h = argument_by_lem Gate.TooLong h
+  operator_argument_long h = argument_by_lem (Err TooLong) h
 
   pub operator_argument_high : (p : ℕ) → (length s.bytes ≤ limit) × FirstAt s.bytes p → part ≡ part_at s 0 []
-  operator_argument_high p h = argument_by_lem (Gate.NotAscii p) h
+  operator_argument_high p h = argument_by_lem (Err (NotAscii p)) h
 
   pub operator_argument_unknown : Opened s.bytes 0 0 → Missing s.bytes → part ≡ part_at s 0 []
-  operator_argument_unknown o m = argument_by_lem Gate.Open o ∙ ap (λ (y : Reading). argument_of s (outcome_of s.bytes y)) (operator_missing s.bytes m)
+  operator_argument_unknown o m = argument_by_lem (Ok tt) o ∙ ap (λ (y : Reading). argument_of s (outcome_of s.bytes y)) (operator_missing s.bytes m)
 
   pub operator_argument_reads : Opened s.bytes 0 0 → (m : Meant s.bytes) → part ≡ part_at s (argument_place s.bytes) (meaning s.bytes m).argument
-  operator_argument_reads o m = argument_by_lem Gate.Open o ∙ ap (λ (y : Reading). argument_of s (outcome_of s.bytes y)) (operator_meant s.bytes m)
+  operator_argument_reads o m = argument_by_lem (Ok tt) o ∙ ap (λ (y : Reading). argument_of s (outcome_of s.bytes y)) (operator_meant s.bytes m)

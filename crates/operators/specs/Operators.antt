@@ -1,10 +1,9 @@
 -- The rules of parse_operator (operator.rs), over the list of the input's bytes.
-use Rattle.std.specs.Prelude.{ℕ, Bool, true, false, List, [], ◌∷◌, take, drop, eqb}
+use Rattle.std.specs.Prelude.{ℕ, Bool, true, false, List, [], ◌∷◌, take, drop, eqb, Option, Some, None}
 use Rattle.ascii.specs.Choice.{pick}
 use Rattle.ascii.specs.Classes.{operator_name_end}
 use Rattle.ascii.specs.Trim.{trim_start, trim_ends, leading}
 use Rattle.names.specs.Operators.{operator_code}
-use Rattle.names.specs.declared.Lookup.{Lookup}
 
 -- OperatorSpec: the name is its place in the enum OperatorName, from 0
 pub record Spec : Type 0 where
@@ -44,9 +43,9 @@ abbrev pub unsigned : List ℕ → List ℕ
 unsigned text = pick (starts 33 text) (trim_start (drop 1 text)) text
 
 -- by what OperatorName::from_str finds
-abbrev pub named : Bool → List ℕ → Lookup → Reading
-named negated rest (Lookup.Code code) = spec negated code (trim_start (after_name rest))
-named negated rest Lookup.Unknown = unknown (name_of rest)
+abbrev pub named : Bool → List ℕ → Option ℕ → Reading
+named negated rest (Some code) = spec negated code (trim_start (after_name rest))
+named negated rest None = unknown (name_of rest)
 
 -- with `@`, a name and its argument; with none, Rx and the text itself
 abbrev pub prefixed : Bool → List ℕ → Reading

@@ -1,7 +1,8 @@
 -- Where the parts of an operator stand in the input. The Rust hands back texts; here they are parts of the caller's own.
-use Rattle.std.specs.Prelude.{ℕ, ◌+◌, Bool, List, length, drop}
+use Rattle.std.specs.Prelude.{ℕ, ◌+◌, Bool, List, length, drop, Some, None}
 use Rattle.ascii.specs.Choice.{pick}
 use Rattle.ascii.specs.Trim.{trim_ends, leading_white}
+use Rattle.lent.specs.Sources.{part}
 use Rattle.operators.specs.Operators.{starts, name_length, after_name, unsigned}
 use Rattle.operators.specs.declared.finding.Found.{Found}
 
@@ -36,15 +37,12 @@ is_named s = starts 64 (unsigned (trim_ends s))
 abbrev pub argument_place : List ℕ → ℕ
 argument_place s = pick (is_named s) (name_past s + leading_white (after_name (after_at s))) (body_place s)
 
--- the same in one piece; with no name written, the name's two places are the argument's
+-- the same in one piece
 abbrev pub found_by : Bool → List ℕ → Found
 found_by named s = record {
   negated = starts 33 (trim_ends s);
-  named = named;
-  first = pick named (name_place s) (body_place s);
-  past = pick named (name_past s) (body_place s);
-  argument = pick named (name_past s + leading_white (after_name (after_at s))) (body_place s);
-  end = text_end s;
+  name = pick named (Some (part (name_place s) (name_past s))) None;
+  argument = part (pick named (name_past s + leading_white (after_name (after_at s))) (body_place s)) (text_end s);
 }
 
 unfoldable pub found_of : List ℕ → Found

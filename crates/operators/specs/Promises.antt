@@ -1,21 +1,30 @@
 -- What the public calls promise, by document 01's table.
-use Rattle.std.specs.Prelude.{◌≡◌, ℕ, ◌+◌, List, [], ◌∷◌, length}
+use Rattle.std.specs.Prelude.{◌≡◌, ℕ, ◌+◌, List, [], ◌∷◌, length, Result, Ok, Err}
 use Rattle.ascii.specs.Choice.{bit}
 use Rattle.ascii.specs.Handed.{Standing, part_at}
 use Rattle.lent.specs.Gates.{gate_of}
 use Rattle.lent.specs.Sources.{part}
-use Rattle.lent.specs.Table.{Given, given, refused, too_long, not_ascii, unknown_operator, Outcome, refuses, reads, past_gate}
+use Rattle.lent.specs.declared.gating.GateError.TheVariants.{TooLong, NotAscii, Short}
+use Rattle.lent.specs.Table.{Given, given, refused, too_long, not_ascii, short_buffer, unknown_operator, Outcome, refuses, reads, past_gate}
 use Rattle.operators.specs.Operators.{Spec, Reading, accepted, unknown, operator}
 use Rattle.operators.specs.Places.{name_place, argument_place}
-use Rattle.operators.specs.declared.Answer.{Answer}
+use Rattle.operators.specs.declared.Operator.{Operator}
+use Rattle.operators.specs.declared.UnknownOperator.{UnknownOperator}
+use Rattle.operators.specs.declared.OperatorError.{OperatorError}
+use Rattle.operators.specs.declared.OperatorError.TheVariants.{Gate, Unknown}
 
 -- The paper's number and values for each answer: with 0, whether it is negated, the name's code, and the argument's place in the input and its length.
 -- What stands behind 8 to be underlined is the name itself, so its place and length tell the source too.
-abbrev pub answer_given : Answer → Given
-answer_given (Answer.Parsed negated name place len) = given 0 (bit negated ∷ name ∷ place ∷ len ∷ [])
-answer_given Answer.TooLong = refused too_long
-answer_given (Answer.NotAscii place) = refused (not_ascii place)
-answer_given (Answer.Unknown place len) = refused (unknown_operator place len (part place (place + len)))
+abbrev pub in_given : Result Operator UnknownOperator → Given
+in_given (Ok o) = given 0 (bit o.negated ∷ o.name ∷ o.place ∷ o.len ∷ [])
+in_given (Err u) = refused (unknown_operator u.place u.len (part u.place (u.place + u.len)))
+
+abbrev pub answer_given : Result Operator OperatorError → Given
+answer_given (Ok o) = in_given (Ok o)
+answer_given (Err (Gate TooLong)) = refused too_long
+answer_given (Err (Gate (NotAscii place))) = refused (not_ascii place)
+answer_given (Err (Gate Short)) = refused short_buffer
+answer_given (Err (Unknown u)) = in_given (Err u)
 
 -- What a reading comes to: number 8 has the unknown name's place in the input and its length, and its source is the name.
 abbrev pub outcome_of : List ℕ → Reading → Outcome Spec
@@ -44,10 +53,10 @@ abbrev pub argument_of : Standing → Outcome Spec → Standing
 argument_of s o = part_at s (part_place s.bytes o) (argument_by o)
 
 -- Without the gate, for any bytes.
-pub record OperatorIn (s : List ℕ) (r : Answer) : Type 0 where
-  pub answer : answer_given r ≡ given_by s (outcome_of s (operator s))
+pub record OperatorIn (s : List ℕ) (r : Result Operator UnknownOperator) : Type 0 where
+  pub answer : in_given r ≡ given_by s (outcome_of s (operator s))
 
-pub record ParseOperator (s : List ℕ) (r : Answer) : Type 0 where
+pub record ParseOperator (s : List ℕ) (r : Result Operator OperatorError) : Type 0 where
   pub answer : answer_given r ≡ given_by s (operator_outcome s)
 
 -- What is handed back, and where it stands in the caller's input.

@@ -5,25 +5,20 @@ ghost use Rattle.ascii.specs.Trim.{leading_white};
 ghost use Rattle.operators.specs.Operators.{starts, name_length};
 ghost use Rattle.operators.specs.Places.{sign_width, found_of};
 
-// The name runs from `first` up to `past`, the argument from `argument` up to `end`. Where there is no `@`,
-// no name is written, and the argument is all that is left.
+use ascii::Part;
+
+// The name and the argument. Where there is no `@`, no name is written, and the argument is all that is left.
 #[derive(Clone, Copy)]
 pub struct Found {
     pub negated: bool,
-    pub named: bool,
-    pub first: usize,
-    pub past: usize,
-    pub argument: usize,
-    pub end: usize,
+    pub name: Option<Part>,
+    pub argument: Part,
 }
 
 fn starts_with(s: &[u8], b: u8) -> bool
     ensures { result ≡ starts b s.now }
 {
-    if s.len() == 0 {
-        return false;
-    }
-    s[0] == b
+    s.first() == Some(&b)
 }
 
 // How many bytes the `!` takes with the white ones after it: 0 where none stands first.
@@ -41,7 +36,7 @@ fn gap_width(s: &[u8]) -> usize
     requires { name_length s.now ≡ 0 }
     ensures { result ≡ leading_white s.now }
 {
-    if s.len() == 0 {
+    if s.is_empty() {
         return 0;
     }
     let after = &s[1..];
@@ -59,24 +54,19 @@ fn ends_name(b: u8) -> bool
 fn stops_name(b: u8) -> bool
     ensures { result ≡ operator_name_end b }
 {
-    if 32 < b {
-        return false;
-    }
-    ends_name(b)
+    b <= 32 && ends_name(b)
 }
 
 // How many bytes stand before the first that ends a name.
 fn name_length(s: &[u8]) -> usize
     ensures { result ≡ name_length s.now }
 {
-    let mut i = 0;
-    while i < s.len() {
-        if stops_name(s[i]) {
+    for (i, b) in s.iter().enumerate() {
+        if stops_name(*b) {
             return i;
         }
-        i += 1;
     }
-    i
+    s.len()
 }
 
 pub fn find(s: &[u8]) -> Found
@@ -92,11 +82,11 @@ pub fn find(s: &[u8]) -> Found
     if !starts_with(&s[body..end], b'@') {
         return Found {
             negated,
-            named: false,
-            first: body,
-            past: body,
-            argument: body,
-            end,
+            name: None,
+            argument: Part {
+                first: body,
+                past: end,
+            },
         };
     }
     let first = body + 1;
@@ -104,10 +94,10 @@ pub fn find(s: &[u8]) -> Found
     let gap = gap_width(&s[past..end]);
     Found {
         negated,
-        named: true,
-        first,
-        past,
-        argument: past + gap,
-        end,
+        name: Some(Part { first, past }),
+        argument: Part {
+            first: past + gap,
+            past: end,
+        },
     }
 }

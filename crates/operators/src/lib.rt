@@ -2,28 +2,51 @@
 
 #![tactic(auto)]
 
+ghost use Rattle.std.specs.Prelude.{◌≡◌};
+ghost use Rattle.operators.specs.declared.OperatorError.TheVariants.{Gate, Unknown};
+
 mod finding;
 mod reading;
 
+use lent::GateError;
 pub use reading::{operator_argument, operator_in, parse_operator};
 
-// What a call answers. Nothing is lent but the input, so the numbers 3 and 4 cannot come.
-#[derive(Clone, Copy)]
-pub enum Answer {
-    // 0: the Rust's OperatorSpec, with the name's place in its enum, and the argument's place in the input and its length.
-    Parsed {
-        negated: bool,
-        name: u64,
-        place: usize,
-        len: usize,
-    },
-    // 1: the input is over the limit.
-    TooLong,
-    // 2: the place of the first byte that is 128 or more.
-    NotAscii(usize),
-    // 8: where the unknown name stands in the input, and its length.
-    Unknown {
-        place: usize,
-        len: usize,
-    },
+// The Rust's OperatorSpec, with the name's place in its enum, and the argument's place in the input and its length.
+#[derive(Clone, Copy, Debug, PartialEq, Eq)]
+pub struct Operator {
+    pub negated: bool,
+    pub name: u64,
+    pub place: usize,
+    pub len: usize,
+}
+
+// Where a name that no operator has stands in the input, and its length.
+#[derive(Clone, Copy, Debug, PartialEq, Eq)]
+pub struct UnknownOperator {
+    pub place: usize,
+    pub len: usize,
+}
+
+#[derive(Clone, Copy, Debug, PartialEq, Eq)]
+pub enum OperatorError {
+    // 1 and 2. Nothing is lent but the input, so that 3 cannot come.
+    Gate(GateError),
+    // 8
+    Unknown(UnknownOperator),
+}
+
+impl From<GateError> for OperatorError {
+    ghost from_gives = { λ e r. r ≡ Gate e };
+
+    fn from(e: GateError) -> OperatorError {
+        OperatorError::Gate(e)
+    }
+}
+
+impl From<UnknownOperator> for OperatorError {
+    ghost from_gives = { λ e r. r ≡ Unknown e };
+
+    fn from(e: UnknownOperator) -> OperatorError {
+        OperatorError::Unknown(e)
+    }
 }

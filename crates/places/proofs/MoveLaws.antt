@@ -9,11 +9,11 @@ use lib.ListN.{length, drop, get_or, set, length-set, length-drop}
 use lib.Seq.{set_split}
 use borrow.Author.Tests.{le-leb, lt-leb}
 use Rattle.lent.specs.Sizes.{limit, span_offset, span_length}
-use Rattle.lent.specs.Sources.{part, part_word}
+use Rattle.lent.specs.Sources.{Part, part, part_word}
 use Rattle.places.specs.Tables.{Rule}
 use Rattle.places.specs.Sites.{site_word}
-use Rattle.places.specs.Moves.{SiteWord, changed, last_changed, Resite}
-use Rattle.places.specs.Steps.{Stand, Sited, MovedWord, Stands, Paid, Sites, WordSites}
+use Rattle.places.specs.Moves.{SiteWord, changed, last_changed}
+use Rattle.places.specs.Steps.{Stand, Stands, Paid, Sites, WordSites}
 use Rattle.places.proofs.SiteLaws.{site_bounds}
 
 -- ---- a span word
@@ -23,14 +23,14 @@ unfolding span_offset span_length
 halves_low w = omega arith
 
 -- within the limit, so that its halves are words
-module _ {s : List ℕ} {k : ℕ} {rule : Rule} {first past : ℕ} {r : Sited} (fits : length s ≤ limit) (inside : k ≤ length s) (x : Sites s k rule first past r) where
-  pub sited_bounds : (r.part.first ≤ r.part.past) × (r.part.past ≤ limit)
+module _ {s : List ℕ} {k : ℕ} {rule : Rule} {first past : ℕ} {r : Stand} {site : Part} (fits : length s ≤ limit) (inside : k ≤ length s) (x : Sites s k rule first past r site) where
+  pub sited_bounds : (site.first ≤ site.past) × (site.past ≤ limit)
   sited_bounds =
       let b = site_bounds rule k (drop k s) (part first past) in
       let lo = b.order in let hi = b.high in
       rw x.site (lo, omega (arith, hi, length-drop k s, fits, inside))
 
-  pub word_is : (w : ℕ) → first ≡ span_offset w → past ≡ span_offset w + span_length w → part_word r.part ≡ site_word rule k (drop k s) w
+  pub word_is : (w : ℕ) → first ≡ span_offset w → past ≡ span_offset w + span_length w → part_word site ≡ site_word rule k (drop k s) w
   unfolding site_word
   word_is w e f = ap part_word x.site ∙ rw (e, f)
 
@@ -68,16 +68,16 @@ pub resiting_none : {s : List ℕ} {k : ℕ} {rule : Rule} {count width at : ℕ
 resiting_none x p = record { stands = x; paid = p; long = refl; few = omega arith; left = rw sub-zero }
 
 module _ {s : List ℕ} {k : ℕ} {rule : Rule} {count width at : ℕ} {old new : List ℕ} {w : Stand} {i n : ℕ} (x : Resiting s k rule count width at old new w i n) where
-  pub resited_on : {r : MovedWord} (last : ℕ) → last ≡ i + (width - 1) → n < count → 1 ≤ width → i + width ≤ length new → WordSites s k rule (get_or new last 0) r
-      → Resiting s k rule count width at old (set new last r.word) r.stand (i + width) (n + 1)
-  resited_on {r} last q h o l y =
+  pub resited_on : {r : Stand} {word : ℕ} (last : ℕ) → last ≡ i + (width - 1) → n < count → 1 ≤ width → i + width ≤ length new → WordSites s k rule (get_or new last 0) r word
+      → Resiting s k rule count width at old (set new last word) r (i + width) (n + 1)
+  resited_on {r} {word} last q h o l y =
       let f = site_word rule k (drop k s) in
       let e : count - n ≡ suc (count - (n + 1)) = omega arith in
-      let c : set new last r.word ≡ changed f new last = set_changed f new last r.word (omega arith) y.site in
+      let c : set new last word ≡ changed f new last = set_changed f new last word (omega arith) y.site in
       record {
         stands = y.stands;
         paid = y.paid;
-        long = length-set new last r.word ∙ x.long;
+        long = length-set new last word ∙ x.long;
         few = omega arith;
         left = ap (last_changed f width (count - (n + 1)) (i + width)) (c ∙ ap (changed f new) q) ∙ sym (changed_one f width (count - (n + 1)) i new l)
             ∙ ap (λ (m : ℕ). last_changed f width m i new) (sym e) ∙ x.left;
@@ -94,12 +94,6 @@ module _ {s : List ℕ} {k : ℕ} {rule : Rule} {count width at : ℕ} {old new 
 
 -- of one word
 module _ {s : List ℕ} {k : ℕ} {rule : Rule} {word : ℕ} where
-  pub word_long : limit < length s → SiteWord s k rule word word
-  word_long h = record { is = rw (lt-leb (length s) limit h) }
-
-  pub word_past : length s ≤ limit → length s < k → SiteWord s k rule word word
-  word_past h l = record { is = rw (le-leb (length s) limit h, lt-leb k (length s) l) }
-
   pub word_done : {r : ℕ} → length s ≤ limit → k ≤ length s → r ≡ site_word rule k (drop k s) word → SiteWord s k rule word r
   word_done h l e = record { is = rw (le-leb (length s) limit h, le-leb k (length s) l) e }
 
@@ -107,18 +101,3 @@ module _ {s : List ℕ} {k : ℕ} {rule : Rule} {word : ℕ} where
 pub only_word : (f : ℕ → ℕ) (word : ℕ) {words : List ℕ} → words ≡ last_changed f 1 1 0 (word ∷ []) → get_or words 0 0 ≡ f word
 unfolding last_changed
 only_word f word e = ap (λ (l : List ℕ). get_or l 0 0) e
-
--- of records
-module _ {s : List ℕ} {k : ℕ} {rule : Rule} {count width at : ℕ} {records : List ℕ} where
-  pub resite_long : limit < length s → Resite s k rule count width at records records
-  resite_long h = record { words = rw (lt-leb (length s) limit h) }
-
-  pub resite_past : length s ≤ limit → length s < k → Resite s k rule count width at records records
-  resite_past h l = record { words = rw (le-leb (length s) limit h, lt-leb k (length s) l) }
-
-  pub resite_none : length s ≤ limit → k ≤ length s → width < 1 → Resite s k rule count width at records records
-  resite_none h l o = record { words = rw (le-leb (length s) limit h, le-leb k (length s) l, lt-leb 1 width o) }
-
-  pub resite_done : {records' : List ℕ} → length s ≤ limit → k ≤ length s → 1 ≤ width → records' ≡ last_changed (site_word rule k (drop k s)) width count at records
-      → Resite s k rule count width at records records'
-  resite_done h l o e = record { words = rw (le-leb (length s) limit h, le-leb k (length s) l, le-leb 1 width o) e }

@@ -1,30 +1,15 @@
 -- Runs that a walk passes at once: an escaped line feed and the spaces behind it give nothing, by every rule that has a margin.
 use mathlib.Core.Path.{◌≡◌, ◌∙◌, refl, ap, subst}
-use mathlib.Core.Bool.{Bool, true, false}
 use mathlib.Core.List.{List, ◌∷◌}
-use Prim.Native.Nat.{ℕ, ◌+◌, ◌-◌, ◌≤◌, ◌<◌}
+use Prim.Native.Nat.{ℕ, ◌+◌, ◌-◌, ◌<◌}
 use native.Mathlib.Omega.{arith}
-use lib.ListN.{length, drop, get_or}
-use lib.Dec.{ltb}
-use borrow.Author.Tests.{ltb-true, ltb-false}
+use lib.ListN.{drop, get_or}
 use Rattle.ascii.specs.Classes.{white}
 use Rattle.ascii.proofs.ListLaws.{next_byte}
-use Rattle.places.specs.Scans.{Mode, plain, escaped, margin, pass}
+use Rattle.places.specs.Scans.{plain, escaped, margin, pass}
 use Rattle.places.specs.Tables.{Rule, Joined, Quoted, joining, stays, stays_next, quoting_by, line_next, act}
 use Rattle.places.specs.Steps.{Stand, Stands, Spaces, Feed, Continued, Blank, Blanks, skip_by}
 use Rattle.places.proofs.WalkLaws.{passed, skip_stands}
-
--- ---- spaces
-
-pub no_space : {s : List ℕ} {place : ℕ} → place ≤ length s → Spaces s place (place - place)
-no_space h = record { inside = omega arith; all = λ i l. absurd (omega arith) }
-
-pub one_space : {s : List ℕ} {place i : ℕ} → place ≤ i → i < length s → get_or s i 0 ≡ 32 → Spaces s place (i - place) → Spaces s place (i + 1 - place)
-one_space {s} {place} {i} h l e x = record { inside = omega arith; all = λ j k. go j k (ltb j (i - place)) refl }
-  where
-    go : (j : ℕ) → j < i + 1 - place → (t : Bool) → ltb j (i - place) ≡ t → get_or s (place + j) 0 ≡ 32
-    go j k true f = x.all j (ltb-true j (i - place) f)
-    go j k false f = let g = ltb-false j (i - place) f in let q : place + j ≡ i = omega (arith, g, k, h) in rw q e
 
 -- ---- what a margin asks of a rule
 
@@ -68,25 +53,8 @@ module _ {rule : Rule} (g : Margined rule) {s : List ℕ} where
           subst (λ (p : ℕ). Stands rule s k (record { count = w.count; place = p; mode = margin; first = w.first; last = w.last })) e
           (skip_stands rule s k v o refl f.more (omega (arith, q, p)) a)
 
-pub no_blank : {rule : Rule} {s : List ℕ} {m : Mode} {place : ℕ} → place < length s → Blank rule s m place 0
-no_blank h = record { inside = omega arith; skips = λ z. absurd (omega arith) }
-
-pub no_blanks : {s : List ℕ} {m : Mode} {place : ℕ} → place < length s → Blanks s m place 0
-no_blanks h = (no_blank h, no_blank h)
-
 pub spaces_blank : {s : List ℕ} {place r : ℕ} → Spaces s place r → Blanks s margin place r
 spaces_blank x = (spaces_skip joined x, spaces_skip quoted x)
 
 pub feed_blank : {s : List ℕ} {place r : ℕ} → Continued s place r → Blanks s plain place r
 feed_blank x = (feed_skip joined x, feed_skip quoted x)
-
--- ---- an escaped line feed
-
-pub no_feed : {s : List ℕ} {place : ℕ} → place < length s → Continued s place 0
-no_feed h = record { inside = omega arith; feed = λ z. absurd (omega arith) }
-
-pub one_feed : {s : List ℕ} {place n : ℕ} → get_or s place 0 ≡ 92 → get_or s (place + 1) 0 ≡ 10 → Spaces s (place + 1 + 1) n → Continued s place (2 + n)
-one_feed {s} {place} {n} a b x = record {
-  inside = omega (arith, x.inside);
-  feed = λ z. let e : place + 1 + 1 ≡ place + 2 = omega arith in record { more = n; all = refl; slash = a; feed = b; spaces = subst (λ (p : ℕ). Spaces s p n) e x };
-}

@@ -8,7 +8,7 @@ use native.Mathlib.Omega.{arith}
 use lib.ListN.{length, take, drop, get_or, length-drop, drop_of_length-le}
 use lib.Seq.{take_all, get_or-take, get_or-drop, length-take-le}
 use lib.Dec.{eqb, ltb, leb}
-use borrow.Author.Tests.{ne_eqb, eqb-true, eqb-false, lt-ltb, le-ltb, leb-true, leb-false, ltb-true, ltb-false}
+use borrow.Author.Tests.{ne_eqb, eqb-true, eqb-false, lt-ltb, le-ltb, leb-true, leb-false, ltb-true}
 use Rattle.ascii.specs.Choice.{pick}
 use Rattle.ascii.specs.Classes.{white}
 use Rattle.ascii.specs.Trim.{leading}
@@ -21,7 +21,7 @@ use Rattle.places.specs.Scans.{Mode, plain, margin, Act, pass, keep, turn, scan_
 use Rattle.places.specs.Tables.{Rule, Joined, Word, Quoted, joining, wording, quoting_by, act}
 use Rattle.places.specs.Sites.{cells_of, behind, site_in}
 use Rattle.places.specs.Moves.{Site}
-use Rattle.places.specs.Steps.{Step, Pass, Keep, Turn, Stand, Found, step_of, begun, Stands, Paid, Plain, Onward, CameFrom, Moved, Reached, Sites, wanted, Begins, Blank, skip_by}
+use Rattle.places.specs.Steps.{Step, Pass, Keep, Turn, Stand, step_of, begun, Stands, Paid, Plain, Onward, CameFrom, Moved, Reached, Sites, wanted, Begins, Blank, skip_by}
 
 -- ---- a list of cells at a place
 
@@ -203,8 +203,13 @@ module _ (rule : Rule) (s : List ℕ) (k : ℕ) where
 -- ---- what the code's functions promise
 
 module _ (rule : Rule) (s : List ℕ) (w : Stand) (h : w.place < length s) (p : Paid w) where
-  pub onward_as : {a : Step} (b : Step) → a ≡ step_of (act rule w.mode (get_or s w.place 0) (drop (w.place + 1) s)) → a ≡ b → Onward rule s w (next_by b w)
-  onward_as b e f = go b (λ k x. subst (λ (a : Step). Stands rule s k (next_by a w)) (sym e ∙ f) (next_stands rule s k w x h))
+  -- what follows the byte, as the code cuts it
+  rest_is : take (length s - (w.place + 1)) (drop (w.place + 1) s) ≡ drop (w.place + 1) s
+  rest_is = take_all _ _ (omega (arith, length-drop (w.place + 1) s))
+
+  pub onward_as : {a : Step} (b : Step) → a ≡ step_of (act rule w.mode (get_or s w.place 0) (take (length s - (w.place + 1)) (drop (w.place + 1) s))) → a ≡ b
+      → Onward rule s w (next_by b w)
+  onward_as b e f = go b (λ k x. subst (λ (a : Step). Stands rule s k (next_by a w)) (sym (rw rest_is at e) ∙ f) (next_stands rule s k w x h))
     where
       go : (b : Step) → ((k : ℕ) → Stands rule s k w → Stands rule s k (next_by b w)) → Onward rule s w (next_by b w)
       go (Pass m) g = record { stands = g; paid = omega arith; onward = omega arith; few = omega arith }
@@ -283,63 +288,40 @@ pub record Reaching (rule : Rule) (s : List ℕ) (w : Stand) (stop n noted : ℕ
   pub few : r.count ≤ n
   pub note : (k : ℕ) → Stands rule s k w → 0 < stop → stop ≤ r.count → CameFrom rule s k stop noted
 
-module _ {rule : Rule} {s : List ℕ} {w : Stand} {stop n : ℕ} where
-  pub reaching_from : Paid w → w.count ≤ stop → w.count ≤ n → Reaching rule s w stop n w.first w
-  reaching_from p a b = record {
-    stands = λ k x. x;
-    paid = p;
-    few = b;
-    note = λ k x z l d. let e : stop ≡ w.count = omega (arith, a, l) in rw e (x.starts d (omega (arith, z, l, a)));
-  }
-
-  pub reaching_on : {noted : ℕ} {at r : Stand} → Reaching rule s w stop n noted at → Moved rule s at n r
-      → Reaching rule s w stop n (pick (leb stop at.count) noted (pick (ltb r.count stop) noted (r.first - (r.count - stop)))) r
-  reaching_on {noted} {at} {r} x y = record {
-    stands = λ k z. y.stands k (x.stands k z);
-    paid = y.paid;
-    few = y.few;
-    note = λ k z o l. go (leb stop at.count) refl (ltb r.count stop) refl k z o l;
-  }
-    where
-      go : (t : Bool) → leb stop at.count ≡ t → (u : Bool) → ltb r.count stop ≡ u → (k : ℕ) → Stands rule s k w → 0 < stop → stop ≤ r.count
-          → CameFrom rule s k stop (pick t noted (pick u noted (r.first - (r.count - stop))))
-      go true e u f k z o l = x.note k z o (leb-true stop at.count e)
-      go false e true f k z o l = absurd (omega (arith, l, ltb-true r.count stop f))
-      go false e false f k z o l = y.each k (x.stands k z) stop (leb-false stop at.count e) l
-
-  pub reached : {noted : ℕ} {at : Stand} → Reaching rule s w stop n noted at → (at.count < n → length s ≤ at.place) → Reached rule s w stop n (record { stand = at; noted = noted })
-  reached x e = record { stands = x.stands; paid = x.paid; few = x.few; ended = e; note = x.note }
-
--- the walk that a part is sought from
-pub resumed_stands : (rule : Rule) (s : List ℕ) (k : ℕ) (w : Stand) (n : ℕ) → Stands rule s k w → Paid w
-    → let r = pick (ltb n w.count) (begun k) w in Stands rule s k r × Paid r × (r.count ≤ n)
-resumed_stands rule s k w n x p = go (ltb n w.count) refl
+-- and goes on keeping
+pub reaching_on : {rule : Rule} {s : List ℕ} {w : Stand} {stop n noted : ℕ} {at r : Stand} → Reaching rule s w stop n noted at → Moved rule s at n r
+    → Reaching rule s w stop n (pick (leb stop at.count) noted (pick (ltb r.count stop) noted (r.first - (r.count - stop)))) r
+reaching_on {rule} {s} {w} {stop} {n} {noted} {at} {r} x y = record {
+  stands = λ k z. y.stands k (x.stands k z);
+  paid = y.paid;
+  few = y.few;
+  note = λ k z o l. go (leb stop at.count) refl (ltb r.count stop) refl k z o l;
+}
   where
-    go : (t : Bool) → ltb n w.count ≡ t → let r = pick t (begun k) w in Stands rule s k r × Paid r × (r.count ≤ n)
-    go true e = (begun_stands rule s k, omega arith, omega arith)
-    go false e = (x, p, ltb-false n w.count e)
+    go : (t : Bool) → leb stop at.count ≡ t → (u : Bool) → ltb r.count stop ≡ u → (k : ℕ) → Stands rule s k w → 0 < stop → stop ≤ r.count
+        → CameFrom rule s k stop (pick t noted (pick u noted (r.first - (r.count - stop))))
+    go true e u f k z o l = x.note k z o (leb-true stop at.count e)
+    go false e true f k z o l = absurd (omega (arith, l, ltb-true r.count stop f))
+    go false e false f k z o l = y.each k (x.stands k z) stop (leb-false stop at.count e) l
 
-pub wanted_fits : (first past : ℕ) → wanted first past ≤ past
-wanted_fits first past = go (ltb first past) refl
-  where
-    go : (t : Bool) → ltb first past ≡ t → pick t (first + 1) past ≤ past
-    go true e = let l = ltb-true first past e in omega arith
-    go false e = omega arith
+-- a walk at the start
+pub start_stands : (rule : Rule) (s : List ℕ) (k : ℕ) {w : Stand} → w ≡ begun k → Stands rule s k w × Paid w
+start_stands rule s k e = rw e (begun_stands rule s k, omega arith)
 
 -- a walk from `from` up to the part's last byte, with a note of its first
-module _ {rule : Rule} {s : List ℕ} {k : ℕ} (first past : ℕ) {stop : ℕ} {from : Stand} {r : Found} (o : Stands rule s k from) (w : stop ≡ wanted first past)
-    (x : Reached rule s from stop past r) where
-  abbrev stands : Stands rule s k r.stand
+module _ {rule : Rule} {s : List ℕ} {k : ℕ} (first past : ℕ) {stop : ℕ} {from r : Stand} {noted : ℕ} (o : Stands rule s k from) (w : stop ≡ wanted first past)
+    (x : Reached rule s from stop past r noted) where
+  abbrev stands : Stands rule s k r
   stands = x.stands k o
 
-  pub sites_full : first < past → first < r.stand.count → Sites s k rule first past (record { part = part r.noted r.stand.last; stand = r.stand })
+  pub sites_full : first < past → first < r.count → Sites s k rule first past r (part noted r.last)
   sites_full h e =
       let f : stop ≡ first + 1 = w ∙ rw (lt-ltb first past h) in
-      let g : CameFrom rule s k (first + 1) r.noted = subst (λ (j : ℕ). CameFrom rule s k j r.noted) f (x.note k o (omega (arith, f)) (omega (arith, f, e))) in
-      record { site = site_full rule s k first past r.stand stands x.few x.ended r.noted h g; stands = stands; paid = x.paid }
+      let g : CameFrom rule s k (first + 1) noted = subst (λ (j : ℕ). CameFrom rule s k j noted) f (x.note k o (omega (arith, f)) (omega (arith, f, e))) in
+      record { site = site_full rule s k first past r stands x.few x.ended noted h g; stands = stands; paid = x.paid }
 
-  pub sites_none : first < past → r.stand.count ≤ first → Sites s k rule first past (record { part = part r.stand.last r.stand.last; stand = r.stand })
-  sites_none h e = record { site = site_none rule s k first past r.stand stands x.few x.ended h e; stands = stands; paid = x.paid }
+  pub sites_none : first < past → r.count ≤ first → Sites s k rule first past r (part r.last r.last)
+  sites_none h e = record { site = site_none rule s k first past r stands x.few x.ended h e; stands = stands; paid = x.paid }
 
-  pub sites_empty : past ≤ first → Sites s k rule first past (record { part = part r.stand.last r.stand.last; stand = r.stand })
-  sites_empty h = record { site = site_empty rule s k first past r.stand stands x.few x.ended h; stands = stands; paid = x.paid }
+  pub sites_empty : past ≤ first → Sites s k rule first past r (part r.last r.last)
+  sites_empty h = record { site = site_empty rule s k first past r stands x.few x.ended h; stands = stands; paid = x.paid }

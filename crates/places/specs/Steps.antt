@@ -1,6 +1,7 @@
 -- What the code does with a table: a step of it, and where a walk along the source stands.
 use Rattle.std.specs.Prelude.{◌≡◌, ℕ, ◌+◌, ◌-◌, ◌≤◌, ◌<◌, Bool, true, List, length, drop, get_or, ltb}
 use Rattle.ascii.specs.Choice.{pick}
+use Rattle.lent.specs.Sources.{Part}
 use Rattle.places.specs.Cells.{first_of}
 use Rattle.places.specs.Scans.{Mode, Act, pass, keep, turn, plain, margin, scan}
 use Rattle.places.specs.Tables.{Rule, Joined, Quoted, act}
@@ -9,9 +10,6 @@ use Rattle.places.specs.Moves.{Site, last_changed}
 pub use Rattle.places.specs.declared.acting.Step.{Step}
 pub use Rattle.places.specs.declared.acting.Step.TheVariants.{Pass, Keep, Turn}
 pub use Rattle.places.specs.declared.walking.Stand.{Stand}
-pub use Rattle.places.specs.declared.walking.Found.{Found}
-pub use Rattle.places.specs.declared.walking.Sited.{Sited}
-pub use Rattle.places.specs.declared.moving.Moved.{Moved as MovedWord}
 
 -- What a byte does, without the byte that it gives.
 abbrev pub step_of : Act → Step
@@ -97,29 +95,31 @@ pub record Moved (rule : Rule) (s : List ℕ) (w : Stand) (n : ℕ) (r : Stand) 
   pub each : (k : ℕ) → Stands rule s k w → (j : ℕ) → w.count < j → j ≤ r.count → CameFrom rule s k j (r.first - (r.count - j))
 
 -- Up to n bytes of the text, or the end of the source, with a note of the byte that was passed with `stop` of them.
-pub record Reached (rule : Rule) (s : List ℕ) (w : Stand) (stop n : ℕ) (r : Found) : Type 0 where
-  pub stands : (k : ℕ) → Stands rule s k w → Stands rule s k r.stand
-  pub paid : Paid r.stand
-  pub few : r.stand.count ≤ n
-  pub ended : r.stand.count < n → length s ≤ r.stand.place
-  pub note : (k : ℕ) → Stands rule s k w → 0 < stop → stop ≤ r.stand.count → CameFrom rule s k stop r.noted
+pub record Reached (rule : Rule) (s : List ℕ) (w : Stand) (stop n : ℕ) (r : Stand) (noted : ℕ) : Type 0 where
+  pub stands : (k : ℕ) → Stands rule s k w → Stands rule s k r
+  pub paid : Paid r
+  pub few : r.count ≤ n
+  pub ended : r.count < n → length s ≤ r.place
+  pub note : (k : ℕ) → Stands rule s k w → 0 < stop → stop ≤ r.count → CameFrom rule s k stop noted
 
 -- ---- a part
 
 abbrev pub wanted : ℕ → ℕ → ℕ
 wanted first past = pick (ltb first past) (first + 1) past
 
-pub record Sites (s : List ℕ) (k : ℕ) (rule : Rule) (first past : ℕ) (r : Sited) : Type 0 where
-  pub site : Site s k rule first past r.part
-  pub stands : Stands rule s k r.stand
-  pub paid : Paid r.stand
+-- found by a walk that stands at r then
+pub record Sites (s : List ℕ) (k : ℕ) (rule : Rule) (first past : ℕ) (r : Stand) (x : Part) : Type 0 where
+  pub site : Site s k rule first past x
+  pub stands : Stands rule s k r
+  pub paid : Paid r
 
 -- ---- records
 
-pub record WordSites (s : List ℕ) (k : ℕ) (rule : Rule) (word : ℕ) (r : MovedWord) : Type 0 where
-  pub site : r.word ≡ site_word rule k (drop k s) word
-  pub stands : Stands rule s k r.stand
-  pub paid : Paid r.stand
+-- a word in its place, found by a walk that stands at r then
+pub record WordSites (s : List ℕ) (k : ℕ) (rule : Rule) (word : ℕ) (r : Stand) (word' : ℕ) : Type 0 where
+  pub site : word' ≡ site_word rule k (drop k s) word
+  pub stands : Stands rule s k r
+  pub paid : Paid r
 
 abbrev pub WordsSited : List ℕ → ℕ → Rule → ℕ → ℕ → ℕ → List ℕ → List ℕ → Type 0
 WordsSited s k rule count width at records records' = records' ≡ last_changed (site_word rule k (drop k s)) width count at records

@@ -1,6 +1,6 @@
 // What a byte does to the text that is read, by rule and mode: the tables of specs/Tables, without the byte that it gives.
-ghost use Rattle.std.specs.Prelude.{◌≡◌, false, [], ◌+◌, ◌<◌, length, drop, get_or};
-ghost use Rattle.lexer.specs.Rules.{feed_next, line_end};
+ghost use Rattle.std.specs.Prelude.{◌≡◌, false, []};
+ghost use Rattle.lexer.specs.Rules.{line_end};
 ghost use Rattle.places.specs.Tables.{line_next, plain_join, margin_join, joining, plain_word, wording, stays, stays_next, plain_quote, margin_quote, quoting_by, act};
 ghost use Rattle.places.specs.Steps.{step_of};
 
@@ -25,206 +25,154 @@ pub enum Step {
     Turn(Mode),
 }
 
-// Whether LF or CR stands at a place.
-fn line_next(s: &[u8], at: usize) -> bool
-    ensures { result ≡ line_next (drop at s.now) }
+// Whether LF or CR comes next.
+#[tactic(auto, unfolding(crate::specs::Tables::line_next))]
+fn line_next(rest: &[u8]) -> bool
+    ensures { result ≡ line_next rest.now }
 {
-    if s.len() <= at {
-        return false;
-    }
-    match s[at] {
-        10 => true,
-        13 => true,
-        _ => false,
-    }
+    matches!(rest, [b'\n' | b'\r', ..])
 }
 
-fn plain_join(s: &[u8], at: usize) -> Step
-    requires { at < length s.now }
-    ensures { result ≡ step_of (plain_join (get_or s.now at 0) (drop (at + 1) s.now)) }
+fn plain_join(b: u8, rest: &[u8]) -> Step
+    ensures { result ≡ step_of (plain_join b rest.now) }
 {
-    if s[at] != 92 {
-        return Step::Keep(Mode::Plain);
-    }
-    if line_next(s, at + 1) {
+    if b == b'\\' && line_next(rest) {
         return Step::Pass(Mode::Escaped);
     }
     Step::Keep(Mode::Plain)
 }
 
-fn margin_join(s: &[u8], at: usize) -> Step
-    requires { at < length s.now }
-    ensures { result ≡ step_of (margin_join (get_or s.now at 0) (drop (at + 1) s.now)) }
+#[tactic(auto, unfolding(ascii::specs::Classes::white))]
+fn margin_join(b: u8, rest: &[u8]) -> Step
+    ensures { result ≡ step_of (margin_join b rest.now) }
 {
-    match s[at] {
-        9 => Step::Pass(Mode::Margin),
-        11..=13 => Step::Pass(Mode::Margin),
-        32 => Step::Pass(Mode::Margin),
-        _ => plain_join(s, at),
+    match b {
+        b'\t' | 11..=13 | b' ' => Step::Pass(Mode::Margin),
+        _ => plain_join(b, rest),
     }
 }
 
 // Line continuations taken out.
-fn join_act(mode: Mode, s: &[u8], at: usize) -> Step
-    requires { at < length s.now }
-    ensures { result ≡ step_of (joining mode (get_or s.now at 0) (drop (at + 1) s.now)) }
+#[tactic(auto, unfolding(crate::specs::Tables::joining))]
+fn join_act(mode: Mode, b: u8, rest: &[u8]) -> Step
+    ensures { result ≡ step_of (joining mode b rest.now) }
 {
     match mode {
-        Mode::Plain => plain_join(s, at),
-        Mode::Escaped => {
-            if s[at] == 10 {
-                return Step::Pass(Mode::Margin);
-            }
-            Step::Pass(Mode::AfterCr)
-        }
-        Mode::Stayed => plain_join(s, at),
-        Mode::AfterCr => {
-            if s[at] == 10 {
-                return Step::Pass(Mode::Margin);
-            }
-            margin_join(s, at)
-        }
-        Mode::Margin => margin_join(s, at),
+        Mode::Plain | Mode::Stayed => plain_join(b, rest),
+        Mode::Escaped | Mode::AfterCr if b == b'\n' => Step::Pass(Mode::Margin),
+        Mode::Escaped => Step::Pass(Mode::AfterCr),
+        Mode::AfterCr | Mode::Margin => margin_join(b, rest),
     }
 }
 
-// Behind a CR, how many bytes a line end has with a line feed at a place.
-fn feed_next(s: &[u8], at: usize) -> usize
-    ensures { result ≡ feed_next (drop at s.now) }
+// How many bytes of a line end come next: LF, or CR LF.
+#[tactic(auto, unfolding(lexer::specs::Rules::line_end, lexer::specs::Rules::feed_next))]
+fn line_end(rest: &[u8]) -> usize
+    ensures { result ≡ line_end rest.now }
 {
-    if s.len() <= at {
-        return 0;
-    }
-    if s[at] == 10 { 2 } else { 0 }
-}
-
-// How many bytes of a line end stand at a place: LF, or CR LF.
-fn line_end(s: &[u8], at: usize) -> usize
-    ensures { result ≡ line_end (drop at s.now) }
-{
-    if s.len() <= at {
-        return 0;
-    }
-    match s[at] {
-        10 => 1,
-        13 => feed_next(s, at + 1),
+    match rest {
+        [b'\n', ..] => 1,
+        [b'\r', b'\n', ..] => 2,
         _ => 0,
     }
 }
 
-fn plain_word(s: &[u8], at: usize) -> Step
-    requires { at < length s.now }
-    ensures { result ≡ step_of (plain_word (get_or s.now at 0) (drop (at + 1) s.now)) }
+fn plain_word(b: u8, rest: &[u8]) -> Step
+    ensures { result ≡ step_of (plain_word b rest.now) }
 {
-    if s[at] == 92 {
-        let owed = line_end(s, at + 1);
-        if owed == 0 {
-            return Step::Keep(Mode::Plain);
-        }
-        if owed == 1 {
-            return Step::Pass(Mode::AfterCr);
-        }
-        return Step::Pass(Mode::Escaped);
+    if b != b'\\' {
+        return Step::Keep(Mode::Plain);
     }
-    Step::Keep(Mode::Plain)
+    match line_end(rest) {
+        0 => Step::Keep(Mode::Plain),
+        1 => Step::Pass(Mode::AfterCr),
+        _ => Step::Pass(Mode::Escaped),
+    }
 }
 
 // A word.
-fn word_act(mode: Mode, s: &[u8], at: usize) -> Step
-    requires { at < length s.now }
-    ensures { result ≡ step_of (wording mode (get_or s.now at 0) (drop (at + 1) s.now)) }
+#[tactic(auto, unfolding(crate::specs::Tables::wording))]
+fn word_act(mode: Mode, b: u8, rest: &[u8]) -> Step
+    ensures { result ≡ step_of (wording mode b rest.now) }
 {
     match mode {
-        Mode::Plain => plain_word(s, at),
+        Mode::Plain | Mode::Stayed | Mode::Margin => plain_word(b, rest),
         Mode::Escaped => Step::Pass(Mode::AfterCr),
-        Mode::Stayed => plain_word(s, at),
         Mode::AfterCr => Step::Pass(Mode::Plain),
-        Mode::Margin => plain_word(s, at),
     }
 }
 
 // Whether an escape of this byte keeps its backslash.
+#[tactic(auto, unfolding(crate::specs::Tables::stays, lexer::specs::Rules::unescaped))]
 fn stays_before(b: u8) -> bool
     ensures { result ≡ stays b }
 {
+    !matches!(b, b'\n' | b'\r' | b'"' | b'\'' | b'\\' | b'n' | b'r' | b't')
+}
+
+#[tactic(auto, unfolding(crate::specs::Tables::stays_next))]
+fn stays_next(rest: &[u8]) -> bool
+    ensures { result ≡ stays_next false rest.now }
+{
+    match rest {
+        [b, ..] => stays_before(*b),
+        [] => false,
+    }
+}
+
+fn plain_quote(b: u8, rest: &[u8]) -> Step
+    ensures { result ≡ step_of (plain_quote false b rest.now) }
+{
+    if b != b'\\' {
+        return Step::Keep(Mode::Plain);
+    }
+    if stays_next(rest) {
+        return Step::Keep(Mode::Stayed);
+    }
+    Step::Pass(Mode::Escaped)
+}
+
+fn margin_quote(b: u8, rest: &[u8]) -> Step
+    ensures { result ≡ step_of (margin_quote false b rest.now) }
+{
     match b {
-        10 | 13 => false,
-        34 | 39 | 92 => false,
-        110 | 114 | 116 => false,
-        _ => true,
+        b'\t' | b' ' => Step::Pass(Mode::Margin),
+        _ => plain_quote(b, rest),
     }
 }
 
-fn stays_next(s: &[u8], at: usize) -> bool
-    ensures { result ≡ stays_next false (drop at s.now) }
-{
-    if s.len() <= at {
-        return false;
-    }
-    stays_before(s[at])
-}
-
-fn plain_quote(s: &[u8], at: usize) -> Step
-    requires { at < length s.now }
-    ensures { result ≡ step_of (plain_quote false (get_or s.now at 0) (drop (at + 1) s.now)) }
-{
-    if s[at] == 92 {
-        if stays_next(s, at + 1) {
-            return Step::Keep(Mode::Stayed);
-        }
-        return Step::Pass(Mode::Escaped);
-    }
-    Step::Keep(Mode::Plain)
-}
-
-fn margin_quote(s: &[u8], at: usize) -> Step
-    requires { at < length s.now }
-    ensures { result ≡ step_of (margin_quote false (get_or s.now at 0) (drop (at + 1) s.now)) }
-{
-    match s[at] {
-        9 => Step::Pass(Mode::Margin),
-        32 => Step::Pass(Mode::Margin),
-        _ => plain_quote(s, at),
-    }
-}
-
+#[tactic(auto, unfolding(crate::specs::Tables::quoting_by))]
 fn escaped_quote(b: u8) -> Step
     ensures { result ≡ step_of (quoting_by false Mode.Escaped b []) }
 {
     match b {
-        10 => Step::Pass(Mode::Margin),
-        13 => Step::Pass(Mode::AfterCr),
+        b'\n' => Step::Pass(Mode::Margin),
+        b'\r' => Step::Pass(Mode::AfterCr),
         _ => Step::Turn(Mode::Plain),
     }
 }
 
 // A quoted text.
-fn quote_act(mode: Mode, s: &[u8], at: usize) -> Step
-    requires { at < length s.now }
-    ensures { result ≡ step_of (quoting_by false mode (get_or s.now at 0) (drop (at + 1) s.now)) }
+#[tactic(auto, unfolding(crate::specs::Tables::quoting_by))]
+fn quote_act(mode: Mode, b: u8, rest: &[u8]) -> Step
+    ensures { result ≡ step_of (quoting_by false mode b rest.now) }
 {
     match mode {
-        Mode::Plain => plain_quote(s, at),
-        Mode::Escaped => escaped_quote(s[at]),
+        Mode::Plain => plain_quote(b, rest),
+        Mode::Escaped => escaped_quote(b),
         Mode::Stayed => Step::Keep(Mode::Plain),
-        Mode::AfterCr => {
-            if s[at] == 10 {
-                return Step::Pass(Mode::Margin);
-            }
-            margin_quote(s, at)
-        }
-        Mode::Margin => margin_quote(s, at),
+        Mode::AfterCr if b == b'\n' => Step::Pass(Mode::Margin),
+        Mode::AfterCr | Mode::Margin => margin_quote(b, rest),
     }
 }
 
-// What the byte at a place does.
-pub fn act_of(rule: Rule, mode: Mode, s: &[u8], at: usize) -> Step
-    requires { at < length s.now }
-    ensures { result ≡ step_of (act rule mode (get_or s.now at 0) (drop (at + 1) s.now)) }
+// What a byte does, by what follows it.
+pub fn act_of(rule: Rule, mode: Mode, b: u8, rest: &[u8]) -> Step
+    ensures { result ≡ step_of (act rule mode b rest.now) }
 {
     match rule {
-        Rule::Joined => join_act(mode, s, at),
-        Rule::Word => word_act(mode, s, at),
-        Rule::Quoted => quote_act(mode, s, at),
+        Rule::Joined => join_act(mode, b, rest),
+        Rule::Word => word_act(mode, b, rest),
+        Rule::Quoted => quote_act(mode, b, rest),
     }
 }

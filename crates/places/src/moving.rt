@@ -7,29 +7,19 @@ ghost use Rattle.places.specs.Steps.{Stands, Paid, WordSites, WordsSited};
 use crate::Rule;
 use crate::walking::{Stand, site_from, start};
 
-// A span word put in its place, and where the walk stands that found it.
-#[derive(Clone, Copy)]
-struct Moved {
-    word: u64,
-    stand: Stand,
-}
-
-fn word_site(s: &[u8], k: usize, rule: Rule, w: Stand, word: u64) -> Moved
-    requires { (length s.now ≤ limit) × (k ≤ length s.now) × Stands rule s.now k w × Paid w }
-    ensures { WordSites s.now k rule word result }
+// A span word put in its place, by a walk that stands anywhere.
+fn word_site(s: &[u8], k: usize, rule: Rule, w: &mut Stand, word: u64) -> u64
+    requires { (length s.now ≤ limit) × (k ≤ length s.now) × Stands rule s.now k w.old × Paid w.old }
+    ensures { WordSites s.now k rule word w.new result }
 {
     let first = lent::span_offset(word) as usize;
     let past = first + lent::span_length(word) as usize;
-    let found = site_from(s, k, rule, w, first, past);
-    let part = found.part;
-    let stand = found.stand;
-    Moved {
-        word: lent::span(part.first as u32, (part.past - part.first) as u32),
-        stand,
-    }
+    let part = site_from(s, k, rule, w, first, past);
+    lent::span(part.first as u32, (part.past - part.first) as u32)
 }
 
-// The last words of `count` records from a place on, up to the first record that is not there whole.
+// The last words of `count` records from a place on, up to the first record that is not there whole. By places: chunks of the records
+// behind `at` would need both bounds tested first, and are no plainer.
 fn words_sited(
     s: &[u8],
     k: usize,
@@ -44,20 +34,13 @@ fn words_sited(
 {
     let mut w = start(k);
     let mut i = at;
-    let mut n = 0;
-    while n < count {
-        if records.len() < i {
-            return;
-        }
-        if records.len() - i < width {
+    for _ in 0..count {
+        if records.len() < i || records.len() - i < width {
             return;
         }
         let last = i + (width - 1);
-        let moved = word_site(s, k, rule, w, records[last]);
-        w = moved.stand;
-        records[last] = moved.word;
+        records[last] = word_site(s, k, rule, &mut w, records[last]);
         i += width;
-        n += 1;
     }
 }
 
@@ -65,10 +48,7 @@ fn words_sited(
 pub fn site_word(s: &[u8], k: usize, rule: Rule, word: u64) -> u64
     ensures { SiteWord s.now k rule word result }
 {
-    if lent::LIMIT < s.len() {
-        return word;
-    }
-    if s.len() < k {
+    if lent::LIMIT < s.len() || s.len() < k {
         return word;
     }
     let mut only = [word];
@@ -88,13 +68,7 @@ pub fn resite(
 )
     ensures { Resite s.now k rule count width at records.old records.new }
 {
-    if lent::LIMIT < s.len() {
-        return;
-    }
-    if s.len() < k {
-        return;
-    }
-    if width < 1 {
+    if lent::LIMIT < s.len() || s.len() < k || width < 1 {
         return;
     }
     words_sited(s, k, rule, records, at, count, width);

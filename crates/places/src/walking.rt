@@ -19,20 +19,6 @@ pub struct Stand {
     pub last: usize,
 }
 
-// Where a walk stands, and where the byte came from that it was to note on its way.
-#[derive(Clone, Copy)]
-pub struct Found {
-    pub stand: Stand,
-    pub noted: usize,
-}
-
-// A part's place in the input, and where the walk stands that found it.
-#[derive(Clone, Copy)]
-pub struct Sited {
-    pub part: Part,
-    pub stand: Stand,
-}
-
 pub fn start(k: usize) -> Stand
     ensures { result ≡ begun k }
 {
@@ -45,41 +31,31 @@ pub fn start(k: usize) -> Stand
     }
 }
 
-// The place before.
-fn before(place: usize) -> usize
-    ensures { result ≡ place - 1 }
-{
-    if place == 0 { 0 } else { place - 1 }
-}
-
 // One byte of the source more.
 fn stepped(s: &[u8], rule: Rule, w: Stand) -> Stand
     requires { (w.place < length s.now) × Paid w }
     ensures { Onward rule s.now w result }
 {
     let place = w.place;
-    let mode = w.mode;
     let next = place + 1;
-    match act_of(rule, mode, s, place) {
-        Step::Pass(m) => Stand {
-            count: w.count,
+    match act_of(rule, w.mode, s[place], &s[next..]) {
+        Step::Pass(mode) => Stand {
             place: next,
-            mode: m,
-            first: w.first,
-            last: w.last,
+            mode,
+            ..w
         },
-        Step::Keep(m) => Stand {
+        Step::Keep(mode) => Stand {
             count: w.count + 1,
             place: next,
-            mode: m,
+            mode,
             first: place,
             last: next,
         },
-        Step::Turn(m) => Stand {
+        Step::Turn(mode) => Stand {
             count: w.count + 1,
             place: next,
-            mode: m,
-            first: before(place),
+            mode,
+            first: place.saturating_sub(1),
             last: next,
         },
     }
@@ -95,11 +71,9 @@ fn moved(s: &[u8], rule: Rule, w: Stand, n: usize) -> Stand
     let blank = blank_run(s, rule, mode, place);
     if 0 < blank {
         return Stand {
-            count: w.count,
             place: place + blank,
             mode: Mode::Margin,
-            first: w.first,
-            last: w.last,
+            ..w
         };
     }
     if begins(mode, s[place]) {
@@ -123,31 +97,25 @@ fn noted_by(noted: usize, stop: usize, passed: usize, next: Stand) -> usize
     requires { next.count ≤ passed + 1 + next.first }
     ensures { result ≡ pick (leb stop passed) noted (pick (ltb next.count stop) noted (next.first - (next.count - stop))) }
 {
-    if stop <= passed {
-        return noted;
-    }
-    if next.count < stop {
+    if stop <= passed || next.count < stop {
         return noted;
     }
     next.first - (next.count - stop)
 }
 
-// On until n bytes of the text are passed, or the source ends, with a note of the one that is passed with `stop` of them.
-fn pass_to(s: &[u8], rule: Rule, w: Stand, stop: usize, n: usize) -> Found
-    requires { Paid w × (w.count ≤ stop) × (w.count ≤ n) }
-    ensures { Reached rule s.now w stop n result }
+// On until n bytes of the text are passed, or the source ends; says where the one came from that is passed with `stop` of them.
+#[tactic(auto, using(crate::proofs::WalkLaws::reaching_on))]
+fn pass_to(s: &[u8], rule: Rule, w: &mut Stand, stop: usize, n: usize) -> usize
+    requires { Paid w.old × (w.old.count ≤ stop) × (w.old.count ≤ n) }
+    ensures { Reached rule s.now w.old stop n w.new result }
 {
     let mut noted = w.first;
-    let mut at = w;
-    while at.count < n {
-        if s.len() <= at.place {
-            break;
-        }
-        let next = moved(s, rule, at, n);
-        noted = noted_by(noted, stop, at.count, next);
-        at = next;
+    while w.count < n && w.place < s.len() {
+        let next = moved(s, rule, *w, n);
+        noted = noted_by(noted, stop, w.count, next);
+        *w = next;
     }
-    Found { stand: at, noted }
+    noted
 }
 
 // How many bytes are passed where the part's first one is, or, of an empty part, the one before it.
@@ -157,43 +125,27 @@ fn first_stop(first: usize, past: usize) -> usize
     if first < past { first + 1 } else { past }
 }
 
-// The same walk, or one from the start where that many bytes are passed already.
-fn resumed(k: usize, w: Stand, n: usize) -> Stand
-    ensures { result ≡ pick (ltb n w.count) (begun k) w }
-{
-    if n < w.count {
-        return start(k);
-    }
-    w
-}
-
-// Where a part of the text stands, from a walk that stands anywhere.
-pub fn site_from(s: &[u8], k: usize, rule: Rule, w: Stand, first: usize, past: usize) -> Sited
-    requires { Stands rule s.now k w × Paid w }
-    ensures { Sites s.now k rule first past result }
+// Where a part of the text stands, by a walk that stands anywhere: on from there, or anew where so many bytes are passed already.
+// The three that say what was read, s, k and rule, stay parameters, as other crates call `site` and `resite` with them.
+pub fn site_from(s: &[u8], k: usize, rule: Rule, w: &mut Stand, first: usize, past: usize) -> Part
+    requires { Stands rule s.now k w.old × Paid w.old }
+    ensures { Sites s.now k rule first past w.new result }
 {
     let stop = first_stop(first, past);
-    let from = resumed(k, w, stop);
-    let found = pass_to(s, rule, from, stop, past);
-    let end = found.stand;
-    let last = end.last;
-    if first < past {
-        if first < end.count {
-            return Sited {
-                part: Part {
-                    first: found.noted,
-                    past: last,
-                },
-                stand: end,
-            };
-        }
+    if stop < w.count {
+        *w = start(k);
     }
-    Sited {
-        part: Part {
-            first: last,
+    let noted = pass_to(s, rule, w, stop, past);
+    let last = w.last;
+    if first < past && first < w.count {
+        return Part {
+            first: noted,
             past: last,
-        },
-        stand: end,
+        };
+    }
+    Part {
+        first: last,
+        past: last,
     }
 }
 
@@ -201,5 +153,5 @@ pub fn site_from(s: &[u8], k: usize, rule: Rule, w: Stand, first: usize, past: u
 pub fn site(s: &[u8], k: usize, rule: Rule, first: usize, past: usize) -> Part
     ensures { Site s.now k rule first past result }
 {
-    site_from(s, k, rule, start(k), first, past).part
+    site_from(s, k, rule, &mut start(k), first, past)
 }

@@ -15,8 +15,8 @@ use Rattle.lexer.specs.declared.stepping.Lexeme.{Lexeme}
 use Rattle.lexer.specs.Promises.{token_stored}
 use Rattle.lexer.proofs.NarrowLaws.{stored_narrow}
 use Rattle.plain.specs.Table.{Ends, stays, here, earlier, with_it, Joins, nothing, itself, control}
-use Rattle.plain.specs.Coding.{keeps_in, ends_in, feeds_in, joins_by, joins_in}
-use Rattle.plain.specs.Steps.{words, Adds, Kept, Joined, Tells, Ended, Fed, Behind, Room, RoomFor, joins_width, CanEnd, Ready, Acted, Stepped}
+use Rattle.plain.specs.Coding.{joins_by, joins_in}
+use Rattle.plain.specs.Steps.{words, Adds, Kept, Joined, Tells, Ended, Fed, joins_width, Acted, Stepped}
 use Rattle.plain.specs.declared.acting.Held.{Held}
 
 -- the record of a token whose numbers go into span words is stored
@@ -105,55 +105,6 @@ fed_onward true c h old new r e = record {
   long = ap length e.0 ∙ stored_length old _ _;
 }
 
-behind_still : (e : Ends) (c : Cursor) (h r : Held) → r.from ≡ h.from → Behind e c h → Behind e c r
-behind_still stays c h r f b = tt
-behind_still here c h r f b = tt
-behind_still earlier c h r f b = omega (arith, ap (λ (a : Cursor). a.place) f)
-behind_still with_it c h r f b = b
-
-room_by : (k : Bool) (n : ℕ) (h : Held) (text : List ℕ) → h.used + bit k + n ≤ length text → Room k h text
-room_by true n h text l = omega arith
-room_by false n h text l = tt
-
-room_for : (j : Joins) (h : Held) (text : List ℕ) → h.used + joins_width j ≤ length text → RoomFor j h text
-room_for nothing h text l = tt
-room_for itself h text l = omega arith
-room_for control h text l = omega arith
-
-module _ {x : ℕ} {c : Cursor} {h : Held} {text : List ℕ} (y : Ready x c h text) where
-  pub can_keep : Room (keeps_in x) h text
-  can_keep = room_by (keeps_in x) (joins_width (joins_in x)) h text y.room
-
-  module _ (text₁ : List ℕ) (h₁ : Held) (k : Kept (keeps_in x) h text text₁ h₁) where
-    w : Wider (bit (keeps_in x)) h text text₁ h₁
-    w = kept_wider (keeps_in x) h text text₁ h₁ k
-
-    pub can_end : CanEnd (ends_in x) c h₁ text₁
-    can_end = record {
-      place_low = y.place_low;
-      from_low = omega (arith, y.from_low, ap (λ (a : Cursor). a.place) w.from_is);
-      start_low = omega (arith, y.start_low, w.used_is, w.start_is);
-      inside = omega (arith, y.room, w.used_is, w.long);
-      used_low = omega (arith, y.used_low, w.used_is);
-      count_low = omega (arith, y.count_low, w.count_is);
-      behind = behind_still (ends_in x) c h h₁ w.from_is y.behind;
-    }
-
-    module _ (state : ℕ) (records records₁ : List ℕ) (h₂ : Held) (e : Ended (ends_in x) state c.place text₁ h₁ records records₁ h₂) where
-      v : Onward h₁ records records₁ h₂
-      v = ended_onward (ends_in x) state c.place text₁ h₁ records records₁ h₂ e
-
-      pub can_feed : (c.place + bit (feeds_in x) ≤ limit) × (h₂.start ≤ limit) × (h₂.count ≤ limit + limit + 2)
-      can_feed =
-          (y.line_low, omega (arith, v.start_low can_end.start_low, v.used_is, can_end.used_low), omega (arith, v.count_low, can_end.count_low))
-
-  pub can_join : {state : ℕ} {text₁ records records₁ : List ℕ} {r : Held} → Acted x state c h text text₁ records records₁ r → RoomFor (joins_in x) r text₁
-  can_join {state} {text₁} {records} {records₁} {r} a =
-      let w = kept_wider (keeps_in x) h text text₁ a.held₁ a.kept_is in
-      let v = ended_onward (ends_in x) state c.place text₁ a.held₁ records a.records₁ a.held₂ a.ended_is in
-      let u = fed_onward (feeds_in x) c a.held₂ a.records₁ records₁ a.held₃ a.fed_is in
-      room_for (joins_in x) r text₁ (omega (arith, y.room, w.used_is, w.long, v.used_is, u.used_is, ap (λ (i : Held). i.used) a.begun_is))
-
 -- where the byte gives nothing to the text, the acts are all
 pub closing : {x state : ℕ} {c : Cursor} {h : Held} {text text' records records' : List ℕ} {r : Held} (b : ℕ) → joins_in x ≡ nothing → Acted x state c h text text' records records' r
     → Stepped x state b c h text text' records records' r
@@ -200,6 +151,3 @@ module _ (x state b : ℕ) (c : Cursor) (h : Held) (text records : List ℕ) whe
   -- the byte joins the text
   pub step_add : 256 ≤ x → x < 512 → (text' : List ℕ) (r : Held) → Adds b h text text' r → Stepped x state b c h text text' records records r
   step_add m l text' r e = alone (adding x m l) text' r e
-
-  pub can_add : 256 ≤ x → x < 512 → Ready x c h text → h.used < length text
-  can_add m l y = let k = rw (adding x m l).joins_is at y.room in omega arith

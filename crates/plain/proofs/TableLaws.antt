@@ -100,9 +100,6 @@ cell_is q k = eqb-true _ _ (cell_at (λ q k. eqb (get_or cell_numbers (code q + 
 pub code_low : (q : State) → code q ≤ 154
 code_low q = leb-true _ _ (row_at (λ q. leb (code q) 154) refl q)
 
-pub column_low : (k : Class) → class_code k ≤ 10
-column_low k = leb-true _ _ (column_at (λ k. leb (class_code k) 10) refl k)
-
 -- ---- a cell's acts, read off its number
 
 bit_low : (x : Bool) → bit x ≤ 1

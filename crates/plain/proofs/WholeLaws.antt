@@ -28,7 +28,7 @@ use Rattle.plain.specs.Steps.{held, Behind, joins_width, Ready, Acted, Stepped, 
 use Rattle.plain.specs.declared.acting.Held.{Held}
 use Rattle.plain.proofs.FutureLaws.{Clear}
 use Rattle.plain.proofs.SameLaws.{ClearNext, clear, plain_is}
-use Rattle.plain.proofs.TableLaws.{row_at, cell_at, code_low, row_of, stops_at, next_in, stops_in, keeps_in_lem, ends_in_lem, feeds_in_lem, joins_is, joins_in_lem}
+use Rattle.plain.proofs.TableLaws.{row_at, cell_at, row_of, stops_at, next_in, stops_in, keeps_in_lem, ends_in_lem, feeds_in_lem, joins_is, joins_in_lem}
 use Rattle.plain.proofs.StepLaws.{closing}
 use Rattle.plain.proofs.StoreLaws.{Stored, Left, stored_step}
 
@@ -136,7 +136,9 @@ tell_stop (t ∷ ts) c = tell_stop ts c
 
 -- ---- the loop
 
-pub record Sofar (s text₀ records₀ text records : List ℕ) (c : Cursor) (h : Held) (state : ℕ) : Type 0 where
+-- where the byte at i is read next
+pub record Sofar (s text₀ records₀ text records : List ℕ) (i : ℕ) (c : Cursor) (h : Held) (state : ℕ) : Type 0 where
+  pub place_is : c.place ≡ i
   pub q : State
   pub state_is : state ≡ code q
   pub done : List Token
@@ -152,9 +154,10 @@ pub record Sofar (s text₀ records₀ text records : List ℕ) (c : Cursor) (h 
   pub used_low : h.used + owed q ≤ c.place
   pub count_low : h.count ≤ c.place + c.place
 
-pub begun : (s text records : List ℕ) (c : Cursor) → c ≡ fresh → length s ≤ limit → length s ≤ length text → Sofar s text records text records c (held c 0 0 0) 0
+pub begun : (s text records : List ℕ) (c : Cursor) → c ≡ fresh → length s ≤ limit → length s ≤ length text → Sofar s text records text records 0 c (held c 0 0 0) 0
 unfolding plain_reading fresh texts_of words_of
 begun s text records c e l m = rw e (record {
+  place_is = refl;
   q = S;
   state_is = refl;
   done = [];
@@ -185,12 +188,9 @@ behind_by here n q c h l k m o = tt
 behind_by earlier n q c h l k m o = omega arith
 behind_by with_it n q c h l k m o = omega arith
 
--- past a byte the place is one more, and so less is left
-on : (c c' : Cursor) (b : ℕ) → c' ≡ moved c b → c'.place ≡ c.place + 1
+-- past a byte the place is one more
+pub on : (c c' : Cursor) (b : ℕ) → c' ≡ moved c b → c'.place ≡ c.place + 1
 on c c' b m = ap (λ (d : Cursor). d.place) m ∙ moved_place c b ∙ sym (add-one c.place)
-
-pub less_left : (s : List ℕ) (c c' : Cursor) (b : ℕ) → c.place < length s → c' ≡ moved c b → length s - c'.place < length s - c.place
-less_left s c c' b l m = omega (arith, on c c' b m)
 
 -- no text is open behind the end
 over_clear : (q : State) (b : ℕ) (t : List ℕ) → Clear q t → left (cell q over) b t ≡ []
@@ -235,10 +235,7 @@ finished {s} {text₀} {records₀} {text} {records} {ts} {said} {c} {h} e z x =
           (λ k. let r = x.recorded (omega (arith, x.count_is, words_length 0 ts)) in written_all r.0 r.1);
     }
 
-module _ {s text₀ records₀ text records : List ℕ} {c : Cursor} {h : Held} {state : ℕ} (x : Sofar s text₀ records₀ text records c h state) where
-  pub state_low : state ≤ 154
-  state_low = omega (arith, x.state_is, code_low x.q)
-
+module _ {s text₀ records₀ text records : List ℕ} {i : ℕ} {c : Cursor} {h : Held} {state : ℕ} (x : Sofar s text₀ records₀ text records i c h state) where
   -- a step by a cell that so many bytes pay for
   module _ (n v : ℕ) (y : Cell) (l : c.place + n ≤ length s) (e : v ≡ encode y) (p : Paid n x.q y) where
     can_step : Ready v c h text
@@ -263,7 +260,11 @@ module _ {s text₀ records₀ text records : List ℕ} {c : Cursor} {h : Held} 
         → Left text₀ records₀ text' records' x.done x.said y x.q b c h h'
     leaves b z = stored_step v state b y x.q c x.stored e x.state_is (omega (arith, p.wide, x.used_low, x.room)) z
 
-  module _ (l : c.place < length s) (b v : ℕ) (g : b ≡ get_or s c.place 0) (f : (q : State) → state ≡ code q → v ≡ encode (cell q (class_of b))) where
+  -- by the cell of this byte
+  module _ (l : i < length s) (v : ℕ) (f : (q : State) → state ≡ code q → v ≡ encode (cell q (class_of (get_or s i 0)))) where
+    abbrev b : ℕ
+    b = get_or s i 0
+
     abbrev y : Cell
     y = cell x.q (class_of b)
 
@@ -271,10 +272,7 @@ module _ {s text₀ records₀ text records : List ℕ} {c : Cursor} {h : Held} 
     v_is = f x.q x.state_is
 
     pub ready : Ready v c h text
-    ready = can_step 1 v y (omega arith) v_is (paid_cell x.q (class_of b))
-
-    pub low : (c.place ≤ limit) × (c.line.0 ≤ limit) × (c.column.0 ≤ limit)
-    low = let w = x.bounded in (omega (arith, x.short), omega (arith, w.0, x.short), omega (arith, w.1, x.short))
+    ready = can_step 1 v y (omega (arith, x.place_is)) v_is (paid_cell x.q (class_of b))
 
     -- the automaton from the next state on
     abbrev going : State → ℕ → Cursor → Cursor → Reading
@@ -286,13 +284,14 @@ module _ {s text₀ records₀ text records : List ℕ} {c : Cursor} {h : Held} 
     step_is : plain_reading s ≡ goes_on y.next
     unfolding automaton
     step_is =
-        let e : drop c.place s ≡ b ∷ drop (c.place + 1) s = next_byte s c.place l ∙ ap (λ (i : ℕ). i ∷ drop (c.place + 1) s) (sym g) in
+        let e : drop c.place s ≡ b ∷ drop (c.place + 1) s =
+        next_byte s c.place (omega (arith, x.place_is, l)) ∙ ap (λ (i : ℕ). get_or s i 0 ∷ drop (c.place + 1) s) x.place_is in
         x.reading_is ∙ ap (λ (r : List ℕ). tell x.done (automaton x.q r c h.from x.said)) e
         ∙ sym (tell_append x.done (told y x.q c h.from x.said) _)
 
     module _ {text' records' : List ℕ} {h' : Held} (z : Stepped v state b c h text text' records records' h') where
       k : Left text₀ records₀ text' records' x.done x.said y x.q b c h h'
-      k = leaves 1 v y (omega arith) v_is (paid_cell x.q (class_of b)) b z
+      k = leaves 1 v y (omega (arith, x.place_is)) v_is (paid_cell x.q (class_of b)) b z
 
       next_is : v % 256 ≡ row_of y.next
       next_is = ap (λ (i : ℕ). i % 256) v_is ∙ next_in y
@@ -316,29 +315,30 @@ module _ {s text₀ records₀ text records : List ℕ} {c : Cursor} {h : Held} 
       begun_low false p i = omega (arith, ap (λ (d : Cursor). d.place) i, x.from_low, apart_low p)
 
       -- it goes on
-      pub turned : v < 32768 → (c' : Cursor) → c' ≡ moved c b → Sofar s text₀ records₀ text' records' c' h' (v % 256)
+      pub turned : v < 32768 → (c' : Cursor) → c' ≡ moved c b → Sofar s text₀ records₀ text' records' (i + 1) c' h' (v % 256)
       turned e c' m = go y.next refl
         where
-          go : (n : Next) → y.next ≡ n → Sofar s text₀ records₀ text' records' c' h' (v % 256)
-          go halts i = absurd (omega (arith, e, stops_is, ap stops_at i))
-          go (goes p) i =
+          go : (n : Next) → y.next ≡ n → Sofar s text₀ records₀ text' records' (i + 1) c' h' (v % 256)
+          go halts j = absurd (omega (arith, e, stops_is, ap stops_at j))
+          go (goes p) j =
               let w = (paid_cell x.q (class_of b)).wide in
-              let o : owed_next y.next ≡ owed p = ap owed_next i in
+              let o : owed_next y.next ≡ owed p = ap owed_next j in
               let a : c'.place ≡ c.place + 1 = on c c' b m in
               record {
+                place_is = omega (arith, a, x.place_is);
                 q = p;
-                state_is = next_is ∙ ap row_of i;
+                state_is = next_is ∙ ap row_of j;
                 done = x.done ++ told y x.q c h.from x.said;
                 said = left y b x.said;
-                clear_is = clear_next (goes p) i;
+                clear_is = clear_next (goes p) j;
                 reading_is =
-                    step_is ∙ ap goes_on i
+                    step_is ∙ ap goes_on j
                     ∙ ap (λ (j : ℕ). tell (x.done ++ told y x.q c h.from x.said) (going p j (moved c b) (opened y.begins c h.from))) (sym a)
                     ∙ ap₂ (λ (u d : Cursor). tell (x.done ++ told y x.q c h.from x.said) (going p c'.place u d)) (sym m) (sym k.from_is);
                 stored = k.stored;
                 short = x.short;
                 room = x.room;
-                inside = omega arith;
+                inside = omega (arith, a, x.place_is);
                 bounded = subst (Bounded 1) (sym m) (unfold moves in moves_bounded 1 (omega arith) (b ∷ []) c x.bounded);
                 from_low = omega (arith, a, begun_low y.begins p k.from_is);
                 used_low = omega (arith, a, k.used_is, w, o, x.used_low);
@@ -346,7 +346,7 @@ module _ {s text₀ records₀ text records : List ℕ} {c : Cursor} {h : Held} 
               }
 
   -- at the end of the text
-  module _ (l : length s ≤ c.place) (v : ℕ) (f : (q : State) → state ≡ code q → v ≡ encode (cell q over)) where
+  module _ (l : length s ≤ i) (v : ℕ) (f : (q : State) → state ≡ code q → v ≡ encode (cell q over)) where
     abbrev z : Cell
     z = cell x.q over
 
@@ -357,7 +357,7 @@ module _ {s text₀ records₀ text records : List ℕ} {c : Cursor} {h : Held} 
     unfolding automaton
     ended w =
         finished
-        (x.reading_is ∙ ap (λ (r : List ℕ). tell x.done (automaton x.q r c h.from x.said)) (drop_of_length-le s l)
+        (x.reading_is ∙ ap (λ (r : List ℕ). tell x.done (automaton x.q r c h.from x.said)) (drop_of_length-le s (omega (arith, x.place_is, l)))
         ∙ sym (tell_append x.done (told z x.q c h.from x.said) (stops c)))
         (over_clear x.q 0 x.said x.clear_is)
         (leaves 0 v z (omega (arith, x.inside)) (f x.q x.state_is) (paid_over x.q) 0 (closing 0 (ap joins_in (f x.q x.state_is) ∙ joins_in_lem z ∙ over_joins x.q) w)).stored

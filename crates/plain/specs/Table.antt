@@ -1,6 +1,11 @@
 -- The plain lexer on paper: states, columnDigits of bytes, and the table of what a byte does in a state.
 use Rattle.std.specs.Prelude.{ℕ, Bool, true, false, eqb}
 use Rattle.ascii.specs.Choice.{pick}
+-- Where the open token ends, and what a byte gives to the text: the source's.
+pub use Rattle.plain.specs.declared.table.Ends.{Ends}
+pub use Rattle.plain.specs.declared.table.Ends.TheVariants.{Stays as stays, Here as here, Earlier as earlier, WithIt as with_it}
+pub use Rattle.plain.specs.declared.table.Joins.{Joins}
+pub use Rattle.plain.specs.declared.table.Joins.TheVariants.{Nothing as nothing, Itself as itself, Control as control}
 
 -- What is held back undecided is a state. S: between tokens; W: in a word; K: in a comment; D and Q: in double and in single marks.
 -- B: behind a backslash; C: behind a backslash and CR; M: in the blanks behind an escaped line end.
@@ -41,19 +46,6 @@ class_of b =
     pick (eqb b 10) feed (pick (eqb b 13) return (pick (eqb b 32) blank (pick (eqb b 9) blank
     (pick (eqb b 11) stop (pick (eqb b 12) stop (pick (eqb b 92) slash (pick (eqb b 34) double (pick (eqb b 39) single
     (pick (eqb b 35) hash (pick (eqb b 110) letter (pick (eqb b 116) letter (pick (eqb b 114) letter other))))))))))))
-
--- Where the open token ends, if it does: before this byte, a byte earlier, or with this byte.
-pub data Ends : Type 0 where
-  stays : Ends
-  here : Ends
-  earlier : Ends
-  with_it : Ends
-
--- What this byte gives to the text: nothing, itself, or the byte that the letter n, t or r stands for.
-pub data Joins : Type 0 where
-  nothing : Joins
-  itself : Joins
-  control : Joins
 
 -- Where reading goes on, or that it stops before this byte.
 pub data Next : Type 0 where

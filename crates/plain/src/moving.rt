@@ -7,32 +7,24 @@ ghost use Rattle.plain.specs.Coding.{class_code};
 
 use lexer::{Column, Cursor, Line};
 
+#[tactic(auto, using(crate::proofs::ClassLaws::past_feed, crate::proofs::ClassLaws::past_flat))]
 pub fn past(c: Cursor, column: usize) -> Cursor
     requires { (c.place ≤ limit) × (c.line.0 ≤ limit) × (c.column.0 ≤ limit) }
     ensures { (b : ℕ) → column ≡ class_code (class_of b) → result ≡ moved c b }
 {
+    let place = c.place + 1;
     if column == 0 {
         return Cursor {
-            place: c.place + 1,
+            place,
             line: Line(c.line.0 + 1),
             column: Column(1),
             mark: true,
         };
     }
-    let line = c.line;
-    let next = Column(c.column.0 + 1);
-    if column < 4 {
-        return Cursor {
-            place: c.place + 1,
-            line,
-            column: next,
-            mark: c.mark,
-        };
-    }
     Cursor {
-        place: c.place + 1,
-        line,
-        column: next,
-        mark: false,
+        place,
+        line: c.line,
+        column: Column(c.column.0 + 1),
+        mark: c.mark && column < 4,
     }
 }

@@ -9,7 +9,7 @@ ghost use Rattle.plain.specs.Steps.{tallied};
 use crate::acting::{Held, act, step};
 use crate::moving::past;
 use crate::table::{CELLS, COLUMNS, HALT, OVER, S, cell_of, column_of};
-use lexer::{Answer, Cursor, Passed, Tally};
+use lexer::{Cursor, Read, Tally, TokensError};
 
 // What was read, where the last token was told and reading stopped.
 fn tally(h: Held, stop: Cursor) -> Tally
@@ -42,12 +42,10 @@ fn run_by(
         count: 0,
     };
     let mut state = S;
-    while here.place < s.len() {
-        let at = here.place;
-        let b = s[at];
-        let class = column_of(columns, b);
+    for b in s {
+        let class = column_of(columns, *b);
         let x = cell_of(cells, state, class);
-        held = step(x, state, b, here, held, text, records);
+        held = step(x, state, *b, here, held, text, records);
         if HALT <= x {
             return tally(held, here);
         }
@@ -71,14 +69,10 @@ fn run(s: &[u8], text: &mut [u8], records: &mut [u64]) -> Tally
 }
 
 // All tokens of a text: the same promise as the first lexer's `tokens`.
-pub fn plain_tokens(input: &[u8], text: &mut [u8], records: &mut [u64]) -> Answer
+pub fn plain_tokens(input: &[u8], text: &mut [u8], records: &mut [u64]) -> Result<Read, TokensError>
     ensures { Tokens input.now text.old text.new records.old records.new result }
 {
-    match lexer::pass_gate(input, text.len()) {
-        Passed::Refused(answer) => answer,
-        Passed::Open => {
-            let read = run(input, text, records);
-            lexer::end_reading(read, text, records)
-        }
-    }
+    lent::admit(input, text.len(), input.len())?;
+    let read = run(input, text, records);
+    lexer::end_reading(read, text, records)
 }

@@ -1,8 +1,9 @@
 // The table on paper (docs/PLAIN-LEXER.md): a row for each state, a column for each class of bytes and one for the end of the text. A cell
-// is the sum of its acts and of the next state, and a state is the place where its row begins, so that a step is one addition and one look.
+// is the sum of its acts and of the next state. A state is the place where its row begins, and so a number and no enum, and a column is its
+// own number: a step is one addition and one look.
 ghost use Rattle.std.specs.Prelude.{◌≡◌, ◌≤◌};
 ghost use Rattle.plain.specs.Table.{State, Class, class_of, cell};
-ghost use Rattle.plain.specs.Coding.{code, class_code, encode, column_digits, cell_numbers};
+ghost use Rattle.plain.specs.Coding.{code, class_code, encode, column_digits, cell_numbers, ends_in, joins_in};
 
 // Between tokens; behind a backslash, B; behind a backslash and CR, C.
 pub const S: usize = 0;
@@ -46,7 +47,7 @@ pub const HALT: usize = 32768;
 pub const KEEP: usize = 1024;
 
 // The open token ends before this byte, a byte earlier, or with this byte.
-pub const END: usize = 2048;
+const END: usize = 2048;
 
 const CUT: usize = 4096;
 
@@ -254,11 +255,43 @@ pub const CELLS: [usize; 165] = [
     END + HALT,
 ];
 
-// A cast of an argument asks no proof that it fits.
-fn wide(x: u8) -> usize
-    ensures { result ≡ x }
+// Where the open token ends, if it does: before this byte, a byte earlier, or with this byte.
+#[derive(Clone, Copy)]
+pub enum Ends {
+    Stays,
+    Here,
+    Earlier,
+    WithIt,
+}
+
+// What this byte gives to the text: nothing, itself, or the byte that the letter n, t or r stands for.
+#[derive(Clone, Copy)]
+pub enum Joins {
+    Nothing,
+    Itself,
+    Control,
+}
+
+// A cell says both by a digit: 0, or that of END, CUT and SHUT, or of JOIN and STAND.
+pub fn ends_in(x: usize) -> Ends
+    ensures { result ≡ ends_in x }
 {
-    x as usize
+    match x / END % 4 {
+        0 => Ends::Stays,
+        1 => Ends::Here,
+        2 => Ends::Earlier,
+        _ => Ends::WithIt,
+    }
+}
+
+pub fn joins_in(x: usize) -> Joins
+    ensures { result ≡ joins_in x }
+{
+    match x / JOIN % 4 {
+        0 => Joins::Nothing,
+        1 => Joins::Itself,
+        _ => Joins::Control,
+    }
 }
 
 // The column of a byte. The list is lent, since a constant that is indexed is laid out anew each time.
@@ -266,7 +299,7 @@ pub fn column_of(columns: &[u8; 256], b: u8) -> usize
     requires { columns.now ≡ column_digits }
     ensures { result ≡ class_code (class_of b) }
 {
-    wide(columns[b as usize]) - 48
+    usize::from(columns[usize::from(b)] - b'0')
 }
 
 // The cell of a state and a column.

@@ -1,6 +1,8 @@
 -- The action codes and value kinds of document 01, each said here alone, and which texts an action of each code has.
 use Rattle.std.specs.Prelude.{ℕ, Bool, true, false, List, [], ◌∷◌, get_or, eqb, leb}
 use Rattle.ascii.specs.Choice.{and, or}
+pub use Rattle.records.specs.declared.marking.Shape.{Shape}
+pub use Rattle.records.specs.declared.marking.Shape.TheVariants.{NoCode as no_code, Bare as bare, One as one, Two as two, Setting as setting}
 
 -- The codes.
 abbrev pub deny_code : ℕ
@@ -118,15 +120,7 @@ delete_kind = 5
 abbrev pub macro_kind : ℕ
 macro_kind = 6
 
--- What a code says of the words a, b and c: no such code, no text, a, a and b, or a and b and by the value kind c.
-pub data Shape : Type 0 where
-  no_code : Shape
-  bare : Shape
-  one : Shape
-  two : Shape
-  setting : Shape
-
--- By code, from 0.
+-- What each code says of the words a, b and c, from 0.
 unfoldable pub shapes : List Shape
 shapes =
     no_code ∷

@@ -4,9 +4,9 @@
 
 mod marking;
 
-pub use marking::{is_known, is_text};
+pub use marking::{Shape, is_known, is_text};
 
-// The codes of actions.
+// The codes of actions: the words of a record, which the C interface fixes.
 pub const DENY: u64 = 1;
 
 pub const BLOCK: u64 = 2;
@@ -71,7 +71,7 @@ pub const CONTROL: u64 = 31;
 
 pub const TRANSFORMATION: u64 = 32;
 
-// The kinds of a setvar's value.
+// The kinds of a setvar's value, words of a record too.
 pub const STRING_KIND: u64 = 1;
 
 pub const INT_KIND: u64 = 2;

@@ -1,86 +1,117 @@
 // Which action records there are, and which of their words are texts.
 ghost use Rattle.std.specs.Prelude.{false, ◌≡◌, get_or};
-ghost use Rattle.records.specs.Codes.{shape_of, known_by};
+ghost use Rattle.records.specs.Codes.{shape_of, known_by, has_a, has_b, has_c};
 ghost use Rattle.records.specs.Marks.{marks_for};
 
 use crate::{MACRO_KIND, STRING_KIND, TRANSFORMATION};
 
-// What each code says of the words a, b and c: 0 no such code, 1 no text, 2 a, 3 a and b, 4 these and by the value kind c.
-const SHAPES: [u8; 33] = [
-    0, // no code
-    1, // deny
-    1, // block
-    1, // pass
-    1, // allow
-    1, // drop
-    2, // redirect
-    1, // chain
-    1, // skip
-    2, // skipAfter
-    1, // multiMatch
-    1, // id
-    1, // phase
-    1, // severity
-    2, // msg
-    2, // tag
-    2, // rev
-    2, // ver
-    1, // maturity
-    1, // accuracy
-    2, // logData
-    1, // status
-    4, // setVar
-    1, // capture
-    3, // initCol
-    2, // expireVar
-    1, // log
-    1, // noLog
-    1, // auditLog
-    1, // noAuditLog
-    1, // sanitiseMatched
-    3, // control
-    2, // transformation
+// What a code says of the words a, b and c.
+#[derive(Clone, Copy)]
+pub enum Shape {
+    // there is no such code
+    NoCode,
+    // none is a text
+    Bare,
+    // a is
+    One,
+    // a and b are
+    Two,
+    // these are, and c by the value kind
+    Setting,
+}
+
+impl Shape {
+    fn has_a(self) -> bool
+        ensures { result ≡ has_a self }
+    {
+        matches!(self, Shape::One | Shape::Two | Shape::Setting)
+    }
+
+    fn has_b(self) -> bool
+        ensures { result ≡ has_b self }
+    {
+        matches!(self, Shape::Two | Shape::Setting)
+    }
+
+    fn has_c(self, kind: u64) -> bool
+        ensures { result ≡ has_c self kind }
+    {
+        matches!(self, Shape::Setting) && (kind == STRING_KIND || kind == MACRO_KIND)
+    }
+
+    // There is such a code and, for SetVar, such a value kind.
+    fn is_known_by(self, kind: u64) -> bool
+        ensures { result ≡ known_by self kind }
+    {
+        match self {
+            Shape::NoCode => false,
+            Shape::Bare | Shape::One | Shape::Two => true,
+            Shape::Setting => STRING_KIND <= kind && kind <= MACRO_KIND,
+        }
+    }
+}
+
+// By code, from 0.
+const SHAPES: [Shape; 33] = [
+    Shape::NoCode, // no code
+    Shape::Bare, // deny
+    Shape::Bare, // block
+    Shape::Bare, // pass
+    Shape::Bare, // allow
+    Shape::Bare, // drop
+    Shape::One, // redirect
+    Shape::Bare, // chain
+    Shape::Bare, // skip
+    Shape::One, // skipAfter
+    Shape::Bare, // multiMatch
+    Shape::Bare, // id
+    Shape::Bare, // phase
+    Shape::Bare, // severity
+    Shape::One, // msg
+    Shape::One, // tag
+    Shape::One, // rev
+    Shape::One, // ver
+    Shape::Bare, // maturity
+    Shape::Bare, // accuracy
+    Shape::One, // logData
+    Shape::Bare, // status
+    Shape::Setting, // setVar
+    Shape::Bare, // capture
+    Shape::Two, // initCol
+    Shape::One, // expireVar
+    Shape::Bare, // log
+    Shape::Bare, // noLog
+    Shape::Bare, // auditLog
+    Shape::Bare, // noAuditLog
+    Shape::Bare, // sanitiseMatched
+    Shape::Two, // control
+    Shape::One, // transformation
 ];
+
+fn shape_of(code: u64) -> Shape
+    ensures { result ≡ shape_of code }
+{
+    if TRANSFORMATION < code {
+        return Shape::NoCode;
+    }
+    SHAPES[code as usize]
+}
 
 // Whether there is such a code and, for SetVar, such a value kind.
 pub fn is_known(code: u64, kind: u64) -> bool
     ensures { result ≡ known_by (shape_of code) kind }
 {
-    if TRANSFORMATION < code {
-        return false;
-    }
-    let shape = SHAPES[code as usize];
-    if shape < 4 {
-        return 0 < shape;
-    }
-    if kind < STRING_KIND {
-        return false;
-    }
-    kind <= MACRO_KIND
+    shape_of(code).is_known_by(kind)
 }
 
 // Whether the word at this place of a record is a text.
 pub fn is_text(code: u64, kind: u64, place: usize) -> bool
     ensures { result ≡ get_or (marks_for code kind) place false }
 {
-    if TRANSFORMATION < code {
-        return false;
+    match place {
+        2 => shape_of(code).has_a(),
+        3 => shape_of(code).has_b(),
+        5 => shape_of(code).has_c(kind),
+        _ => false,
     }
-    let shape = SHAPES[code as usize];
-    if place == 2 {
-        return 1 < shape;
-    }
-    if place == 3 {
-        return 2 < shape;
-    }
-    if place == 5 {
-        if shape < 4 {
-            return false;
-        }
-        if kind == STRING_KIND {
-            return true;
-        }
-        return kind == MACRO_KIND;
-    }
-    false
 }

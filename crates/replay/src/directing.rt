@@ -1,44 +1,17 @@
 // The answer for a package: its directives, or the first fault.
-use crate::words::{print_number, print_records, print_refusal, print_span_word, print_text};
-use directives::{Answer, ArgumentFault, Fault, LineFault, Version};
+use crate::sizes;
+use crate::sizes::Room;
+use crate::words::{
+    ACTION, DIRECTIVE, VARIABLE, print_gate, print_records, print_refusal, print_span_word,
+    print_text,
+};
+use directives::{ArgumentFault, DirectivesError, Fault, Read, Version};
 use std::io;
-
-// A number with three values.
-fn print_three(
-    rt: &HostRuntime,
-    number: u64,
-    first: usize,
-    second: usize,
-    third: usize,
-) -> io::Result<()> {
-    print_number(rt, number)?;
-    print_number(rt, first as u64)?;
-    print_number(rt, second as u64)?;
-    print_number(rt, third as u64)
-}
-
-fn line_number(why: LineFault) -> u64 {
-    match why {
-        LineFault::WrongCount => 13,
-        LineFault::Untaken => 14,
-        LineFault::Stopped => 15,
-        LineFault::IdMissing => 18,
-    }
-}
-
-fn argument_number(why: ArgumentFault) -> u64 {
-    match why {
-        ArgumentFault::UnknownVariable => 7,
-        ArgumentFault::UnknownAction => 5,
-        ArgumentFault::BadArgument(flaw) => lent::flaw_number(flaw),
-        ArgumentFault::UnknownOperator => 8,
-    }
-}
 
 // A name stands in the text after 5, 7 and 10 to 12 alone.
 fn print_fault(rt: &HostRuntime, fault: Fault, text: &[u8]) -> io::Result<()> {
     match fault {
-        Fault::Line { why, line } => print_refusal(rt, line_number(why), line),
+        Fault::Line { why, line } => print_refusal(rt, u64::from(why), line),
         Fault::Argument {
             why,
             line,
@@ -46,64 +19,60 @@ fn print_fault(rt: &HostRuntime, fault: Fault, text: &[u8]) -> io::Result<()> {
             len,
             span,
         } => {
-            let number = argument_number(why);
-            print_three(rt, number, line, at, len)?;
+            let named = !matches!(why, ArgumentFault::UnknownOperator);
+            print!(rt; "{} {line} {at} {len} ", u64::from(why))?;
             print_span_word(rt, span)?;
-            print_text(rt, text, if number == 8 { 0 } else { len })
+            print_text(rt, text, if named { len } else { 0 })
         }
     }
 }
 
-fn print_answer(
+fn print_read(
     rt: &HostRuntime,
-    answer: Answer,
+    read: Read,
     text: &[u8],
     records: &[u64],
     variables: &[u64],
     actions: &[u64],
 ) -> io::Result<()> {
-    match answer {
-        Answer::Read {
-            directives: d,
-            variables: v,
-            actions: a,
-            text: used,
-        } => {
-            print_number(rt, 0)?;
-            print_number(rt, d as u64)?;
-            print_number(rt, v as u64)?;
-            print_number(rt, a as u64)?;
-            print_number(rt, used as u64)?;
-            print_records(rt, records, d, b"nnssnnsnnnn")?;
-            print_records(rt, variables, v, b"nnnnss")?;
-            print_records(rt, actions, a, b"nnssnss")?;
-            print_text(rt, text, used)
-        }
-        Answer::TooLong => print_refusal(rt, 1, lent::LIMIT),
-        Answer::NotAscii(place) => print_refusal(rt, 2, place),
-        Answer::Short => print_refusal(rt, 3, 0),
-        Answer::Refused(fault) => print_fault(rt, fault, text),
-        Answer::NoRoom {
-            directives: d,
-            variables: v,
-            actions: a,
-        } => {
-            print_three(rt, 4, d, v, a)?;
-            rt.write_all(b"-")
-        }
-    }
+    print!(rt; "0 {} {} ", read.directives, read.variables)?;
+    print!(rt; "{} {} ", read.actions, read.text)?;
+    print_records(rt, records, read.directives, &DIRECTIVE)?;
+    print_records(rt, variables, read.variables, &VARIABLE)?;
+    print_records(rt, actions, read.actions, &ACTION)?;
+    print_text(rt, text, read.text)
 }
 
 pub fn print_directives(
     rt: &HostRuntime,
     input: &[u8],
     version: Version,
-    text: &mut [u8],
-    scratch: &mut [u8],
-    records: &mut [u64],
-    variables: &mut [u64],
-    actions: &mut [u64],
+    room: Room,
 ) -> io::Result<()> {
-    let answer = directives::directives(input, version, text, scratch, records, variables, actions);
-    print_answer(rt, answer, text, records, variables, actions)
+    let mut text = vec![in rt.alloc(); 0u8; room.text]?;
+    let mut scratch = vec![in rt.alloc(); 0u8; room.text]?;
+    let mut records = [0u64; sizes::DIRECTIVES];
+    let mut variables = [0u64; sizes::VARIABLES];
+    let mut actions = [0u64; sizes::ACTIONS];
+    let answer = directives::directives(
+        input,
+        version,
+        &mut text,
+        &mut scratch,
+        &mut records,
+        &mut variables,
+        &mut actions,
+    );
+    match answer {
+        Ok(read) => print_read(rt, read, &text, &records, &variables, &actions),
+        Err(DirectivesError::Gate(error)) => print_gate(rt, error),
+        Err(DirectivesError::Refused(fault)) => print_fault(rt, fault, &text),
+        Err(
+            DirectivesError::NoRoom {
+                directives,
+                variables,
+                actions,
+            },
+        ) => print!(rt; "4 {directives} {variables} {actions} -"),
+    }
 }

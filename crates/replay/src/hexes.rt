@@ -1,103 +1,55 @@
-// Bytes as pairs of hexadecimal digits.
-ghost use Rattle.std.specs.Prelude.{◌≤◌, ◌<◌, length};
+// Bytes as pairs of hexadecimal digits, and numbers as bytes.
+ghost use Rattle.std.specs.Prelude.{◌<◌};
 
+use std::alloc::Global;
 use std::io;
 
 fn digit_value(b: u8) -> u8
     ensures { result < 16 }
 {
     match b {
-        48..=57 => b - 48,
-        97..=102 => b - 87,
+        b'0'..=b'9' => b - b'0',
+        b'a'..=b'f' => b - b'a' + 10,
         _ => 0,
     }
 }
 
-fn digit_of(v: u8) -> u8
-    requires { v < 16 }
-{
-    if v < 10 { 48 + v } else { 87 + v }
-}
-
-// The bytes that pairs of digits stand for, as many as fit.
-pub fn decode(digits: &[u8], out: &mut [u8]) -> usize
-    ensures { result ≤ length out.new }
-{
-    let most = digits.len() / 2;
-    let mut n = 0;
-    while n < most {
-        if out.len() <= n {
-            return n;
-        }
-        let high = digit_value(digits[n * 2]);
-        let low = digit_value(digits[n * 2 + 1]);
-        out[n] = high * 16 + low;
-        n += 1;
-    }
-    n
+// The bytes that pairs of digits stand for.
+pub fn decode(alloc: Global, digits: &[u8]) -> io::Result<Vec<u8>> {
+    let (pairs, _) = digits.as_chunks::<2>();
+    let bytes = pairs
+        .iter()
+        .map(|[high, low]| digit_value(*high) * 16 + digit_value(*low))
+        .collect(alloc)?;
+    Ok(bytes)
 }
 
 // The number of up to eight bytes, the largest first.
 pub fn word(bytes: &[u8]) -> u64 {
-    let mut v: u64 = 0;
-    let mut i = 0;
-    while i < bytes.len() {
-        v = (v % 72057594037927936) * 256 + bytes[i] as u64;
-        i += 1;
-    }
-    v
+    bytes.iter().fold(0u64, |v, b| v << 8 | u64::from(*b))
 }
 
-// The words of a body, 8 bytes each, the largest first, as many as fit.
-pub fn words_into(body: &[u8], words: &mut [u64]) -> usize
-    ensures { result ≤ length words.new }
-{
-    let mut n = 0;
-    let mut at = 0;
-    while n < words.len() {
-        if body.len() - at < 8 {
-            return n;
-        }
-        let past = at + 8;
-        words[n] = word(&body[at..past]);
-        n += 1;
-        at = past;
-    }
-    n
+// The word at a body's front, and what stands behind it.
+pub fn first_word(body: &[u8]) -> Option<(u64, &[u8])> {
+    let (front, rest) = body.split_at_checked(8)?;
+    Some((word(front), rest))
 }
 
-// The first `n` bytes, or all, as one number: each before times 31, and the next.
-pub fn sum_front(s: &[u8], n: usize) -> u64 {
-    let mut sum: u64 = 0;
-    let mut i = 0;
-    while i < n {
-        if s.len() <= i {
-            return sum;
-        }
-        sum = (sum % 4294967296) * 31 + s[i] as u64;
-        i += 1;
-    }
-    sum
+// The words of a body, 8 bytes each, up to so many.
+pub fn words(alloc: Global, body: &[u8], most: usize) -> io::Result<Vec<u64>> {
+    let words = body.chunks_exact(8).take(most).map(word).collect(alloc)?;
+    Ok(words)
 }
 
-fn print_byte(rt: &HostRuntime, b: u8) -> io::Result<()> {
-    let pair = [digit_of(b / 16), digit_of(b % 16)];
-    rt.write_all(&pair)
+// All bytes as one number: each before times 31, and the next.
+pub fn sum(s: &[u8]) -> u64 {
+    s.iter()
+        .fold(0u64, |sum, b| sum % 4294967296 * 31 + u64::from(*b))
 }
 
 pub fn print(rt: &HostRuntime, s: &[u8]) -> io::Result<()> {
-    print_front(rt, s, s.len())
-}
-
-// The first `n` bytes, or all.
-pub fn print_front(rt: &HostRuntime, s: &[u8], n: usize) -> io::Result<()> {
-    let mut i = 0;
-    while i < n {
-        if s.len() <= i {
-            return Ok(());
-        }
-        print_byte(rt, s[i])?;
-        i += 1;
+    for b in s {
+        print!(rt; "{b:02x}")?;
     }
     Ok(())
 }

@@ -1,29 +1,16 @@
 // A text's line, but for its line feed.
-use listing::Answer;
+use crate::sizes::Room;
 use std::io;
 
-// The first `n` bytes but the last.
-fn print_line(rt: &HostRuntime, out: &[u8], n: usize) -> io::Result<()> {
-    if n == 0 {
+pub fn print_listing(rt: &HostRuntime, input: &[u8], room: Room) -> io::Result<()> {
+    let mut text = vec![in rt.alloc(); 0u8; room.text]?;
+    let mut records = vec![in rt.alloc(); 0u64; room.listed]?;
+    let mut out = vec![in rt.alloc(); 0u8; room.line]?;
+    let Ok(n) = listing::list_text(input, &mut text, &mut records, &mut out) else {
         return Ok(());
-    }
-    let end = n - 1;
-    if out.len() < end {
-        return Ok(());
-    }
-    rt.write_all(&out[..end])
-}
-
-pub fn print_listing(
-    rt: &HostRuntime,
-    input: &[u8],
-    text: &mut [u8],
-    records: &mut [u64],
-    out: &mut [u8],
-) -> io::Result<()> {
-    match listing::list_text(input, text, records, out) {
-        Answer::Written(n) => print_line(rt, out, n),
-        Answer::NoRoom(_) => Ok(()),
-        Answer::NoToken(_) => Ok(()),
+    };
+    match out.get(..n) {
+        Some([line @ .., _]) => rt.write_all(line),
+        _ => Ok(()),
     }
 }

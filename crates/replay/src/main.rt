@@ -17,41 +17,37 @@ mod matching;
 mod operating;
 mod phasing;
 mod selecting;
-mod short;
 mod sizes;
 mod targeting;
 mod thin;
 mod words;
 mod writing;
 
-use lines::Line;
 use std::io;
 
-// One question and its answer; whether there was one.
-fn answer_one(rt: &HostRuntime) -> io::Result<bool> {
-    let mut line = [0u8; sizes::LINE];
-    let Line::Of(n) = lines::read_line(&mut rt.stdin(), &mut line) else {
-        return Ok(false);
-    };
-    if n < 2 {
-        return Ok(false);
-    }
-    let mut body = [0u8; sizes::BODY];
-    let len = hexes::decode(&line[2..n], &mut body);
-    if line[1] == b'*' {
-        long::answer(rt, line[0], &body[..len])?;
+// A question's body is written out; of a long one, which has a `*`, only what it is made of.
+fn answer_one(rt: &HostRuntime, letter: u8, form: u8, digits: &[u8]) -> io::Result<()> {
+    let body = hexes::decode(rt.alloc(), digits)?;
+    if form == b'*' {
+        let text = long::spread(rt.alloc(), &body)?;
+        answers::answer(rt, letter, &text, sizes::long())?;
     } else {
-        short::answer(rt, line[0], &body[..len])?;
+        answers::answer(rt, letter, &body, sizes::short())?;
     }
-    rt.write_all(b"\n")?;
-    Ok(true)
+    rt.write_all(b"\n")
 }
 
-// A proved loop has to end, and nothing says that the input does: the count is one that no run uses up.
+// Nothing says that the input ends: the count is one that no run uses up.
 fn main(rt: HostRuntime) -> io::Result<()> {
-    let mut turns = u64::MAX;
-    while turns > 0 && answer_one(&rt)? {
-        turns -= 1;
+    let mut line = vec![in rt.alloc(); 0u8; sizes::LINE]?;
+    for _ in 0..u64::MAX {
+        let Some(len) = lines::read_line(&mut rt.stdin(), &mut line) else {
+            return Ok(());
+        };
+        let [letter, form, digits @ ..] = &line[..len] else {
+            return Ok(());
+        };
+        answer_one(&rt, *letter, *form, digits)?;
     }
     Ok(())
 }

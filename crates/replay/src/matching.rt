@@ -3,26 +3,28 @@ use crate::hexes;
 use rules::RuleIdSelector;
 use std::io;
 
-// A single id where the byte is 0, and else a range.
-pub fn selector(ranged: u8, start: u64, end: u64) -> RuleIdSelector {
-    if ranged == 0 {
-        RuleIdSelector::Single(start)
+// A selector at a body's front, and what stands behind it: a byte, 0 for a single id and 1 for a range, and then start and end.
+pub fn selector(body: &[u8]) -> Option<(RuleIdSelector, &[u8])> {
+    let (ranged, rest) = body.split_first()?;
+    let (start, rest) = hexes::first_word(rest)?;
+    let (end, rest) = hexes::first_word(rest)?;
+    if *ranged == 0 {
+        Some((RuleIdSelector::Single(start), rest))
     } else {
-        RuleIdSelector::Range(start, end)
+        Some((RuleIdSelector::Range(start, end), rest))
     }
 }
 
-// The body is a byte, 0 for a single id and 1 for a range, and then start, end and id, 8 bytes each, the largest first.
+fn asked(body: &[u8]) -> Option<(RuleIdSelector, u64)> {
+    let (selector, rest) = selector(body)?;
+    let (id, _) = hexes::first_word(rest)?;
+    Some((selector, id))
+}
+
+// The body is a selector and an id.
 pub fn print_match(rt: &HostRuntime, body: &[u8]) -> io::Result<()> {
-    if body.len() < 25 {
+    let Some((selector, id)) = asked(body) else {
         return Ok(());
-    }
-    let start = hexes::word(&body[1..9]);
-    let end = hexes::word(&body[9..17]);
-    let id = hexes::word(&body[17..25]);
-    if selector(body[0], start, end).matches(id) {
-        rt.write_all(b"1")
-    } else {
-        rt.write_all(b"0")
-    }
+    };
+    print!(rt; "{}", u8::from(selector.matches(id)))
 }

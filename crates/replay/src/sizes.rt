@@ -1,9 +1,9 @@
 // The buffers of this program: what the stored questions and their answers need.
 
 // Texts as long as the library took them when most questions were stored.
-pub const SHORT: usize = 16384;
+const SHORT: usize = 16384;
 
-// What parse_setvar asks for a text.
+// What parse_setvar asks for a text. The text of a longer answer is told by a sum.
 pub const SHORT_SETVAR: usize = SHORT + 3;
 
 // Enough for a long question, its text and its line, each with few bytes more than the limit.
@@ -31,7 +31,34 @@ pub const INDEXED: usize = 64;
 // A span word's base.
 pub const SPAN: u64 = 4294967296;
 
-// A question's bytes, and its line, in which each is two digits.
-pub const BODY: usize = 2 * SHORT;
+// A question's line, in which each byte of its body is two digits.
+pub const LINE: usize = 4 * SHORT;
 
-pub const LINE: usize = 2 * BODY;
+// What a question is lent: bytes of a text and of scratch, of an action list's text, and of a listing, with the words of its records.
+#[derive(Clone, Copy)]
+pub struct Room {
+    pub text: usize,
+    pub acted: usize,
+    pub line: usize,
+    pub listed: usize,
+}
+
+// For a body that is written out.
+pub fn short() -> Room {
+    Room {
+        text: SHORT,
+        acted: SHORT_SETVAR,
+        line: listing::LIST_LINE,
+        listed: listing::LIST_RECORDS,
+    }
+}
+
+// For one that is made of parts.
+pub fn long() -> Room {
+    Room {
+        text: LONG_BYTES,
+        acted: LONG_BYTES,
+        line: LONG_BYTES,
+        listed: RECORDS,
+    }
+}

@@ -1,79 +1,112 @@
-// What the answers of the readers are made of: numbers, a text, records, a refusal.
+// What the answers of the readers are made of: a text, records, a refusal.
 use crate::{hexes, sizes};
-use spans::Answer;
+use lent::GateError;
 use std::io;
 
-pub fn print_decimal(rt: &HostRuntime, n: u64) -> io::Result<()> {
-    print!(rt; "{n}")
+// What a word of a record is.
+#[derive(Clone, Copy, PartialEq, Eq)]
+pub enum Word {
+    Number,
+    Span,
 }
 
-pub fn print_number(rt: &HostRuntime, n: u64) -> io::Result<()> {
-    print_decimal(rt, n)?;
-    rt.write_all(b" ")
-}
+pub const TOKEN: [Word; lent::TOKEN_WORDS] = [
+    Word::Number,
+    Word::Number,
+    Word::Number,
+    Word::Span,
+    Word::Span,
+];
+
+pub const ACTION: [Word; lent::ACTION_WORDS] = [
+    Word::Number,
+    Word::Number,
+    Word::Span,
+    Word::Span,
+    Word::Number,
+    Word::Span,
+    Word::Span,
+];
+
+pub const VARIABLE: [Word; lent::VARIABLE_WORDS] = [
+    Word::Number,
+    Word::Number,
+    Word::Number,
+    Word::Number,
+    Word::Span,
+    Word::Span,
+];
+
+pub const DIRECTIVE: [Word; lent::DIRECTIVE_WORDS] = [
+    Word::Number,
+    Word::Number,
+    Word::Span,
+    Word::Span,
+    Word::Number,
+    Word::Number,
+    Word::Span,
+    Word::Number,
+    Word::Number,
+    Word::Number,
+    Word::Number,
+];
 
 // The first `len` bytes of a text: a long one by a sum.
 pub fn print_text(rt: &HostRuntime, text: &[u8], len: usize) -> io::Result<()> {
+    let shown = &text[..len.min(text.len())];
     if len == 0 {
         rt.write_all(b"-")
     } else if sizes::SHORT_SETVAR < len {
-        rt.write_all(b"#")?;
-        print_decimal(rt, hexes::sum_front(text, len))
+        print!(rt; "#{}", hexes::sum(shown))
     } else {
-        hexes::print_front(rt, text, len)
+        hexes::print(rt, shown)
     }
 }
 
 // A span word as it was when most answers were stored; where it had no such form, as it is, behind a sign.
 pub fn print_span_word(rt: &HostRuntime, word: u64) -> io::Result<()> {
     match spans::span_to_old(word) {
-        Answer::Word(old) => print_number(rt, old),
-        Answer::TooFar => {
-            rt.write_all(b"+")?;
-            print_number(rt, word)
-        }
+        Ok(old) => print!(rt; "{old} "),
+        Err(_) => print!(rt; "+{word} "),
     }
-}
-
-// A word of a record, of which `s` says that it is a span. One that is not used is 0 in both forms.
-fn print_word(rt: &HostRuntime, word: u64, kind: u8) -> io::Result<()> {
-    if kind == b's' {
-        print_span_word(rt, word)
-    } else {
-        print_number(rt, word)
-    }
-}
-
-// The words of the first `count` records, by what each word of a record is.
-pub fn print_records(
-    rt: &HostRuntime,
-    records: &[u64],
-    count: usize,
-    shape: &[u8],
-) -> io::Result<()> {
-    let width = shape.len();
-    let mut i = 0;
-    let mut at = 0;
-    while i < records.len() {
-        if count <= lent::room(i, width) {
-            return Ok(());
-        }
-        if width <= at {
-            return Ok(());
-        }
-        print_word(rt, records[i], shape[at])?;
-        i += 1;
-        at = if at + 1 < width { at + 1 } else { 0 };
-    }
-    Ok(())
 }
 
 // A part of a text as one word.
 pub fn print_span(rt: &HostRuntime, offset: usize, len: usize) -> io::Result<()> {
     print_span_word(
         rt,
-        (offset as u64 % sizes::SPAN) * sizes::SPAN + len as u64 % sizes::SPAN,
+        offset as u64 % sizes::SPAN * sizes::SPAN + len as u64 % sizes::SPAN,
     )
+}
+
+// The words of the first `count` records. One that is not used is 0 as a number and as a span.
+pub fn print_records(
+    rt: &HostRuntime,
+    records: &[u64],
+    count: usize,
+    shape: &[Word],
+) -> io::Result<()> {
+    let most = count.saturating_mul(shape.len());
+    for (word, kind) in records.iter().zip(shape.iter().cycle()).take(most) {
+        match kind {
+            Word::Number => print!(rt; "{word} ")?,
+            Word::Span => print_span_word(rt, *word)?,
+        }
+    }
+    Ok(())
+}
+
+// A refusal's number, with the value beside it and no text.
+pub fn print_refusal(rt: &HostRuntime, number: u64, value: usize) -> io::Result<()> {
+    print!(rt; "{number} {value} -")
+}
+
+pub fn print_gate(rt: &HostRuntime, error: GateError) -> io::Result<()> {
+    match error {
+        GateError::TooLong => print_refusal(rt, 1, lent::LIMIT),
+        GateError::NotAscii(place) => print_refusal(rt, 2, place),
+        GateError::Short => print_refusal(rt, 3, 0),
+    }
 }
 
 // A refusal of a piece: which, its name's length, its span, and the name out of the text.
@@ -85,16 +118,7 @@ pub fn print_refused(
     span: u64,
     text: &[u8],
 ) -> io::Result<()> {
-    print_number(rt, number)?;
-    print_number(rt, piece as u64)?;
-    print_number(rt, name as u64)?;
+    print!(rt; "{number} {piece} {name} ")?;
     print_span_word(rt, span)?;
     print_text(rt, text, name)
-}
-
-// A refusal's number, with the value beside it and no text.
-pub fn print_refusal(rt: &HostRuntime, number: u64, value: usize) -> io::Result<()> {
-    print_number(rt, number)?;
-    print_number(rt, value as u64)?;
-    rt.write_all(b"-")
 }

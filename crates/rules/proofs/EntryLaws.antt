@@ -1,23 +1,22 @@
 -- Records read one after another: a whole one and those after it, or none where less than one is left.
 use mathlib.Core.Path.{◌≡◌, ◌∙◌}
-use mathlib.Core.List.{List, [], ◌∷◌}
-use Prim.Native.Nat.{ℕ, suc, ◌+◌, ◌-◌, ◌≤◌, ◌<◌}
+use mathlib.Core.List.{List, [], ◌∷◌, ◌++◌}
+use Prim.Native.Nat.{ℕ, suc, ◌-◌, ◌≤◌, ◌<◌}
 use native.Mathlib.Omega.{arith}
-use native.Mathlib.Nat.{add-zero}
-use lib.ListN.{length, drop, get_or, length-drop}
-use lib.Seq.{get_or-drop, drop-drop}
+use lib.ListN.{length, drop, length-drop, length-append, get_or-append}
+use lib.Seq.{drop-append_seam}
 use Rattle.lent.specs.Sizes.{action_words, room_for}
-use Rattle.rules.specs.Entries.{Entry, first, entries_of, entries}
+use Rattle.rules.specs.Entries.{first, entries_of, entries}
 
-pub room_more : (n : ℕ) → action_words ≤ n → room_for action_words n ≡ suc (room_for action_words (n - action_words))
+room_more : (n : ℕ) → action_words ≤ n → room_for action_words n ≡ suc (room_for action_words (n - action_words))
 unfolding room_for
 room_more n h = omega arith
 
-pub room_none : (n : ℕ) → n < action_words → room_for action_words n ≡ 0
+room_none : (n : ℕ) → n < action_words → room_for action_words n ≡ 0
 unfolding room_for
 room_none n h = omega arith
 
-pub entries_more : (w : List ℕ) → action_words ≤ length w → entries w ≡ first w ∷ entries (drop action_words w)
+entries_more : (w : List ℕ) → action_words ≤ length w → entries w ≡ first w ∷ entries (drop action_words w)
 unfolding entries entries_of
 entries_more w h = rw (room_more (length w) h, length-drop)
 
@@ -25,15 +24,9 @@ pub entries_none : (w : List ℕ) → length w < action_words → entries w ≡ 
 unfolding entries entries_of
 entries_none w h = rw (room_none (length w) h)
 
--- the entry at a place
-abbrev pub entry_at : List ℕ → ℕ → Entry
-entry_at w at = record { code = get_or w at 0; number = get_or w (at + 1) 0 }
-
-module _ (w : List ℕ) (at : ℕ) where
-  pub next_entry : action_words ≤ length w - at → entries (drop at w) ≡ entry_at w at ∷ entries (drop (at + action_words) w)
-  next_entry h =
-      let l : action_words ≤ length (drop at w) = rw length-drop h in
-      entries_more (drop at w) l ∙ rw (get_or-drop, get_or-drop, add-zero, drop-drop)
-
-  pub no_entry : length w - at < action_words → entries (drop at w) ≡ []
-  no_entry h = entries_none (drop at w) (rw length-drop h)
+-- a record, and what is behind it
+pub entries_joined : (x r : List ℕ) → length x ≡ action_words → entries (x ++ r) ≡ first x ∷ entries r
+entries_joined x r h =
+    let l : action_words ≤ length (x ++ r) = omega (arith, length-append x r) in
+    let d : drop action_words (x ++ r) ≡ r = rw h at (drop-append_seam x r) in
+    entries_more (x ++ r) l ∙ rw (d, get_or-append x r 0 0 (omega arith), get_or-append x r 0 1 (omega arith))

@@ -1,11 +1,9 @@
 -- The action records among lent words, by the two words of each that are read here: whole records only.
-use Rattle.std.specs.Prelude.{ℕ, zero, suc, List, [], ◌∷◌, length, drop, get_or, eqb}
+use Rattle.std.specs.Prelude.{ℕ, zero, suc, List, [], ◌∷◌, length, drop, get_or, eqb, Option, Some, None}
 use Rattle.ascii.specs.Choice.{pick}
 use Rattle.lent.specs.Sizes.{action_words, room_for}
 -- the codes of document 01 that are read here
 pub use Rattle.records.specs.Codes.{id_code, phase_code, severity_code, maturity_code, accuracy_code}
-pub use Rattle.rules.specs.declared.finding.Found.{Found}
-pub use Rattle.rules.specs.declared.finding.Found.TheVariants.{Number, Nothing}
 
 -- an action: its code, and its number word as it stands
 pub record Entry : Type 0 where
@@ -26,6 +24,6 @@ unfoldable pub entries : List ℕ → List Entry
 entries words = entries_of (room_for action_words (length words)) words
 
 -- the number of the first action that has a code
-unfoldable pub first_of : ℕ → List Entry → Found
-first_of code [] = Nothing
-first_of code (e ∷ r) = pick (eqb e.code code) (Number e.number) (first_of code r)
+unfoldable pub first_of : ℕ → List Entry → Option ℕ
+first_of code [] = None
+first_of code (e ∷ r) = pick (eqb e.code code) (Some e.number) (first_of code r)

@@ -7,7 +7,7 @@ mod grading;
 mod phases;
 mod selecting;
 
-pub use finding::{Found, first_number};
+pub use finding::first_number;
 pub use grading::grade;
 pub use phases::phase;
 pub use selecting::RuleIdSelector;

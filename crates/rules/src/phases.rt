@@ -3,14 +3,12 @@ ghost use Rattle.std.specs.Prelude.{◌≡◌};
 ghost use Rattle.rules.specs.Entries.{entries};
 ghost use Rattle.rules.specs.Phases.{phase_of};
 
-use crate::finding::{Found, first_number};
+use crate::finding::first_number;
 
 // The number of the first phase, as it stands, else 2.
+#[tactic(auto, unfolding(crate::specs::Phases::phase_of))]
 pub fn phase(words: &[u64]) -> u64
     ensures { result ≡ phase_of (entries words.now) }
 {
-    match first_number(words, records::PHASE) {
-        Found::Number(n) => n,
-        Found::Nothing => 2,
-    }
+    first_number(words, records::PHASE).unwrap_or(2)
 }

@@ -3,7 +3,7 @@ ghost use Rattle.std.specs.Prelude.{◌≡◌};
 ghost use Rattle.rules.specs.Selectors.{matched};
 
 // The Rust's enum, by value.
-#[derive(Clone, Copy)]
+#[derive(Clone, Copy, Debug, PartialEq, Eq)]
 pub enum RuleIdSelector {
     Single(u64),
     // Both ends belong to it; a start above the end leaves nothing.
@@ -16,12 +16,7 @@ impl RuleIdSelector {
     {
         match self {
             RuleIdSelector::Single(s) => id == s,
-            RuleIdSelector::Range(start, end) => {
-                if id < start {
-                    return false;
-                }
-                id <= end
-            }
+            RuleIdSelector::Range(start, end) => start <= id && id <= end,
         }
     }
 }

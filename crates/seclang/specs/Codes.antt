@@ -1,12 +1,11 @@
 -- Lookups and tests by a number that says which, and the library's own number.
-use Rattle.std.specs.Prelude.{ℕ, Bool, false, List, eqb}
+use Rattle.std.specs.Prelude.{ℕ, Bool, false, List, eqb, Option, Some, None}
 use Rattle.ascii.specs.Choice.{pick}
 use Rattle.names.specs.Variables.{variable_code, is_collection, is_implemented}
 use Rattle.names.specs.Operators.{operator_code, requires_argument}
 use Rattle.names.specs.Severities.{severity_code}
-use Rattle.names.specs.declared.Lookup.{Lookup}
 use Rattle.xml.specs.declared.XmlTarget.{XmlTarget}
-use Rattle.xml.specs.declared.XmlTarget.TheVariants.{Elements, Attributes, All, Neither}
+use Rattle.xml.specs.declared.XmlTarget.TheVariants.{Elements, Attributes, All}
 use Rattle.rules.specs.declared.selecting.RuleIdSelector.{RuleIdSelector}
 use Rattle.rules.specs.declared.selecting.RuleIdSelector.TheVariants.{Single, Range}
 use Rattle.directives.specs.declared.Version.{Version}
@@ -16,17 +15,17 @@ use Rattle.directives.specs.declared.Version.TheVariants.{TwoSix, TwoSeven}
 abbrev pub no_code : ℕ
 no_code = 18446744073709551615
 
-abbrev pub code_of : Lookup → ℕ
-code_of (Lookup.Code code) = code
-code_of Lookup.Unknown = no_code
+abbrev pub code_of : Option ℕ → ℕ
+code_of (Some code) = code
+code_of None = no_code
 
 -- 0 variables, 1 operators, 2 severity words; in any other table nothing is found
-unfoldable pub lookup_in : ℕ → List ℕ → Lookup
+unfoldable pub lookup_in : ℕ → List ℕ → Option ℕ
 lookup_in table name =
     pick (eqb table 0) (variable_code name)
     (pick (eqb table 1) (operator_code name)
     (pick (eqb table 2) (severity_code name)
-    Lookup.Unknown))
+    None))
 
 -- 0 is_collection, 1 is_implemented, 2 requires_argument; any other test answers no
 unfoldable pub test_of : ℕ → ℕ → Bool
@@ -37,11 +36,11 @@ test_of test code =
     false))
 
 -- the places of the Rust's enum, and 3 where there is no target
-abbrev pub target_of : XmlTarget → ℕ
-target_of Elements = 0
-target_of Attributes = 1
-target_of All = 2
-target_of Neither = 3
+abbrev pub target_of : Option XmlTarget → ℕ
+target_of (Some Elements) = 0
+target_of (Some Attributes) = 1
+target_of (Some All) = 2
+target_of None = 3
 
 -- a range of ids, or the first alone
 abbrev pub selector_of : Bool → ℕ → ℕ → RuleIdSelector

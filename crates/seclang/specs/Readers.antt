@@ -1,5 +1,5 @@
 -- What the readers' C functions promise: the number and values by document 01's table, the buffers as the reader leaves them.
-use Rattle.std.specs.Prelude.{◌≡◌, ℕ, Bool, List, length}
+use Rattle.std.specs.Prelude.{◌≡◌, ℕ, Bool, List, length, Option, Some, None}
 use Rattle.ascii.specs.Choice.{pick}
 use Rattle.lent.specs.Table.{Outcome, Filled, given_by, text_by, records_by}
 use Rattle.lexer.specs.declared.Cursor.{Cursor}
@@ -48,8 +48,8 @@ pub record Steps (s : List ℕ) (c : Cursor) (text text' old new : List ℕ) (r 
 -- ---- listings
 
 -- where reading stopped, out of the numbers that C passes
-abbrev pub stop_of : Bool → ℕ → ℕ → Stop
-stop_of early l k = pick early (Stop.Early (line l) (column k)) Stop.End
+abbrev pub stop_of : Bool → ℕ → ℕ → Option Stop
+stop_of early l k = pick early (Some (record { line = line l; column = column k })) None
 
 pub record Lists (o : Listing.Outcome) (out out' old new : List ℕ) (r : ℕ) : Type 0 where
   pub told : Told (Listing.given_by o) old new r

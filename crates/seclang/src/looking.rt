@@ -7,30 +7,23 @@ ghost use Rattle.rules.specs.Grades.{grades};
 ghost use Rattle.rules.specs.Selectors.{matched};
 ghost use Rattle.seclang.specs.Codes.{code_of, lookup_in, test_of, target_of, selector_of};
 
-use names::Lookup;
 use rules::RuleIdSelector;
 use xml::XmlTarget;
 
-fn code_or_none(found: Lookup) -> u64
-    ensures { result ≡ code_of found }
-{
-    match found {
-        Lookup::Code(code) => code,
-        Lookup::Unknown => u64::MAX,
-    }
-}
-
+#[tactic(auto, unfolding(crate::specs::Codes::lookup_in))]
 pub fn seclang_lookup(table: u64, name: &[u8]) -> u64
     ensures { result ≡ code_of (lookup_in table name.now) }
 {
-    match table {
-        0 => code_or_none(names::variable_code(name)),
-        1 => code_or_none(names::operator_code(name)),
-        2 => code_or_none(names::severity_code(name)),
-        _ => u64::MAX,
-    }
+    let found = match table {
+        0 => names::variable_code(name),
+        1 => names::operator_code(name),
+        2 => names::severity_code(name),
+        _ => None,
+    };
+    found.unwrap_or(u64::MAX)
 }
 
+#[tactic(auto, unfolding(crate::specs::Codes::test_of))]
 pub fn seclang_test(test: u64, code: u64) -> bool
     ensures { result ≡ test_of test code }
 {
@@ -46,10 +39,10 @@ pub fn seclang_xml_target(selection: u64, text: &[u8]) -> u64
     ensures { result ≡ target_of (xml_target selection text.now) }
 {
     match xml::xml_target(selection, text) {
-        XmlTarget::Elements => 0,
-        XmlTarget::Attributes => 1,
-        XmlTarget::All => 2,
-        XmlTarget::Neither => 3,
+        Some(XmlTarget::Elements) => 0,
+        Some(XmlTarget::Attributes) => 1,
+        Some(XmlTarget::All) => 2,
+        None => 3,
     }
 }
 

@@ -9,14 +9,13 @@ use crate::telling::tell_listed;
 use lexer::{Column, Line};
 use listing::Stop;
 
-fn stop_of(early: bool, line: usize, column: usize) -> Stop
+fn stop_of(early: bool, line: usize, column: usize) -> Option<Stop>
     ensures { result ≡ stop_of early line column }
 {
-    if early {
-        Stop::Early(Line(line), Column(column))
-    } else {
-        Stop::End
-    }
+    early.then_some(Stop {
+        line: Line(line),
+        column: Column(column),
+    })
 }
 
 pub fn seclang_write_listing(

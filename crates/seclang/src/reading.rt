@@ -103,6 +103,7 @@ pub fn seclang_parse_update_targets(
     )
 }
 
+#[tactic(auto, using(crate::proofs::ToldLaws::near_name))]
 pub fn seclang_parse_operator(input: &[u8], values: &mut [u64]) -> u64
     ensures { Told (Operating.given_by input.now (Operating.operator_outcome input.now)) values.old values.new result }
 {
@@ -113,9 +114,10 @@ fn version_of(from_2_7: bool) -> Version
     ensures { result ≡ version_of from_2_7 }
 {
     if from_2_7 {
-        return Version::TwoSeven;
+        Version::TwoSeven
+    } else {
+        Version::TwoSix
     }
-    Version::TwoSix
 }
 
 pub fn seclang_directives(

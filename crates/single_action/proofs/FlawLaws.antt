@@ -1,5 +1,8 @@
 -- A piece is refused for a flaw exactly where `Flaws` says so, and the Rust refuses it with its one error.
 -- The idea: a row's rule says what is read, ascii's laws what a text denotes; `t:` is no row's name.
+use Rattle.ascii.specs.declared.numbers.NumberError.TheVariants.{Unreadable, TooLarge}
+use Rattle.ascii.specs.declared.numbers.NumberError.{NumberError}
+use Rattle.std.specs.Prelude.{Option, Some, None, Result, Ok, Err}
 use mathlib.Core.Path.{◌≡◌, ◌∙◌, refl, sym, ap, subst}
 use mathlib.Core.Bool.{Bool, true, false}
 use mathlib.Core.List.{List, [], ◌∷◌}
@@ -17,16 +20,12 @@ use Rattle.ascii.specs.Fold.{lower, lowered, same}
 use Rattle.ascii.specs.Numbers.{all_digits, unsigned_by}
 use Rattle.ascii.specs.Numerals.{Unsigned, bare, plus}
 use Rattle.ascii.specs.Splits.{Split, whole, halves, split}
-use Rattle.ascii.specs.declared.numbers.Number.{Number}
-use Rattle.ascii.specs.declared.numbers.Number.TheVariants.{Value, Unreadable, TooLarge}
 use Rattle.ascii.proofs.ByteLaws.{bounds}
 use Rattle.ascii.proofs.SameLaws.{never, and_left, and_right}
 use Rattle.ascii.proofs.NumberLaws.{digit_bounds}
 use Rattle.ascii.proofs.NumeralLaws.{denotes}
 use Rattle.ascii.proofs.SignedLaws.{unsigned_too_large, unsigned_unreadable}
 use Rattle.lent.specs.declared.refusing.Flaw.{Flaw}
-use Rattle.names.specs.declared.Lookup.{Lookup}
-use Rattle.names.specs.declared.Lookup.TheVariants.{Code, Unknown}
 use Rattle.names.specs.Tables as N
 use Rattle.names.specs.Severities.{severities, severity_code}
 use Rattle.records.specs.Codes.{transformation_code}
@@ -75,11 +74,11 @@ module _ (r : Row) (flaw : Flaw) (name : List ℕ) where
 
   module _ {u : Rule} {t text : List ℕ} {most : ℕ} (n : Numeral u t text most) where
     -- a number that is not there, by what was read of it
-    read_told : (x : Number) → (x ≡ Unreadable → ((v : ℕ) → Unsigned text v → ⊥) × (u ≡ severity → severity_code text ≡ Unknown))
-        → (x ≡ TooLarge → (v : ℕ) × Unsigned text v × (most < v)) → number_by r x ≡ bad flaw name → Told u (present t)
-    read_told (Value v) f g e = not_done refl e
-    read_told Unreadable f g e = told (no_number n (f refl).0 (f refl).1) e
-    read_told TooLarge f g e = let p = g refl in told (past_width n p.0 p.1 p.2) e
+    read_told : (x : Result ℕ NumberError) → (x ≡ (Err Unreadable) → ((v : ℕ) → Unsigned text v → ⊥) × (u ≡ severity → severity_code text ≡ None))
+        → (x ≡ (Err TooLarge) → (v : ℕ) × Unsigned text v × (most < v)) → number_by r x ≡ bad flaw name → Told u (present t)
+    read_told (Ok v) f g e = not_done refl e
+    read_told (Err Unreadable) f g e = told (no_number n (f refl).0 (f refl).1) e
+    read_told (Err TooLarge) f g e = let p = g refl in told (past_width n p.0 p.1 p.2) e
 
   number_told : (most : ℕ) (t : List ℕ) → number_by r (unsigned_by most t) ≡ bad flaw name → Told (up_to most) (present t)
   number_told most t = read_told itself (unsigned_by most t) (λ e. ((unsigned_unreadable most t).0 e, λ z. absurd (upto_not most z))) (unsigned_too_large most t).0
@@ -91,12 +90,12 @@ module _ (r : Row) (flaw : Flaw) (name : List ℕ) where
   unfolding severity_number
   severity_told t = go (unsigned_by (largest 8) (stripped t)) refl (severity_code (stripped t)) refl
     where
-      go : (x : Number) → unsigned_by (largest 8) (stripped t) ≡ x → (w : Lookup) → severity_code (stripped t) ≡ w → number_by r (or_word (unsigned_by (largest 8) (stripped t)) (stripped t)) ≡ bad flaw name
+      go : (x : Result ℕ NumberError) → unsigned_by (largest 8) (stripped t) ≡ x → (w : Option ℕ) → severity_code (stripped t) ≡ w → number_by r (or_word (unsigned_by (largest 8) (stripped t)) (stripped t)) ≡ bad flaw name
           → Told severity (present t)
-      go (Value v) p w q e = not_done refl (rw p at e)
-      go Unreadable p (Code v) q e = not_done refl (rw (p, q) at e)
-      go Unreadable p Unknown q e = told (no_number bared ((unsigned_unreadable (largest 8) (stripped t)).0 p) (λ z. q)) (rw (p, q) at e)
-      go TooLarge p w q e = let d = (unsigned_too_large (largest 8) (stripped t)).0 p in told (past_width bared d.0 d.1 d.2) (rw p at e)
+      go (Ok v) p w q e = not_done refl (rw p at e)
+      go (Err Unreadable) p (Some v) q e = not_done refl (rw (p, q) at e)
+      go (Err Unreadable) p None q e = told (no_number bared ((unsigned_unreadable (largest 8) (stripped t)).0 p) (λ z. q)) (rw (p, q) at e)
+      go (Err TooLarge) p w q e = let d = (unsigned_too_large (largest 8) (stripped t)).0 p in told (past_width bared d.0 d.1 d.2) (rw p at e)
 
   text_told : (u : Rule) (t : List ℕ) → with_text u r t ≡ bad flaw name → Told u (present t)
   unfolding with_text
@@ -134,7 +133,7 @@ wants_bad r a_severity = refl
 wants_bad r an_equation = refl
 wants_bad r a_setting = refl
 
-unread_bad : (r : Row) {u : Rule} {t text : List ℕ} {most : ℕ} → Numeral u t text most → ((v : ℕ) → Unsigned text v → ⊥) → (u ≡ severity → severity_code text ≡ Unknown)
+unread_bad : (r : Row) {u : Rule} {t text : List ℕ} {most : ℕ} → Numeral u t text most → ((v : ℕ) → Unsigned text v → ⊥) → (u ≡ severity → severity_code text ≡ None)
     → with_text u r t ≡ bad Flaw.Unreadable r.name
 unfolding with_text severity_number
 unread_bad r {t = t} {most = most} itself f w = rw ((unsigned_unreadable most t).1 f)
@@ -217,7 +216,7 @@ lower_low b h = go (within 65 90 b) refl
     go false e = h
 
 -- and no word of the table begins with one
-no_letter : (b : ℕ) (r : List ℕ) → b ≤ 57 → severity_code (b ∷ r) ≡ Unknown
+no_letter : (b : ℕ) (r : List ℕ) → b ≤ 57 → severity_code (b ∷ r) ≡ None
 unfolding severity_code severities N.find same bytes
 no_letter b r h =
     let l = lower_low b h in
@@ -225,12 +224,12 @@ no_letter b r h =
     rw (n 101 (omega arith), n 97 (omega arith), n 99 (omega arith), n 119 (omega arith), n 110 (omega arith), n 105 (omega arith), n 100 (omega arith))
 
 -- so a text that denotes a number is no word
-no_word : (u : List ℕ) (v : ℕ) → Unsigned u v → severity_code u ≡ Unknown
+no_word : (u : List ℕ) (v : ℕ) → Unsigned u v → severity_code u ≡ None
 unfolding all_digits
 no_word u v (plus {s = s} d) = no_letter 43 s (omega arith)
 no_word u v (bare d) = go u (denotes d).some (denotes d).digits
   where
-    go : (u : List ℕ) → 0 < length u → all_digits u ≡ true → severity_code u ≡ Unknown
+    go : (u : List ℕ) → 0 < length u → all_digits u ≡ true → severity_code u ≡ None
     go [] h k = absurd (omega arith)
     go (b ∷ r) h k = no_letter b r (digit_bounds b (and_left (digit b) (all_digits r) k)).1
 
@@ -239,9 +238,9 @@ pub severity_original : (r : Row) (t : List ℕ) → severity_ours r t ≡ sever
 unfolding with_text severity_number
 severity_original r t = go (unsigned_by (largest 8) (stripped t)) refl (severity_code (stripped t)) refl
   where
-    go : (x : Number) → unsigned_by (largest 8) (stripped t) ≡ x → (w : Lookup) → severity_code (stripped t) ≡ w
+    go : (x : Result ℕ NumberError) → unsigned_by (largest 8) (stripped t) ≡ x → (w : Option ℕ) → severity_code (stripped t) ≡ w
         → parsed (number_by r (or_word x (stripped t))) ≡ severity_parsed r (severity_by x (stripped t))
-    go (Value v) p w q = refl
-    go Unreadable p (Code v) q = rw q
-    go Unreadable p Unknown q = rw q
-    go TooLarge p w q = let d = (unsigned_too_large (largest 8) (stripped t)).0 p in rw (no_word (stripped t) d.0 d.1)
+    go (Ok v) p w q = refl
+    go (Err Unreadable) p (Some v) q = rw q
+    go (Err Unreadable) p None q = rw q
+    go (Err TooLarge) p w q = let d = (unsigned_too_large (largest 8) (stripped t)).0 p in rw (no_word (stripped t) d.0 d.1)

@@ -1,6 +1,11 @@
 -- One action by places: what each way out of its functions says of the text.
+use Rattle.ascii.specs.declared.numbers.NumberError.TheVariants.{Unreadable}
+use Rattle.ascii.specs.declared.numbers.NumberError.{NumberError}
+use Rattle.std.specs.Option.{ok_or}
+use Rattle.std.specs.Result.{result_unwrap_or}
+use Rattle.std.specs.Prelude.{Option, Some, None, Result, Ok, Err}
 use mathlib.Core.Path.{◌≡◌, ◌∙◌, refl, sym, ap}
-use mathlib.Core.Bool.{Bool, true, false}
+use mathlib.Core.Bool.{Bool, true, false, ◌&&◌}
 use mathlib.Core.Logic.{◌⊎◌, inl, inr}
 use mathlib.Core.List.{List, [], ◌∷◌}
 use Prim.Native.Nat.{ℕ, ◌+◌, ◌≤◌, ◌<◌}
@@ -9,15 +14,15 @@ use native.Mathlib.Omega.{arith}
 use types.Run.{OneOf, miss}
 use denote.Enum.Declared.{tag_of}
 use lib.ListN.{length, take, drop}
+use lib.Pointwise.{pointwise}
 use lib.Seq.{take_all}
 use lib.Dec.{eqb, ltb}
-use borrow.Author.Tests.{ltb-true, ltb-false}
+use borrow.Author.Tests.{ltb-true, ltb-false, eqb-true, eq-eqb}
 use Rattle.ascii.specs.Choice.{and}
 use Rattle.ascii.specs.Text.{bytes}
 use Rattle.ascii.specs.Fold.{lowered, same}
 use Rattle.ascii.specs.Numbers.{unsigned_by}
 use Rattle.ascii.specs.Splits.{whole, halves, split, first_of}
-use Rattle.ascii.specs.declared.numbers.Number.{Number}
 use Rattle.ascii.specs.declared.trimming.Part.{Part}
 use Rattle.ascii.proofs.SplitLaws.{first_fits, split_halves, split_whole}
 use Rattle.lent.specs.declared.refusing.Flaw.{Flaw}
@@ -26,19 +31,19 @@ use Rattle.records.specs.Codes.{transformation_code}
 use Rattle.single_action.specs.Marks.{stripped}
 use Rattle.single_action.specs.Setvar.{setvar}
 use Rattle.single_action.specs.Table.{Rule, plain, wanted, unmarked, up_to, severity, equation, expiry, setting, Row, largest, row_at, Placed}
-use Rattle.single_action.specs.Actions.{Action, action, numbered, absent, present, done, bad, unknown, number_by, or_word, severity_number, both_by, seconds, expiry_by, setvar_action, with_text, with_none, named, transforms, single}
+use Rattle.single_action.specs.Actions.{Action, action, numbered, absent, present, done, bad, unknown, number_by, word_number, or_word, severity_number, both_by, seconds, expiry_by, setvar_action, with_text, with_none, named, transforms, single}
 use Rattle.single_action.specs.Plans.{cut, Planned, text_plan, Judged, Stripped}
 use Rattle.single_action.specs.declared.plans.Plan.{Plan}
 use Rattle.single_action.specs.declared.plans.Origin.TheVariants.{Absent, Copied}
-use Rattle.single_action.specs.declared.plans.Verdict.TheVariants.{Done, Bad, Unknown}
+use Rattle.single_action.specs.declared.plans.PlanError.TheVariants.{Bad, Unknown}
 use Rattle.single_action.specs.contracts.naming.Rule.{the_type as rule_type}
 use Rattle.single_action.proofs.CutLaws.{cut_end, cut_none, found_within, cut_whole, cut_halves}
 
 module _ (s : List ℕ) where
-  pub done_plan : {p : Plan} {x : Action} → Planned s p x → Judged s (Done p) (done x)
+  pub done_plan : {p : Plan} {x : Action} → Planned s p x → Judged s (Ok p) (done x)
   done_plan h = record { means = ap done h.means; sound = h.inside }
 
-  pub bad_row : (flaw : Flaw) (row : ℕ) → row < 41 → Judged s (Bad flaw row) (bad flaw (row_at row).name)
+  pub bad_row : (flaw : Flaw) (row : ℕ) → row < 41 → Judged s (Err (Bad flaw row)) (bad flaw (row_at row).name)
   bad_row flaw row h = record { means = refl; sound = h }
 
   pub number_plan : (code n : ℕ) → Planned s (text_plan code n Absent) (numbered code n)
@@ -48,9 +53,18 @@ module _ (s : List ℕ) where
   copied_plan code n f p t o h e = record { means = rw e; inside = record { a = (o, h); b = tt; c = tt } }
 
 -- a severity, by what is read of it as a number
-pub severity_read : (t : List ℕ) {n : Number} → unsigned_by (largest 8) t ≡ n → or_word n t ≡ severity_number t
+pub severity_read : (t : List ℕ) {n : (Result ℕ NumberError)} → unsigned_by (largest 8) t ≡ n → or_word n t ≡ severity_number t
 unfolding severity_number
 severity_read t e = rw e
+
+-- a word of the table, or none
+pub word_or : (x : Option ℕ) → ok_or x Unreadable ≡ word_number x
+word_or (Some n) = refl
+word_or None = refl
+
+pub seconds_or : (x : Result ℕ NumberError) → seconds x ≡ result_unwrap_or x 0
+seconds_or (Ok n) = refl
+seconds_or (Err e) = refl
 
 -- ---- split at the first `=`
 
@@ -92,17 +106,17 @@ pub record Ruled (s : List ℕ) (from : ℕ) (r : Row) (code : ℕ) (rule : Rule
   pub ruled : rule ≡ r.rule
 
 module _ {s : List ℕ} {from : ℕ} {r : Row} {code : ℕ} {rule : Rule} (k : Ruled s from r code rule) where
-  pub text_plain : rule ≡ plain → Judged s (Done (text_plan code 0 Absent)) (with_text r.rule r (drop from s))
+  pub text_plain : rule ≡ plain → Judged s (Ok (text_plan code 0 Absent)) (with_text r.rule r (drop from s))
   unfolding with_text
   text_plain w = rw (sym k.ruled ∙ w, k.coded) (done_plan s (number_plan s r.code 0))
 
-  pub text_wanted : rule ≡ wanted → Judged s (Done (text_plan code 0 (Copied from (length s)))) (with_text r.rule r (drop from s))
+  pub text_wanted : rule ≡ wanted → Judged s (Ok (text_plan code 0 (Copied from (length s)))) (with_text r.rule r (drop from s))
   unfolding with_text
   text_wanted w =
       rw (sym k.ruled ∙ w, k.coded)
       (done_plan s (copied_plan s r.code 0 from (length s) (drop from s) k.within (omega arith) (cut_end s from)))
 
-  pub text_unmarked : rule ≡ unmarked → {p : Part} → Stripped s from p → Judged s (Done (text_plan code 0 (Copied p.first p.past))) (with_text r.rule r (drop from s))
+  pub text_unmarked : rule ≡ unmarked → {p : Part} → Stripped s from p → Judged s (Ok (text_plan code 0 (Copied p.first p.past))) (with_text r.rule r (drop from s))
   unfolding with_text
   text_unmarked w {p} m =
       rw (sym k.ruled ∙ w, k.coded)
@@ -117,29 +131,29 @@ module _ {s : List ℕ} {from : ℕ} {r : Row} {code : ℕ} {rule : Rule} (k : R
   unfolding with_text
   text_severity w m = rw (sym k.ruled ∙ w, m.text)
 
-  pub text_equation : rule ≡ equation → {p : Plan} → Planned s p (both_by code (split 61 (drop from s))) → Judged s (Done p) (with_text r.rule r (drop from s))
+  pub text_equation : rule ≡ equation → {p : Plan} → Planned s p (both_by code (split 61 (drop from s))) → Judged s (Ok p) (with_text r.rule r (drop from s))
   unfolding with_text
   text_equation w x = rw (sym k.ruled ∙ w, ← k.coded) (done_plan s x)
 
-  pub text_expiry : rule ≡ expiry → {p : Plan} → Planned s p (expiry_by code (split 61 (drop from s))) → Judged s (Done p) (with_text r.rule r (drop from s))
+  pub text_expiry : rule ≡ expiry → {p : Plan} → Planned s p (expiry_by code (split 61 (drop from s))) → Judged s (Ok p) (with_text r.rule r (drop from s))
   unfolding with_text
   text_expiry w x = rw (sym k.ruled ∙ w, ← k.coded) (done_plan s x)
 
-  pub text_setting : rule ≡ setting → {p : Plan} → Planned s p (setvar_action code (setvar (drop from s))) → Judged s (Done p) (with_text r.rule r (drop from s))
+  pub text_setting : rule ≡ setting → {p : Plan} → Planned s p (setvar_action code (setvar (drop from s))) → Judged s (Ok p) (with_text r.rule r (drop from s))
   unfolding with_text
   text_setting w x = rw (sym k.ruled ∙ w, ← k.coded) (done_plan s x)
 
 -- and where there is no argument
 module _ (s : List ℕ) (r : Row) {code : ℕ} {rule : Rule} (e : code ≡ r.code) (k : rule ≡ r.rule) where
-  pub none_plain : rule ≡ plain → Judged s (Done (text_plan code 0 Absent)) (with_none r.rule r)
+  pub none_plain : rule ≡ plain → Judged s (Ok (text_plan code 0 Absent)) (with_none r.rule r)
   unfolding with_none
   none_plain w = rw (sym k ∙ w, e) (done_plan s (number_plan s r.code 0))
 
-  pub none_unmarked : rule ≡ unmarked → Judged s (Done (text_plan code 0 (Copied 0 0))) (with_none r.rule r)
+  pub none_unmarked : rule ≡ unmarked → Judged s (Ok (text_plan code 0 (Copied 0 0))) (with_none r.rule r)
   unfolding with_none
   none_unmarked w = rw (sym k ∙ w, e) (done_plan s (copied_plan s r.code 0 0 0 [] (omega arith) (omega arith) refl))
 
-  pub none_expiry : rule ≡ expiry → Judged s (Done (text_plan code 0 (Copied 0 0))) (with_none r.rule r)
+  pub none_expiry : rule ≡ expiry → Judged s (Ok (text_plan code 0 (Copied 0 0))) (with_none r.rule r)
   unfolding with_none
   none_expiry w = rw (sym k ∙ w, e) (done_plan s (copied_plan s r.code 0 0 0 [] (omega arith) (omega arith) refl))
 
@@ -159,6 +173,27 @@ none_bad setting r h = refl
 
 -- ---- one piece
 
+-- what std says of the start of a text
+eqb_swap : (a b : ℕ) → eqb a b ≡ eqb b a
+eqb_swap a b = go (eqb a b) refl (eqb b a) refl
+  where
+    go : (t : Bool) → eqb a b ≡ t → (u : Bool) → eqb b a ≡ u → t ≡ u
+    go true e true f = refl
+    go false e false f = refl
+    go true e false f = sym (sym f ∙ eq-eqb b a (sym (eqb-true a b e)))
+    go false e true f = sym e ∙ eq-eqb a b (sym (eqb-true b a f))
+
+pub starts_same : (xs ys : List ℕ) → pointwise eqb xs ys ≡ same ys xs
+unfolding same
+starts_same [] [] = refl
+starts_same [] (y ∷ ys) = refl
+starts_same (x ∷ xs) [] = refl
+starts_same (x ∷ xs) (y ∷ ys) = rw (eqb_swap x y, starts_same xs ys) (go (eqb y x))
+  where
+    go : (t : Bool) → (t && same ys xs) ≡ and t (same ys xs)
+    go true = refl
+    go false = refl
+
 pub transform_short : (s : List ℕ) → length s < 2 → transforms s ≡ false
 unfolding same bytes
 transform_short [] h = refl
@@ -176,7 +211,7 @@ transform_long s e = go (ltb (length s) 2) refl
     go true l = let q = transform_short s (ltb-true (length s) 2 l) in absurd (never cc)
     go false l = ltb-false (length s) 2 l
 
-pub transform_done : (s : List ℕ) → transforms s ≡ true → Judged s (Done (text_plan transformation_code 0 (Copied 2 (length s)))) (single s)
+pub transform_done : (s : List ℕ) → transforms s ≡ true → Judged s (Ok (text_plan transformation_code 0 (Copied 2 (length s)))) (single s)
 unfolding single
 transform_done s e = rw e (done_plan s (copied_plan s transformation_code 0 2 (length s) (drop 2 s) (transform_long s e) (omega arith) (cut_end s 2)))
 
@@ -197,19 +232,19 @@ module _ (s : List ℕ) (n : ℕ) (k : Parted s n) where
   unfolding single
   without_colon l = rw (k.other, split_whole 58 s (omega (arith, k.at)), take_all n s l)
 
-  module _ (row : ℕ) (p : Placed (take n s) row) where
-    pub single_unknown : 41 ≤ row → Judged s (Unknown n) (single s)
-    unfolding named
-    single_unknown h = record { means = go (eq-or-lt_of_le colon_within); sound = colon_within }
-      where
-        go : (n ≡ length s) ⊎ (n < length s) → unknown (lowered (take n s)) ≡ single s
-        go (inl e) = sym (without_colon (omega arith) ∙ rw (p.none h))
-        go (inr l) = sym (with_colon l ∙ rw (p.none h))
+  pub single_unknown : Placed (take n s) None → Judged s (Err (Unknown n)) (single s)
+  unfolding named
+  single_unknown p = record { means = go (eq-or-lt_of_le colon_within); sound = colon_within }
+    where
+      go : (n ≡ length s) ⊎ (n < length s) → unknown (lowered (take n s)) ≡ single s
+      go (inl e) = sym (without_colon (omega arith) ∙ rw p)
+      go (inr l) = sym (with_colon l ∙ rw p)
 
-    pub single_text : row < 41 → n < length s → single s ≡ with_text (row_at row).rule (row_at row) (drop (n + 1) s)
+  module _ (row : ℕ) (p : Placed (take n s) (Some row)) where
+    pub single_text : n < length s → single s ≡ with_text (row_at row).rule (row_at row) (drop (n + 1) s)
     unfolding named
-    single_text h l = with_colon l ∙ rw (p.there h)
+    single_text l = with_colon l ∙ rw p.1
 
-    pub single_none : row < 41 → length s ≤ n → single s ≡ with_none (row_at row).rule (row_at row)
+    pub single_none : length s ≤ n → single s ≡ with_none (row_at row).rule (row_at row)
     unfolding named
-    single_none h l = without_colon l ∙ rw (p.there h)
+    single_none l = without_colon l ∙ rw p.1

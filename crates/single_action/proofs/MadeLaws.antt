@@ -1,4 +1,7 @@
 -- Every action that a reader makes has its texts where its code says so, whatever the piece.
+use Rattle.ascii.specs.declared.numbers.NumberError.TheVariants.{Unreadable, TooLarge}
+use Rattle.ascii.specs.declared.numbers.NumberError.{NumberError}
+use Rattle.std.specs.Prelude.{Result, Ok, Err}
 use mathlib.Core.Path.{◌≡◌, refl, ap, subst}
 use mathlib.Core.Bool.{Bool, true, false}
 use mathlib.Core.List.{List, [], ◌∷◌, map}
@@ -8,10 +11,9 @@ use Rattle.ascii.specs.Choice.{pick}
 use Rattle.ascii.specs.Fold.{lowered, same_lowered}
 use Rattle.ascii.specs.Numbers.{unsigned_by}
 use Rattle.ascii.specs.Splits.{Split, whole, halves, split}
-use Rattle.ascii.specs.declared.numbers.Number.{Number}
-use Rattle.ascii.specs.declared.numbers.Number.TheVariants.{Value, Unreadable, TooLarge}
-use Rattle.records.specs.Codes as K
-use Rattle.records.specs.Codes.{Shape, shapes, shape_of}
+use Rattle.records.specs.declared.marking.Shape.{Shape}
+use Rattle.records.specs.declared.marking.Shape.TheVariants as K
+use Rattle.records.specs.Codes.{transformation_code, shapes, shape_of}
 use Rattle.records.specs.Decoding.{formed}
 use Rattle.single_action.specs.Marks.{stripped}
 use Rattle.single_action.specs.Setvar.{SetValue, text, int, increment, decrement, delete, macro, Setvar, setvar}
@@ -20,14 +22,14 @@ use Rattle.single_action.specs.Actions.{Slot, absent, present, Action, worded, S
 
 -- what a rule makes
 abbrev pub shape_for : Rule → Shape
-shape_for plain = K.bare
-shape_for wanted = K.one
-shape_for unmarked = K.one
-shape_for (up_to most) = K.bare
-shape_for severity = K.bare
-shape_for equation = K.two
-shape_for expiry = K.one
-shape_for setting = K.setting
+shape_for plain = K.Bare
+shape_for wanted = K.One
+shape_for unmarked = K.One
+shape_for (up_to most) = K.Bare
+shape_for severity = K.Bare
+shape_for equation = K.Two
+shape_for expiry = K.One
+shape_for setting = K.Setting
 
 abbrev Suits : Row → Type 0
 Suits r = shape_of r.code ≡ shape_for r.rule
@@ -47,23 +49,23 @@ Fine (bad f n) = Unit {0}
 Fine (unknown n) = Unit {0}
 
 module _ (r : Row) where
-  fine_number : (n : Number) → shape_of r.code ≡ K.bare → Fine (number_by r n)
+  fine_number : (n : Result ℕ NumberError) → shape_of r.code ≡ K.Bare → Fine (number_by r n)
   unfolding formed
-  fine_number (Value n) e = rw e
-  fine_number Unreadable e = tt
-  fine_number TooLarge e = tt
+  fine_number (Ok n) e = rw e
+  fine_number (Err Unreadable) e = tt
+  fine_number (Err TooLarge) e = tt
 
-  fine_both : (s : Split) → shape_of r.code ≡ K.two → formed (both_by r.code s) ≡ true
+  fine_both : (s : Split) → shape_of r.code ≡ K.Two → formed (both_by r.code s) ≡ true
   unfolding formed
   fine_both (whole a) e = rw e
   fine_both (halves a b) e = rw e
 
-  fine_expiry : (s : Split) → shape_of r.code ≡ K.one → formed (expiry_by r.code s) ≡ true
+  fine_expiry : (s : Split) → shape_of r.code ≡ K.One → formed (expiry_by r.code s) ≡ true
   unfolding formed
   fine_expiry (whole a) e = rw e
   fine_expiry (halves a b) e = rw e
 
-  pub fine_value : (v : Setvar) (w : SetValue) → v.value ≡ w → shape_of r.code ≡ K.setting → formed (setvar_action r.code v) ≡ true
+  pub fine_value : (v : Setvar) (w : SetValue) → v.value ≡ w → shape_of r.code ≡ K.Setting → formed (setvar_action r.code v) ≡ true
   unfolding formed
   fine_value v (text t) f e = rw (f, e)
   fine_value v (int n) f e = rw (f, e)
@@ -104,7 +106,7 @@ fine_find [] all name key s = tt
 fine_find (r ∷ rs) all name key s = go (same_lowered r.name key) (fine_find rs (ap (drop 1) all) name key s)
   where
     go : (t : Bool) → Fine (found_by (find rs key) name s) → Fine (found_by (pick t (found r) (find rs key)) name s)
-    go true h = fine_row r s (ap (λ (l : List Shape). get_or l 0 K.no_code) all)
+    go true h = fine_row r s (ap (λ (l : List Shape). get_or l 0 K.NoCode) all)
     go false h = h
 
 fine_split : (s : Split) → Fine (split_by s)
@@ -116,7 +118,7 @@ pub fine_single : (s : List ℕ) → Fine (single s)
 unfolding single formed shape_of shapes
 fine_single s = go (transforms s)
   where
-    go : (t : Bool) → Fine (pick t (done (worded K.transformation_code (drop 2 s))) (split_by (split 58 s)))
+    go : (t : Bool) → Fine (pick t (done (worded transformation_code (drop 2 s))) (split_by (split 58 s)))
     go true = refl
     go false = fine_split (split 58 s)
 

@@ -1,4 +1,5 @@
 -- The row of a name by its length: a row whose name is found is the only one, and a name that is none of the rows of its length is none at all.
+use Rattle.std.specs.Prelude.{Option, Some, None}
 use mathlib.Core.Path.{◌≡◌, ◌∙◌, refl, sym, ap}
 use mathlib.Core.Bool.{Bool, true, false}
 use mathlib.Core.List.{List, [], ◌∷◌}
@@ -23,21 +24,14 @@ sought k = lowered (row_at k).name
 -- ---- one name after another
 
 -- it is the name
-pub hit : {ks name lit : List ℕ} {k : ℕ} {r : Bool} → r ≡ true → r ≡ same (lowered name) lit → sought k ≡ lit → k < 41 → Among ks name k
-hit {ks} {name} {lit} t s e h = record {
-  within = omega arith;
-  there = λ _. e ∙ sym (same_true (lowered name) lit (sym s ∙ t));
-  none = λ g. absurd (omega arith);
-}
+pub hit : (name : List ℕ) {lit : List ℕ} {k : ℕ} {r : Bool} → r ≡ true → r ≡ same (lowered name) lit → sought k ≡ lit → k < 41 → (k < 41) × (sought k ≡ lowered name)
+hit name {lit} t s e h = (h, e ∙ sym (same_true (lowered name) lit (sym s ∙ t)))
 
 pub ruleset hits = (hit, rules)
 
 -- it is not
 pub other : (name : List ℕ) (k : ℕ) {r : Bool} → r ≡ same (lowered name) (sought k) → r ≡ false → sought k ≡ lowered name → ⊥
 other name k s t f = same_not (lowered name) (sought k) (sym s ∙ t) (sym f)
-
-pub none_among : {ks name : List ℕ} → NoneOf ks name → Among ks name 41
-none_among n = record { within = omega arith; there = λ h. absurd (omega arith); none = λ _. n }
 
 never_both : (t : Bool) → pick t false true ≡ true → t ≡ true → ⊥
 never_both true e f = never cc
@@ -94,9 +88,6 @@ module _ (test : ℕ → Bool) (ks name : List ℕ) (c : every (covers test ks) 
       let m : member k ks ≡ true = rw (e, l) at (at (covers test ks) 41 c k b) in
       none_at ks k n m f
 
-  pub placed_by : (r : ℕ) → Among ks name r → Placed name r
-  placed_by r x = record {
-    within = x.within;
-    there = λ b. ap (find rows) (sym (x.there b)) ∙ found_there r b;
-    none = λ g. find_none rows (lowered name) (λ k b. nowhere (x.none g) k (rw rows_count at b));
-  }
+  pub placed_by : (r : Option ℕ) → Among ks name r → Placed name r
+  placed_by (Some r) x = (x.0, ap (find rows) (sym x.1) ∙ found_there r x.0)
+  placed_by None x = find_none rows (lowered name) (λ k b. nowhere x k (rw rows_count at b))

@@ -1,11 +1,11 @@
 -- A setvar by places: what each way out of its functions says of the text.
+use Rattle.ascii.specs.declared.numbers.NumberError.{NumberError}
+use Rattle.std.specs.Prelude.{Ok, Err}
 use mathlib.Core.Path.{◌≡◌, ◌∙◌, refl, sym, ap}
 use mathlib.Core.Bool.{Bool, true, false}
-use mathlib.Core.List.{List, [], ◌∷◌}
+use mathlib.Core.List.{List}
 use Prim.Native.Nat.{ℕ, ◌+◌, ◌-◌, ◌≤◌, ◌<◌}
 use native.Mathlib.Omega.{arith}
-use types.Run.{OneOf, miss}
-use denote.Enum.Declared.{tag_of}
 use lib.ListN.{length, take, drop, get_or, length-drop}
 use lib.Dec.{eqb, leb}
 use borrow.Author.Tests.{eq-eqb, leb-true}
@@ -16,9 +16,6 @@ use Rattle.ascii.specs.declared.trimming.Part.{Part}
 use Rattle.ascii.specs.Trim.{leading, trim_ends, trimmed_part}
 use Rattle.ascii.specs.Numbers.{signed_word}
 use Rattle.ascii.specs.Splits.{first_of, leads}
-use Rattle.ascii.specs.declared.numbers.Number.{Number}
-use Rattle.ascii.specs.declared.numbers.Number.TheVariants.{Value, Unreadable, TooLarge}
-use Rattle.ascii.specs.contracts.numbers.Number.{the_type}
 use Rattle.ascii.proofs.TrimLaws.{ends_are, ends_fit}
 use Rattle.ascii.proofs.SameLaws.{never}
 use Rattle.single_action.specs.Marks.{quotation, paired, unpaired}
@@ -66,18 +63,13 @@ module _ (s : List ℕ) (f p : ℕ) (ordered : f ≤ p) (fits : p ≤ length s) 
   unfolding plain_value
   unsigned_value v w = rw (v, w)
 
-  pub value_number : plain_value (cut s f p) ≡ number_or (cut s f p) (signed_word (cut s f p)) → (v : ℕ) → signed_word (cut s f p) ≡ Value v
+  pub value_number : plain_value (cut s f p) ≡ number_or (cut s f p) (signed_word (cut s f p)) → (v : ℕ) → signed_word (cut s f p) ≡ Ok v
       → ValuePlanned s (record { number = v; kind = 2; text = Absent }) (plain_value (cut s f p))
   value_number w v e = rw (w, e) (record { number = refl; kind = refl; text = refl; lies = tt })
 
-  pub value_text : plain_value (cut s f p) ≡ number_or (cut s f p) (signed_word (cut s f p)) → OneOf (1 ∷ 2 ∷ []) (tag_of the_type (signed_word (cut s f p)))
+  pub value_text : plain_value (cut s f p) ≡ number_or (cut s f p) (signed_word (cut s f p)) → {x : NumberError} → signed_word (cut s f p) ≡ Err x
       → ValuePlanned s (record { number = 0; kind = 1; text = Copied f p }) (plain_value (cut s f p))
-  value_text w h = rw (w, unread (signed_word (cut s f p)) h) (record { number = refl; kind = refl; text = refl; lies = (ordered, fits) })
-    where
-      unread : (n : Number) → OneOf (1 ∷ 2 ∷ []) (tag_of the_type n) → number_or (cut s f p) n ≡ text (cut s f p)
-      unread (Value v) h = absurd (miss (1 ∷ 2 ∷ []) 0 tt h)
-      unread Unreadable h = refl
-      unread TooLarge h = refl
+  value_text w e = rw (w, e) (record { number = refl; kind = refl; text = refl; lies = (ordered, fits) })
 
   pub value_macro : has_macro (cut s f p) ≡ true → ValuePlanned s (record { number = 0; kind = 6; text = Copied f p }) (value_of (cut s f p))
   unfolding value_of

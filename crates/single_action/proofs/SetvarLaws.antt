@@ -1,4 +1,7 @@
 -- The texts of a setvar are at most 3 bytes longer than its specification: `tx` and the text 1.
+use Rattle.ascii.specs.declared.numbers.NumberError.TheVariants.{Unreadable, TooLarge}
+use Rattle.ascii.specs.declared.numbers.NumberError.{NumberError}
+use Rattle.std.specs.Prelude.{Result, Ok, Err}
 use mathlib.Core.Path.{◌≡◌}
 use mathlib.Core.Bool.{Bool, true, false}
 use mathlib.Core.List.{List}
@@ -13,8 +16,6 @@ use Rattle.ascii.specs.Classes.{white}
 use Rattle.ascii.specs.Trim.{trim_ends}
 use Rattle.ascii.specs.Numbers.{signed_word}
 use Rattle.ascii.specs.Splits.{Split, whole, halves, split, leads}
-use Rattle.ascii.specs.declared.numbers.Number.{Number}
-use Rattle.ascii.specs.declared.numbers.Number.TheVariants.{Value, Unreadable, TooLarge}
 use Rattle.ascii.proofs.ListLaws.{next_byte}
 use Rattle.ascii.proofs.TrimLaws.{ends_fit}
 use Rattle.ascii.proofs.SplitLaws.{spread, split_spread}
@@ -42,10 +43,10 @@ name_short : (s : List ℕ) → name_length (name_of s) ≤ length s + 2
 unfolding name_of
 name_short s = omega (arith, by_short (split 46 s), split_spread 46 s)
 
-number_short : (s : List ℕ) (n : Number) → value_length (number_or s n) ≤ length s
-number_short s (Value v) = omega arith
-number_short s Unreadable = omega arith
-number_short s TooLarge = omega arith
+number_short : (s : List ℕ) (n : Result ℕ NumberError) → value_length (number_or s n) ≤ length s
+number_short s (Ok v) = omega arith
+number_short s (Err Unreadable) = omega arith
+number_short s (Err TooLarge) = omega arith
 
 value_short : (s : List ℕ) → value_length (value_of s) ≤ length s
 unfolding value_of plain_value

@@ -1,5 +1,8 @@
 -- What one piece writes, its texts or the name that is refused, is no longer than the piece.
 -- A setvar may write 3 bytes more than its argument has: its name, two bytes at least as every name of the table, and the colon pay for them.
+use Rattle.ascii.specs.declared.numbers.NumberError.TheVariants.{Unreadable, TooLarge}
+use Rattle.ascii.specs.declared.numbers.NumberError.{NumberError}
+use Rattle.std.specs.Prelude.{Result, Ok, Err}
 use mathlib.Core.Path.{◌≡◌, refl, sym, ap, ◌∙◌}
 use mathlib.Core.Bool.{Bool, true, false}
 use mathlib.Core.List.{List, [], ◌∷◌, ◌++◌}
@@ -14,8 +17,6 @@ use Rattle.ascii.specs.Fold.{lower, lowered, same, same_lowered}
 use Rattle.ascii.specs.Numbers.{unsigned_by}
 use Rattle.ascii.specs.Splits.{Split, whole, halves, split}
 use Rattle.ascii.proofs.SplitLaws.{spread, split_spread}
-use Rattle.ascii.specs.declared.numbers.Number.{Number}
-use Rattle.ascii.specs.declared.numbers.Number.TheVariants.{Value, Unreadable, TooLarge}
 use Rattle.ascii.proofs.SameLaws.{and_left, and_right, same_true}
 use Rattle.records.specs.Codes.{transformation_code}
 use Rattle.single_action.specs.Marks.{stripped}
@@ -42,11 +43,11 @@ setvar_text_lem k s =
     let t = slot_text (text_of v.value) in
     omega (arith, setvar_short s, length-append c (v.name.key ++ t), length-append v.name.key t)
 
-number_within : (n : ℕ) (r : Row) (x : Number) → length r.name ≤ n → Within n (number_by r x)
+number_within : (n : ℕ) (r : Row) (x : Result ℕ NumberError) → length r.name ≤ n → Within n (number_by r x)
 unfolding action_text
-number_within n r (Value v) h = omega arith
-number_within n r Unreadable h = h
-number_within n r TooLarge h = h
+number_within n r (Ok v) h = omega arith
+number_within n r (Err Unreadable) h = h
+number_within n r (Err TooLarge) h = h
 
 both_within : (k : ℕ) (x : Split) → length (action_text (both_by k x)) ≤ spread x
 unfolding action_text

@@ -1,4 +1,5 @@
 -- An action takes two bytes at least: no row has a shorter name, and `t:` has two.
+use Rattle.std.specs.Prelude.{None}
 use mathlib.Core.Path.{◌≡◌, refl}
 use mathlib.Core.Bool.{Bool, true, false}
 use mathlib.Core.List.{List, [], ◌∷◌}
@@ -14,7 +15,7 @@ use Rattle.names.proofs.Tests.{every}
 use Rattle.records.specs.Codes.{transformation_code}
 use Rattle.single_action.specs.Table.{rows, find, missing}
 use Rattle.single_action.specs.Actions.{Slot, absent, present, Single, done, bad, unknown, worded, named, split_by, single}
-use Rattle.single_action.proofs.RowLaws.{member, covers, between, is_between, none_among, placed_by}
+use Rattle.single_action.proofs.RowLaws.{member, covers, between, is_between, placed_by}
 
 -- what comes of n bytes: an action of two at least
 abbrev pub Wide : ℕ → Single → Type 0
@@ -28,7 +29,7 @@ no_row = refl
 
 pub no_name : (name : List ℕ) → length name ≤ 1 → find rows (lowered name) ≡ missing
 no_name name h =
-    (placed_by (between 0 1) [] name no_row (is_between 0 1 (length name) (omega arith) h) 41 (none_among tt)).none (omega arith)
+    placed_by (between 0 1) [] name no_row (is_between 0 1 (length name) (omega arith) h) None tt
 
 unnamed : (n : ℕ) (name : List ℕ) (arg : Slot) → length name ≤ 1 → Wide n (named (lowered name) arg)
 unfolding named

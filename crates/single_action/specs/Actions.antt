@@ -1,15 +1,13 @@
 -- One action of a list: parse_single_action.
-use Rattle.std.specs.Prelude.{ℕ, Bool, List, [], take, drop}
+use Rattle.ascii.specs.declared.numbers.NumberError.TheVariants.{Unreadable, TooLarge}
+use Rattle.ascii.specs.declared.numbers.NumberError.{NumberError}
+use Rattle.std.specs.Prelude.{ℕ, Bool, List, [], take, drop, Option, Some, None, Result, Ok, Err}
 use Rattle.ascii.specs.Choice.{pick}
 use Rattle.ascii.specs.Text.{bytes}
 use Rattle.ascii.specs.Fold.{lowered, same}
 use Rattle.ascii.specs.Numbers.{unsigned_by}
 use Rattle.ascii.specs.Splits.{Split, whole, halves, split}
-use Rattle.ascii.specs.declared.numbers.Number.{Number}
-use Rattle.ascii.specs.declared.numbers.Number.TheVariants.{Value, Unreadable, TooLarge}
 use Rattle.lent.specs.declared.refusing.Flaw.{Flaw}
-use Rattle.names.specs.declared.Lookup.{Lookup}
-use Rattle.names.specs.declared.Lookup.TheVariants.{Code, Unknown}
 use Rattle.names.specs.Severities.{severity_code}
 use Rattle.records.specs.Codes.{string_kind, int_kind, increment_kind, decrement_kind, delete_kind, macro_kind, transformation_code}
 pub use Rattle.records.specs.Actions.{Slot, absent, present, Action, slot_text}
@@ -68,24 +66,24 @@ abbrev pub setvar_action : ℕ → Setvar → Action
 setvar_action k v = record { code = k; number = number_of v.value; a = present v.name.collection; b = present v.name.key; kind = kind_of v.value; c = text_of v.value }
 
 -- A number that was read, or why it was not: `parse().ok()` and `ok_or_else` of parse_single_action.
-abbrev pub number_by : Row → Number → Single
-number_by r (Value n) = done (numbered r.code n)
-number_by r Unreadable = bad Flaw.Unreadable r.name
-number_by r TooLarge = bad Flaw.TooLarge r.name
+abbrev pub number_by : Row → Result ℕ NumberError → Single
+number_by r (Ok n) = done (numbered r.code n)
+number_by r (Err Unreadable) = bad Flaw.Unreadable r.name
+number_by r (Err TooLarge) = bad Flaw.TooLarge r.name
 
 -- The number that a severity word stands for; one that is not in the table says none.
-abbrev pub word_number : Lookup → Number
-word_number (Code n) = Value n
-word_number Unknown = Unreadable
+abbrev pub word_number : Option ℕ → Result ℕ NumberError
+word_number (Some n) = Ok n
+word_number None = (Err Unreadable)
 
 -- What is read of it, or else its word: only a text that says no number is looked for among the words.
-abbrev pub or_word : Number → List ℕ → Number
-or_word (Value n) t = Value n
-or_word Unreadable t = word_number (severity_code t)
-or_word TooLarge t = TooLarge
+abbrev pub or_word : Result ℕ NumberError → List ℕ → Result ℕ NumberError
+or_word (Ok n) t = Ok n
+or_word (Err Unreadable) t = word_number (severity_code t)
+or_word (Err TooLarge) t = (Err TooLarge)
 
 -- parse_severity: a number of the width u8 first, then the words.
-unfoldable pub severity_number : List ℕ → Number
+unfoldable pub severity_number : List ℕ → Result ℕ NumberError
 severity_number t = or_word (unsigned_by (largest 8) t) t
 
 -- Both halves as texts, as for ctl and initcol in parse_single_action; without `=` the second one is empty.
@@ -94,10 +92,9 @@ both_by k (whole a) = action k 0 (present a) (present [])
 both_by k (halves a b) = action k 0 (present a) (present b)
 
 -- Seconds, 0 where they are unreadable or too large: `unwrap_or(0)` of parse_single_action.
-abbrev pub seconds : Number → ℕ
-seconds (Value n) = n
-seconds Unreadable = 0
-seconds TooLarge = 0
+abbrev pub seconds : Result ℕ NumberError → ℕ
+seconds (Ok n) = n
+seconds (Err e) = 0
 
 -- A variable and its seconds, as for expirevar in parse_single_action; without `=` they are 0.
 abbrev pub expiry_by : ℕ → Split → Action

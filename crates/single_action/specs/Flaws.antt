@@ -1,15 +1,13 @@
 -- Why an action's argument is refused, in plain words, and the Rust's one error for all of it.
 -- proofs/FlawLaws.antt: a piece is refused for a flaw exactly where this says so.
-use Rattle.std.specs.Prelude.{◌≡◌, List, ℕ, ◌<◌}
+use Rattle.ascii.specs.declared.numbers.NumberError.TheVariants.{Unreadable, TooLarge}
+use Rattle.ascii.specs.declared.numbers.NumberError.{NumberError}
+use Rattle.std.specs.Prelude.{◌≡◌, List, ℕ, ◌<◌, Option, Some, None, Result, Ok, Err}
 use Rattle.ascii.specs.Fold.{lowered}
 use Rattle.ascii.specs.Numbers.{unsigned_by}
 use Rattle.ascii.specs.Numerals.{Unsigned}
 use Rattle.ascii.specs.Splits.{Split, whole, halves, split}
-use Rattle.ascii.specs.declared.numbers.Number.{Number}
-use Rattle.ascii.specs.declared.numbers.Number.TheVariants.{Value, Unreadable, TooLarge}
 use Rattle.lent.specs.declared.refusing.Flaw.{Flaw}
-use Rattle.names.specs.declared.Lookup.{Lookup}
-use Rattle.names.specs.declared.Lookup.TheVariants.{Code, Unknown}
 use Rattle.names.specs.Severities.{severity_code}
 use Rattle.single_action.specs.Marks.{stripped}
 use Rattle.single_action.specs.Table.{Rule, wanted, up_to, severity, equation, setting, Row, largest, rows, found, find}
@@ -34,7 +32,7 @@ pub data Numeral : Rule → List ℕ → List ℕ → ℕ → Type 0 where
 pub data Amiss (rule : Rule) : Slot → Flaw → Type 0 where
   none_there : Wants rule → Amiss rule absent Flaw.Absent
   -- it denotes none; nor is a severity a word of the table
-  no_number : {t u : List ℕ} {most : ℕ} → Numeral rule t u most → ((v : ℕ) → Unsigned u v → ⊥) → (rule ≡ severity → severity_code u ≡ Unknown)
+  no_number : {t u : List ℕ} {most : ℕ} → Numeral rule t u most → ((v : ℕ) → Unsigned u v → ⊥) → (rule ≡ severity → severity_code u ≡ None)
       → Amiss rule (present t) Flaw.Unreadable
   -- it denotes one past the width
   past_width : {t u : List ℕ} {most : ℕ} → Numeral rule t u most → (v : ℕ) → Unsigned u v → most < v → Amiss rule (present t) Flaw.TooLarge
@@ -69,15 +67,15 @@ parsed (bad flaw name) = invalid_action_argument name
 parsed (unknown name) = unknown_action name
 
 -- parse_severity to the letter: a word is looked for wherever no number of the width u8 was read, be it too large.
-abbrev pub severity_by : Number → List ℕ → Lookup
-severity_by (Value n) t = Code n
-severity_by Unreadable t = severity_code t
-severity_by TooLarge t = severity_code t
+abbrev pub severity_by : Result ℕ NumberError → List ℕ → Option ℕ
+severity_by (Ok n) t = Some n
+severity_by (Err Unreadable) t = severity_code t
+severity_by (Err TooLarge) t = severity_code t
 
 -- And its arm of parse_single_action.
-abbrev pub severity_parsed : Row → Lookup → Parsed
-severity_parsed r (Code n) = action (numbered r.code n)
-severity_parsed r Unknown = invalid_action_argument r.name
+abbrev pub severity_parsed : Row → Option ℕ → Parsed
+severity_parsed r (Some n) = action (numbered r.code n)
+severity_parsed r None = invalid_action_argument r.name
 
 -- A severity by our rule, and by the Rust's.
 abbrev pub severity_ours : Row → List ℕ → Parsed

@@ -1,8 +1,8 @@
 -- Actions by places: what a plan says of the text that it was read from.
-use Rattle.std.specs.Prelude.{◌≡◌, List, ℕ, ◌-◌, ◌≤◌, ◌<◌, length, take, drop}
+use Rattle.ascii.specs.declared.numbers.NumberError.{NumberError}
+use Rattle.std.specs.Prelude.{◌≡◌, List, ℕ, ◌-◌, ◌≤◌, ◌<◌, length, take, drop, Result, Ok, Err}
 use Rattle.ascii.specs.Text.{bytes}
 use Rattle.ascii.specs.Fold.{lowered}
-use Rattle.ascii.specs.declared.numbers.Number.{Number}
 use Rattle.ascii.specs.declared.trimming.Part.{Part}
 use Rattle.single_action.specs.Marks.{stripped}
 use Rattle.single_action.specs.Setvar.{SetValue, VarName, amount}
@@ -11,8 +11,8 @@ use Rattle.single_action.specs.Actions.{Slot, absent, present, Action, slot_text
 use Rattle.single_action.specs.declared.plans.Origin.{Origin}
 use Rattle.single_action.specs.declared.plans.Origin.TheVariants.{Absent, Copied, Lowered, Tx, One}
 use Rattle.single_action.specs.declared.plans.Plan.{Plan}
-use Rattle.single_action.specs.declared.plans.Verdict.{Verdict}
-use Rattle.single_action.specs.declared.plans.Verdict.TheVariants.{Done, Bad, Unknown}
+use Rattle.single_action.specs.declared.plans.PlanError.{PlanError}
+use Rattle.single_action.specs.declared.plans.PlanError.TheVariants.{Bad, Unknown}
 use Rattle.single_action.specs.declared.settings.NamePlan.{NamePlan}
 use Rattle.single_action.specs.declared.settings.ValuePlan.{ValuePlan}
 
@@ -64,19 +64,19 @@ abbrev pub text_plan : ℕ → ℕ → Origin → Plan
 text_plan code number a = record { code = code; number = number; a = a; b = Absent; kind = 0; c = Absent }
 
 -- What a verdict on s says.
-abbrev pub verdict_single : List ℕ → Verdict → Single
-verdict_single s (Done p) = done (plan_action s p)
-verdict_single s (Bad flaw row) = bad flaw (row_at row).name
-verdict_single s (Unknown n) = unknown (lowered (take n s))
+abbrev pub verdict_single : List ℕ → Result Plan PlanError → Single
+verdict_single s (Ok p) = done (plan_action s p)
+verdict_single s (Err (Bad flaw row)) = bad flaw (row_at row).name
+verdict_single s (Err (Unknown n)) = unknown (lowered (take n s))
 
 -- Its places lie in s, and its row in the table.
-abbrev pub Sound : List ℕ → Verdict → Type 0
-Sound s (Done p) = Inside s p
-Sound s (Bad flaw row) = row < 41
-Sound s (Unknown n) = n ≤ length s
+abbrev pub Sound : List ℕ → Result Plan PlanError → Type 0
+Sound s (Ok p) = Inside s p
+Sound s (Err (Bad flaw row)) = row < 41
+Sound s (Err (Unknown n)) = n ≤ length s
 
 -- A verdict on s says this of the piece.
-pub record Judged (s : List ℕ) (v : Verdict) (x : Single) : Type 0 where
+pub record Judged (s : List ℕ) (v : Result Plan PlanError) (x : Single) : Type 0 where
   pub means : verdict_single s v ≡ x
   pub sound : Sound s v
 
@@ -97,7 +97,7 @@ pub record ValuePlanned (s : List ℕ) (p : ValuePlan) (v : SetValue) : Type 0 w
   pub lies : Lies s p.text
 
 -- An increment or a decrement.
-abbrev pub step_plan : ℕ → Number → ValuePlan
+abbrev pub step_plan : ℕ → Result ℕ NumberError → ValuePlan
 step_plan kind n = record { number = amount n; kind = kind; text = Absent }
 
 -- A setvar from its parts.

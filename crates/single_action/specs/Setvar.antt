@@ -1,13 +1,12 @@
 -- A setvar specification: parse_setvar.
-use Rattle.std.specs.Prelude.{ℕ, Bool, false, List, [], ◌∷◌, drop, eqb}
+use Rattle.ascii.specs.declared.numbers.NumberError.{NumberError}
+use Rattle.std.specs.Prelude.{ℕ, Bool, false, List, [], ◌∷◌, drop, eqb, Result, Ok, Err}
 use Rattle.ascii.specs.Choice.{pick, and, or}
 use Rattle.ascii.specs.Text.{bytes}
 use Rattle.ascii.specs.Fold.{lowered}
 use Rattle.ascii.specs.Trim.{trim_ends}
 use Rattle.ascii.specs.Numbers.{signed_word}
 use Rattle.ascii.specs.Splits.{Split, whole, halves, split, leads}
-use Rattle.ascii.specs.declared.numbers.Number.{Number}
-use Rattle.ascii.specs.declared.numbers.Number.TheVariants.{Value, Unreadable, TooLarge}
 use Rattle.single_action.specs.Marks.{unpaired}
 
 -- SetVarValue; amounts are i64, as words in two's complement.
@@ -52,16 +51,14 @@ has_macro [] = false
 has_macro (b ∷ r) = or (and (eqb b 37) (leads 123 r)) (has_macro r)
 
 -- A step's amount: an unreadable or too large one is 1, as `unwrap_or(1)` says.
-abbrev pub amount : Number → ℕ
-amount (Value v) = v
-amount Unreadable = 1
-amount TooLarge = 1
+abbrev pub amount : Result ℕ NumberError → ℕ
+amount (Ok v) = v
+amount (Err e) = 1
 
 -- A number, or else the text itself: the last two branches of parse_setvar.
-abbrev pub number_or : List ℕ → Number → SetValue
-number_or s (Value v) = int v
-number_or s Unreadable = text s
-number_or s TooLarge = text s
+abbrev pub number_or : List ℕ → Result ℕ NumberError → SetValue
+number_or s (Ok v) = int v
+number_or s (Err e) = text s
 
 -- A value without a macro, in the order of parse_setvar: `+`, `-`, number, text.
 unfoldable pub plain_value : List ℕ → SetValue

@@ -1,5 +1,5 @@
 -- The action names and their rules: the arms of parse_single_action as rows.
-use Rattle.std.specs.Prelude.{◌≡◌, ℕ, ◌-◌, ◌^◌, ◌≤◌, ◌<◌, List, [], ◌∷◌, get_or, eqb}
+use Rattle.std.specs.Prelude.{◌≡◌, ℕ, ◌-◌, ◌^◌, ◌<◌, List, [], ◌∷◌, get_or, eqb, Option, Some, None}
 use Prim.Native.String.{String}
 use Rattle.ascii.specs.Choice.{pick}
 use Rattle.ascii.specs.Text.{bytes}
@@ -84,22 +84,20 @@ find (r ∷ rs) name = pick (same_lowered r.name name) (found r) (find rs name)
 abbrev pub row_at : ℕ → Row
 row_at k = get_or rows k (row "" 0 plain)
 
--- r is the place of a name's row, or the number of rows where it has none.
-pub record Placed (name : List ℕ) (r : ℕ) : Type 0 where
-  pub within : r ≤ 41
-  pub there : r < 41 → find rows (lowered name) ≡ found (row_at r)
-  pub none : 41 ≤ r → find rows (lowered name) ≡ missing
+-- r is the place of a name's row, or that it has none.
+abbrev pub Placed : List ℕ → Option ℕ → Type 0
+Placed name (Some r) = (r < 41) × (find rows (lowered name) ≡ found (row_at r))
+Placed name None = find rows (lowered name) ≡ missing
 
 -- None of the rows at these places has the name.
 abbrev pub NoneOf : List ℕ → List ℕ → Type 0
 NoneOf [] name = Unit {0}
 NoneOf (k ∷ ks) name = (lowered (row_at k).name ≡ lowered name → ⊥) × NoneOf ks name
 
--- r is the place of a row with the name, or the number of rows where none at these places has it.
-pub record Among (ks : List ℕ) (name : List ℕ) (r : ℕ) : Type 0 where
-  pub within : r ≤ 41
-  pub there : r < 41 → lowered (row_at r).name ≡ lowered name
-  pub none : 41 ≤ r → NoneOf ks name
+-- r is the place of a row with the name, or that none at these places has it.
+abbrev pub Among : List ℕ → List ℕ → Option ℕ → Type 0
+Among ks name (Some r) = (r < 41) × (lowered (row_at r).name ≡ lowered name)
+Among ks name None = NoneOf ks name
 
 -- The rules by number, as the code's table holds them.
 unfoldable pub rule_of : ℕ → Rule

@@ -12,7 +12,7 @@ mod singles;
 
 pub use marking::is_quotation;
 pub use naming::{Rule, numbered_rule, put_name};
-pub use plans::{Origin, Plan, Verdict};
+pub use plans::{Origin, Plan, PlanError};
 pub use searching::has_macro;
 pub use settings::read_setvar;
 pub use singles::read_single;

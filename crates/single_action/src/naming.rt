@@ -124,6 +124,7 @@ const CODES: [u64; 41] = [
     records::NO_AUDIT_LOG, // xmlns
 ];
 
+// By number: a constant table of the rules themselves is laid out anew at each look (parse_actions 37.9 instructions a byte for 23.4).
 const RULES: [u8; 41] = [
     0, // deny
     0, // block
@@ -177,7 +178,7 @@ pub fn put_name(row: usize, out: &mut [u8]) -> usize
     }
     let n = LENGTHS[row] as usize;
     let at = 16 * row;
-    lent::store_bytes(out, 0, &NAMES[at..at + n]);
+    lent::store(out, 0, &NAMES[at..at + n]);
     n
 }
 

@@ -25,10 +25,9 @@ pub struct Plan {
     pub c: Origin,
 }
 
-// What one piece comes to.
+// Why a piece has no plan.
 #[derive(Clone, Copy)]
-pub enum Verdict {
-    Done(Plan),
+pub enum PlanError {
     // 10 to 12: why, and the row of the table whose name it has
     Bad { flaw: Flaw, row: usize },
     // 5: the length of its name

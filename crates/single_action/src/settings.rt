@@ -8,7 +8,7 @@ ghost use Rattle.single_action.specs.Plans.{cut, step_plan, setvar_plan, NamePla
 use crate::marking::is_paired;
 use crate::plans::{Origin, Plan};
 use crate::searching::has_macro;
-use ascii::Number;
+use ascii::NumberError;
 
 // The collection and the key.
 #[derive(Clone, Copy)]
@@ -48,16 +48,11 @@ fn name_plan(s: &[u8], first: usize, past: usize) -> NamePlan
 }
 
 // A step's amount: 1 where it is unreadable or too large.
-fn step(kind: u64, amount: Number) -> ValuePlan
+fn step(kind: u64, amount: Result<u64, NumberError>) -> ValuePlan
     ensures { result ≡ step_plan kind amount }
 {
-    let number = match amount {
-        Number::Value(v) => v,
-        Number::Unreadable => 1,
-        Number::TooLarge => 1,
-    };
     ValuePlan {
-        number,
+        number: amount.unwrap_or(1),
         kind,
         text: Origin::Absent,
     }
@@ -71,18 +66,18 @@ fn plain_value(s: &[u8], first: usize, past: usize) -> ValuePlan
 {
     if first < past {
         match s[first] {
-            43 => return step(records::INCREMENT_KIND, ascii::signed(&s[first + 1..past])),
-            45 => return step(records::DECREMENT_KIND, ascii::signed(&s[first + 1..past])),
+            b'+' => return step(records::INCREMENT_KIND, ascii::signed(&s[first + 1..past])),
+            b'-' => return step(records::DECREMENT_KIND, ascii::signed(&s[first + 1..past])),
             _ => {}
         }
     }
     match ascii::signed(&s[first..past]) {
-        Number::Value(number) => ValuePlan {
+        Ok(number) => ValuePlan {
             number,
             kind: records::INT_KIND,
             text: Origin::Absent,
         },
-        _ => ValuePlan {
+        Err(_) => ValuePlan {
             number: 0,
             kind: records::STRING_KIND,
             text: Origin::Copied { first, past },
@@ -110,16 +105,13 @@ fn value_plan(s: &[u8], first: usize, past: usize) -> ValuePlan
 fn setvar_of(code: u64, name: NamePlan, value: ValuePlan) -> Plan
     ensures { result ≡ setvar_plan code name value }
 {
-    let a = name.collection;
-    let b = name.key;
-    let c = value.text;
     Plan {
         code,
         number: value.number,
-        a,
-        b,
+        a: name.collection,
+        b: name.key,
         kind: value.kind,
-        c,
+        c: value.text,
     }
 }
 
@@ -129,15 +121,13 @@ fn bare_plan(s: &[u8], first: usize, past: usize, code: u64) -> Plan
     requires past_in_bounds { past ≤ length s.now }
     ensures { Planned s.now result (setvar_action code (setvar_bare (cut s.now first past))) }
 {
-    if first < past {
-        if s[first] == b'!' {
-            let deleted = ValuePlan {
-                number: 0,
-                kind: records::DELETE_KIND,
-                text: Origin::Absent,
-            };
-            return setvar_of(code, name_plan(s, first + 1, past), deleted);
-        }
+    if first < past && s[first] == b'!' {
+        let deleted = ValuePlan {
+            number: 0,
+            kind: records::DELETE_KIND,
+            text: Origin::Absent,
+        };
+        return setvar_of(code, name_plan(s, first + 1, past), deleted);
     }
     let equals = first + ascii::first_of(&s[first..past], b'=');
     if past <= equals {

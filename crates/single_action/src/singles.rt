@@ -8,11 +8,10 @@ ghost use Rattle.single_action.specs.Plans.{text_plan, Planned, Judged};
 use crate::finding::row_of;
 use crate::marking::unmarked;
 use crate::naming::{LARGEST_8, Rule, code_of, rule_of};
-use crate::plans::{Origin, Plan, Verdict};
+use crate::plans::{Origin, Plan, PlanError};
 use crate::settings::setvar_plan;
-use ascii::Number;
+use ascii::NumberError;
 use lent::Flaw;
-use names::Lookup;
 
 // A record with a number and at most one text.
 fn text_plan(code: u64, number: u64, a: Origin) -> Plan
@@ -29,34 +28,31 @@ fn text_plan(code: u64, number: u64, a: Origin) -> Plan
 }
 
 // A number that was read, or why it was not. It is kept whole, at every width.
-fn number_verdict(row: usize, n: Number) -> Verdict
+fn number_verdict(row: usize, n: Result<u64, NumberError>) -> Result<Plan, PlanError>
     requires { row < 41 }
     ensures { (s : List ℕ) → Judged s result (number_by (row_at row) n) }
 {
     match n {
-        Number::Value(v) => Verdict::Done(text_plan(code_of(row), v, Origin::Absent)),
-        Number::Unreadable => Verdict::Bad {
+        Ok(v) => Ok(text_plan(code_of(row), v, Origin::Absent)),
+        Err(NumberError::Unreadable) => Err(PlanError::Bad {
             flaw: Flaw::Unreadable,
             row,
-        },
-        Number::TooLarge => Verdict::Bad {
+        }),
+        Err(NumberError::TooLarge) => Err(PlanError::Bad {
             flaw: Flaw::TooLarge,
             row,
-        },
+        }),
     }
 }
 
 // parse_severity: a number of the width u8 first, then the words, where the text says no number.
-fn severity_number(text: &[u8]) -> Number
+fn severity_number(text: &[u8]) -> Result<u64, NumberError>
     ensures { result ≡ severity_number text.now }
 {
     match ascii::unsigned(text, LARGEST_8) {
-        Number::Value(v) => Number::Value(v),
-        Number::TooLarge => Number::TooLarge,
-        Number::Unreadable => match names::severity_code(text) {
-            Lookup::Code(v) => Number::Value(v),
-            Lookup::Unknown => Number::Unreadable,
-        },
+        Ok(v) => Ok(v),
+        Err(NumberError::TooLarge) => Err(NumberError::TooLarge),
+        Err(NumberError::Unreadable) => names::severity_code(text).ok_or(NumberError::Unreadable),
     }
 }
 
@@ -97,15 +93,12 @@ fn expiry_plan(s: &[u8], from: usize, code: u64) -> Plan
     if s.len() <= equals {
         return text_plan(code, 0, name);
     }
-    match ascii::unsigned(&s[equals + 1..], u64::MAX) {
-        Number::Value(seconds) => text_plan(code, seconds, name),
-        Number::Unreadable => text_plan(code, 0, name),
-        Number::TooLarge => text_plan(code, 0, name),
-    }
+    let seconds = ascii::unsigned(&s[equals + 1..], u64::MAX).unwrap_or(0);
+    text_plan(code, seconds, name)
 }
 
 // A row's rule on the argument that starts at `from`.
-fn with_text(row: usize, s: &[u8], from: usize) -> Verdict
+fn with_text(row: usize, s: &[u8], from: usize) -> Result<Plan, PlanError>
     requires row_bound { row < 41 }
     requires from_in_bounds { from ≤ length s.now }
     ensures { Judged s.now result (with_text (row_at row).rule (row_at row) (drop from s.now)) }
@@ -113,13 +106,13 @@ fn with_text(row: usize, s: &[u8], from: usize) -> Verdict
     let past = s.len();
     let code = code_of(row);
     match rule_of(row) {
-        Rule::Plain => Verdict::Done(text_plan(code, 0, Origin::Absent)),
-        Rule::Wanted => Verdict::Done(text_plan(code, 0, Origin::Copied { first: from, past })),
+        Rule::Plain => Ok(text_plan(code, 0, Origin::Absent)),
+        Rule::Wanted => Ok(text_plan(code, 0, Origin::Copied { first: from, past })),
         Rule::Unmarked => {
             let part = unmarked(s, from);
             let first = part.first;
             let past = part.past;
-            Verdict::Done(text_plan(code, 0, Origin::Copied { first, past }))
+            Ok(text_plan(code, 0, Origin::Copied { first, past }))
         }
         Rule::UpTo(most) => number_verdict(row, ascii::unsigned(&s[from..], most)),
         Rule::Severity => {
@@ -128,27 +121,27 @@ fn with_text(row: usize, s: &[u8], from: usize) -> Verdict
             let past = part.past;
             number_verdict(row, severity_number(&s[first..past]))
         }
-        Rule::Equation => Verdict::Done(both_plan(s, from, code)),
-        Rule::Expiry => Verdict::Done(expiry_plan(s, from, code)),
-        Rule::Setting => Verdict::Done(setvar_plan(s, from, code)),
+        Rule::Equation => Ok(both_plan(s, from, code)),
+        Rule::Expiry => Ok(expiry_plan(s, from, code)),
+        Rule::Setting => Ok(setvar_plan(s, from, code)),
     }
 }
 
 // And where there is no argument: some take the empty text, others are refused.
-fn with_none(row: usize) -> Verdict
+fn with_none(row: usize) -> Result<Plan, PlanError>
     requires { row < 41 }
     ensures { (s : List ℕ) → Judged s result (with_none (row_at row).rule (row_at row)) }
 {
     let code = code_of(row);
     let empty = Origin::Copied { first: 0, past: 0 };
     match rule_of(row) {
-        Rule::Plain => Verdict::Done(text_plan(code, 0, Origin::Absent)),
-        Rule::Unmarked => Verdict::Done(text_plan(code, 0, empty)),
-        Rule::Expiry => Verdict::Done(text_plan(code, 0, empty)),
-        _ => Verdict::Bad {
+        Rule::Plain => Ok(text_plan(code, 0, Origin::Absent)),
+        Rule::Unmarked => Ok(text_plan(code, 0, empty)),
+        Rule::Expiry => Ok(text_plan(code, 0, empty)),
+        _ => Err(PlanError::Bad {
             flaw: Flaw::Absent,
             row,
-        },
+        }),
     }
 }
 
@@ -156,29 +149,25 @@ fn with_none(row: usize) -> Verdict
 fn is_transform(s: &[u8]) -> bool
     ensures { result ≡ transforms s.now }
 {
-    if s.len() < 2 {
-        return false;
-    }
-    ascii::is_same(&s[..2], b"t:")
+    s.starts_with(b"t:")
 }
 
 // One piece, which is trimmed.
-pub fn read_single(s: &[u8]) -> Verdict
+pub fn read_single(s: &[u8]) -> Result<Plan, PlanError>
     ensures { Judged s.now result (single s.now) }
 {
     let past = s.len();
     if is_transform(s) {
-        return Verdict::Done(text_plan(
+        return Ok(text_plan(
             records::TRANSFORMATION,
             0,
             Origin::Copied { first: 2, past },
         ));
     }
     let colon = ascii::first_of(s, b':');
-    let row = row_of(&s[..colon]);
-    if 41 <= row {
-        return Verdict::Unknown(colon);
-    }
+    let Some(row) = row_of(&s[..colon]) else {
+        return Err(PlanError::Unknown(colon));
+    };
     if colon < past {
         with_text(row, s, colon + 1)
     } else {

@@ -1,4 +1,5 @@
 -- A word is made exactly where neither half is above what both forms hold.
+use Rattle.std.specs.Prelude.{Result, Ok, Err}
 use mathlib.Core.Path.{◌≡◌, ◌∙◌, refl, sym, ap}
 use mathlib.Core.Bool.{Bool, true, false}
 use mathlib.Core.Logic.{◌↔◌}
@@ -8,18 +9,15 @@ use lib.Dec.{leb}
 use borrow.Author.Tests.{le-leb, lt-leb, leb-true, leb-false}
 use Rattle.ascii.specs.Choice.{and, bit}
 use Rattle.ascii.proofs.SameLaws.{and_left, and_right}
-use Rattle.spans.specs.Conversion.{half_most, in_both, made, Far, far, long}
-use Rattle.spans.specs.Promises.{answer_given}
-use Rattle.spans.specs.declared.converting.Answer.{Answer}
-use Rattle.spans.specs.declared.converting.Answer.TheVariants.{Word, TooFar}
+use Rattle.spans.specs.Conversion.{TooFar, too_far, half_most, in_both, made, Far, far, long}
 
 -- A word is no refusal, and one word is not two.
-apart : (w : ℕ) → Word w ≡ TooFar → ⊥
-apart w e = let z : ◌≡◌ {A = ℕ} 0 21 = ap (λ (r : Answer). (answer_given r).number) e in omega arith
+apart : (w : ℕ) → Ok w ≡ Err too_far → ⊥
+apart w e = cc
 
-word_in : Answer → ℕ
-word_in (Word w) = w
-word_in TooFar = 0
+word_in : Result ℕ TooFar → ℕ
+word_in (Ok w) = w
+word_in (Err e) = 0
 
 module _ (offset len : ℕ) where
   pub both_low : in_both offset len ≡ true → (offset ≤ half_most) × (len ≤ half_most)
@@ -45,28 +43,28 @@ module _ (offset len : ℕ) where
       go false = refl
 
   module _ (form : ℕ → ℕ → ℕ) where
-    pub made_near : in_both offset len ≡ true → made form offset len ≡ Word (form offset len)
+    pub made_near : in_both offset len ≡ true → made form offset len ≡ Ok (form offset len)
     unfolding made
     made_near e = rw e
 
-    pub made_far : in_both offset len ≡ false → made form offset len ≡ TooFar
+    pub made_far : in_both offset len ≡ false → made form offset len ≡ Err too_far
     unfolding made
     made_far e = rw e
 
     -- what a word that was made says
-    pub made_word : (w : ℕ) → made form offset len ≡ Word w → (in_both offset len ≡ true) × (w ≡ form offset len)
+    pub made_word : (w : ℕ) → made form offset len ≡ Ok w → (in_both offset len ≡ true) × (w ≡ form offset len)
     unfolding word_in
     made_word w = go (in_both offset len) refl
       where
-        go : (t : Bool) → in_both offset len ≡ t → made form offset len ≡ Word w → (in_both offset len ≡ true) × (w ≡ form offset len)
+        go : (t : Bool) → in_both offset len ≡ t → made form offset len ≡ Ok w → (in_both offset len ≡ true) × (w ≡ form offset len)
         go true e d = (e, ap word_in (sym d ∙ made_near e))
         go false e d = absurd (apart w (sym d ∙ made_far e))
 
     -- and when none was
-    pub made_refuses : (made form offset len ≡ TooFar) ↔ Far offset len
+    pub made_refuses : (made form offset len ≡ Err too_far) ↔ Far offset len
     unfolding in_both
     made_refuses = (go (in_both offset len) refl, λ x. made_far (far_both x))
       where
-        go : (t : Bool) → in_both offset len ≡ t → made form offset len ≡ TooFar → Far offset len
+        go : (t : Bool) → in_both offset len ≡ t → made form offset len ≡ Err too_far → Far offset len
         go true e d = absurd (apart (form offset len) (sym (made_near e) ∙ d))
         go false e d = both_far (leb offset half_most) (leb len half_most) refl refl e

@@ -1,9 +1,8 @@
 -- The number and the value of each answer.
-use Rattle.std.specs.Prelude.{[], ◌∷◌}
+use Rattle.std.specs.Prelude.{ℕ, [], ◌∷◌, Result, Ok, Err}
 use Rattle.lent.specs.Table.{Given, given}
-use Rattle.spans.specs.declared.converting.Answer.{Answer}
-use Rattle.spans.specs.declared.converting.Answer.TheVariants.{Word, TooFar}
+use Rattle.spans.specs.Conversion.{TooFar}
 
-abbrev pub answer_given : Answer → Given
-answer_given (Word w) = given 0 (w ∷ [])
-answer_given TooFar = given 21 (0 ∷ [])
+abbrev pub answer_given : Result ℕ TooFar → Given
+answer_given (Ok w) = given 0 (w ∷ [])
+answer_given (Err e) = given 21 (0 ∷ [])

@@ -4,4 +4,4 @@
 
 mod converting;
 
-pub use converting::{Answer, span_from_old, span_to_old};
+pub use converting::{TooFar, span_from_old, span_to_old};

@@ -1,4 +1,7 @@
 -- A list read, written and read again: the same records and texts, sources aside.
+use Rattle.lent.specs.declared.gating.GateError.{GateError}
+use Rattle.lent.specs.declared.gating.GateError.TheVariants.{TooLong, Short, NotAscii}
+use Rattle.std.specs.Prelude.{Result, Ok, Err}
 use mathlib.Core.Path.{◌≡◌, ◌∙◌, refl, sym, ap, subst}
 use mathlib.Core.Bool.{Bool, true, false}
 use mathlib.Core.List.{List, [], ◌∷◌, ◌++◌, append-nil}
@@ -16,8 +19,6 @@ use Rattle.lent.specs.Layout.{texts_of, records_of}
 use Rattle.lent.specs.Admission.{Opened}
 use Rattle.lent.specs.Table.{Given, given, text_by, records_by, no_action, no_argument, no_variable, Refusal, too_long, not_ascii, short_buffer, no_room, named, unknown_operator, bad_cursor, refused, Outcome, refuses, reads, Filled, past_gate, given_by}
 use Rattle.lent.specs.declared.refusing.Flaw.{Flaw}
-use Rattle.lent.specs.declared.gating.Gate.{Gate}
-use Rattle.lent.specs.declared.gating.Gate.TheVariants.{Open, TooLong, NotAscii, Short}
 use Rattle.lent.proofs.GateLaws.{open_is}
 use Rattle.lent.proofs.SpanLaws.{room_is}
 use Rattle.records.specs.Actions.{Action, action_text}
@@ -27,12 +28,13 @@ use Rattle.actions.specs.Lists.{actions_of}
 use Rattle.actions.specs.Normal.{normalised}
 use Rattle.actions.specs.Promises.{laid_out, roomed, actions_gate, actions_outcome, ParseActions}
 use Rattle.actions.specs.Promises as Acting
-use Rattle.actions.specs.declared.Answer.{Answer as Acted}
+use Rattle.actions.specs.declared.ActionsError.{ActionsError}
+use Rattle.actions.specs.declared.Read.{Read}
 use Rattle.actions.proofs.LengthLaws.{Fits, actions_fit}
 use Rattle.actions.proofs.NormalLaws.{normalised_length}
 use Rattle.listing.specs.Promises.{writes, buffer_by}
 use Rattle.listing.specs.Promises as Listing
-use Rattle.listing.specs.declared.Answer.{Answer as Listed}
+use Rattle.listing.specs.declared.ListingError.{ListingError}
 use Rattle.spelled.specs.Spelling.{spell_all}
 use Rattle.spelled.specs.Back.{things}
 use Rattle.spelled.specs.Records.{shown}
@@ -72,7 +74,7 @@ pub accepted : (s : List ℕ) (n k m : ℕ) → (given_by (actions_outcome s n k
 unfolding actions_outcome
 accepted s n k m e = go (actions_gate s n k) refl (actions_of s) refl e
   where
-    room : (ys : List (Sourced Action)) → actions_of s ≡ reads ys → actions_gate s n k ≡ Open → (t : Bool) → ltb (room_for action_words m) (length ys) ≡ t
+    room : (ys : List (Sourced Action)) → actions_of s ≡ reads ys → actions_gate s n k ≡ (Ok tt) → (t : Bool) → ltb (room_for action_words m) (length ys) ≡ t
         → (given_by (pick t (refuses (no_room (length ys))) (reads (laid_out ys)))).number ≡ 0 → Accepted s n k m
     room ys a g true t h = absurd (omega (arith, h))
     room ys a g false t h = record {
@@ -83,12 +85,12 @@ accepted s n k m e = go (actions_gate s n k) refl (actions_of s) refl e
       outcome_is = rw (g, a, t);
     }
 
-    go : (g : Gate) → actions_gate s n k ≡ g → (o : Outcome (List (Sourced Action))) → actions_of s ≡ o → (given_by (past_gate g (roomed m o))).number ≡ 0 → Accepted s n k m
-    go TooLong g o a h = absurd (omega (arith, h))
-    go (NotAscii p) g o a h = absurd (omega (arith, h))
-    go Short g o a h = absurd (omega (arith, h))
-    go Open g (refuses f) a h = absurd (refusal_not f h)
-    go Open g (reads ys) a h = room ys a g (ltb (room_for action_words m) (length ys)) refl h
+    go : (g : Result Unit GateError) → actions_gate s n k ≡ g → (o : Outcome (List (Sourced Action))) → actions_of s ≡ o → (given_by (past_gate g (roomed m o))).number ≡ 0 → Accepted s n k m
+    go (Err TooLong) g o a h = absurd (omega (arith, h))
+    go (Err (NotAscii p)) g o a h = absurd (omega (arith, h))
+    go (Err Short) g o a h = absurd (omega (arith, h))
+    go (Ok tt) g (refuses f) a h = absurd (refusal_not f h)
+    go (Ok tt) g (reads ys) a h = room ys a g (ltb (room_for action_words m) (length ys)) refl h
 
 -- ---- lists of the same actions
 
@@ -134,7 +136,7 @@ written_read words text n e = go (verdict 0 0 (Records.records_of words text)) r
 front_is : (n k : ℕ) (xs : List ℕ) → k ≡ length xs → take k (padded n xs) ≡ xs
 front_is n k xs e = rw e (take-append_seam xs _)
 
-module _ {s text text' work work' records records' : List ℕ} {r : Acted} (x : ParseActions s text text' work work' records records' r) (zero-first : (Acting.answer_given r).number ≡ 0) where
+module _ {s text text' work work' records records' : List ℕ} {r : Result Read ActionsError} (x : ParseActions s text text' work work' records records' r) (zero-first : (Acting.answer_given r).number ≡ 0) where
   a : Accepted s (length text) (length work) (length records)
   a = accepted s (length text) (length work) (length records) (ap (λ (g : Given). g.number) (sym x.answer) ∙ zero-first)
 
@@ -173,7 +175,7 @@ module _ {s text text' work work' records records' : List ℕ} {r : Acted} (x : 
       ∙ ap (λ (w : List ℕ). Records.records_of w (padded (length text) (texts ys))) (sym (append-nil (words_from 0 ys)))
       ∙ records_stand (padded (length text) (texts ys)) [] _ 0 ys [] (omega arith) refl (omega (arith, l, n)) (accepted_stands s ys a.actions_are (omega (arith, l))) refl
 
-  module _ {old new : List ℕ} {q : Listed} (w : WriteActions (take (count_in r * action_words) records') text' old new q) (zero-written : (Listing.answer_given q).number ≡ 0) where
+  module _ {old new : List ℕ} {q : Result ℕ ListingError} (w : WriteActions (take (count_in r * action_words) records') text' old new q) (zero-written : (Listing.answer_given q).number ≡ 0) where
     b : ((m : ℕ) × (verdict 0 0 (Records.records_of (take (count_in r * action_words) records') text') ≡ fine m))
         × (written_outcome (take (count_in r * action_words) records') text' (length old) ≡ writes (spell_all (shown (Records.records_of (take (count_in r * action_words) records') text'))))
     b = written_read (take (count_in r * action_words) records') text' (length old) (ap (λ (g : Given). g.number) (sym w.answer) ∙ zero-written)
@@ -196,7 +198,7 @@ module _ {s text text' work work' records records' : List ℕ} {r : Acted} (x : 
         let e : v.actions ≡ things ys = sym (shown_back v.actions) ∙ ap shown (sym v.standing) ∙ shown_are in
         subst Backed e (backed v.actions v.back)
 
-    pub again : {text₂ text₂' work₂ work₂' records₂ records₂' : List ℕ} {r₂ : Acted} → ParseActions (take (bytes_in q) new) text₂ text₂' work₂ work₂' records₂ records₂' r₂
+    pub again : {text₂ text₂' work₂ work₂' records₂ records₂' : List ℕ} {r₂ : Result Read ActionsError} → ParseActions (take (bytes_in q) new) text₂ text₂' work₂ work₂' records₂ records₂' r₂
         → bytes_in q ≤ length text₂ → bytes_in q ≤ length work₂ → count_in r * action_words ≤ length records₂ → SameList r r₂ text' text₂' records' records₂'
     again {text₂} {text₂'} {work₂} {work₂'} {records₂} {records₂'} {r₂} y t k m =
         let xs = things ys in

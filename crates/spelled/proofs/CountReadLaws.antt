@@ -1,4 +1,7 @@
 -- Bytes counted by a test: texts that are read have no more than the piece that they are read from.
+use Rattle.ascii.specs.declared.numbers.NumberError.TheVariants.{Unreadable, TooLarge}
+use Rattle.ascii.specs.declared.numbers.NumberError.{NumberError}
+use Rattle.std.specs.Prelude.{Result, Ok, Err}
 use mathlib.Core.Path.{◌≡◌, ◌∙◌, refl, sym, subst}
 use mathlib.Core.Bool.{Bool, true, false}
 use mathlib.Core.List.{List, [], ◌∷◌}
@@ -12,8 +15,6 @@ use Rattle.ascii.specs.Fold.{lower, lowered}
 use Rattle.ascii.specs.Trim.{trim_ends}
 use Rattle.ascii.specs.Splits.{Split, whole, halves, split, leads}
 use Rattle.ascii.specs.Numbers.{unsigned_by, signed_word}
-use Rattle.ascii.specs.declared.numbers.Number.{Number}
-use Rattle.ascii.specs.declared.numbers.Number.TheVariants.{Value, Unreadable, TooLarge}
 use Rattle.ascii.proofs.ByteLaws.{bounds}
 use Rattle.records.specs.Codes.{transformation_code}
 use Rattle.records.specs.Actions.{Slot, absent, present, Action, slot_text, action_text}
@@ -70,12 +71,12 @@ module _ (test : ℕ → Bool) (T : Tidy test) where
   unfolding value_of plain_value
   value_count s = go (has_macro s) (leads 43 s) (leads 45 s) (signed_word s)
     where
-      number : (n : Number) → count test (slot_text (text_of (number_or s n))) ≤ count test s
-      number (Value v) = omega (arith, nil_count test)
-      number Unreadable = omega arith
-      number TooLarge = omega arith
+      number : (n : Result ℕ NumberError) → count test (slot_text (text_of (number_or s n))) ≤ count test s
+      number (Ok v) = omega (arith, nil_count test)
+      number (Err Unreadable) = omega arith
+      number (Err TooLarge) = omega arith
 
-      go : (t u v : Bool) (n : Number)
+      go : (t u v : Bool) (n : Result ℕ NumberError)
           → count test (slot_text (text_of (pick t (macro s) (pick u (increment (amount (signed_word (drop 1 s)))) (pick v (decrement (amount (signed_word (drop 1 s)))) (number_or s n)))))) ≤ count test s
       go true u v n = omega arith
       go false true v n = omega (arith, nil_count test)
@@ -102,10 +103,10 @@ module _ (test : ℕ → Bool) (T : Tidy test) where
   unfolding action_text count
   none_count k n = refl
 
-  number_count : (r : Row) (n : Number) → count test (texts_in (number_by r n)) ≡ 0
-  number_count r (Value n) = none_count r.code n
-  number_count r Unreadable = nil_count test
-  number_count r TooLarge = nil_count test
+  number_count : (r : Row) (n : Result ℕ NumberError) → count test (texts_in (number_by r n)) ≡ 0
+  number_count r (Ok n) = none_count r.code n
+  number_count r (Err Unreadable) = nil_count test
+  number_count r (Err TooLarge) = nil_count test
 
   rule_count : (u : Rule) (r : Row) (t : List ℕ) → count test (texts_in (with_text u r t)) ≤ count test t
   unfolding with_text

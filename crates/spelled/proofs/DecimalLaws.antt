@@ -1,4 +1,5 @@
 -- Numbers in decimal: their digits, and that every reader of numbers gives the number back.
+use Rattle.std.specs.Prelude.{Ok}
 use mathlib.Core.Path.{◌≡◌, ◌∙◌, refl, ap}
 use mathlib.Core.Bool.{Bool, true, false}
 use mathlib.Core.List.{List, [], ◌∷◌}
@@ -10,7 +11,6 @@ use borrow.Author.Tests.{ltb-true, ltb-false, ne_eqb}
 use Rattle.ascii.specs.Choice.{pick}
 use Rattle.ascii.specs.Classes.{digit}
 use Rattle.ascii.specs.Numbers.{value, all_digits, numeral, bounded, digits_by, after_plus, unsigned_by, complement, minus, signed_word}
-use Rattle.ascii.specs.declared.numbers.Number.TheVariants.{Value}
 use Rattle.ascii.proofs.ByteLaws.{inside}
 use Rattle.ascii.proofs.NumberLaws.{digit_bounds, in_bound}
 use Rattle.ascii.proofs.TestLaws.{both, joins}
@@ -127,17 +127,17 @@ module _ (n : ℕ) (h : n < 100000000000000000000) where
   decimal_minus = ap minus (digits_read (decimal n) (decimal_some n) (decimal_digits n) (2 ^ 63) ∙ ap (bounded (2 ^ 63)) (decimal_value n h))
 
 -- a signed amount
-pub signed_read : (n : ℕ) → n < 2 ^ 64 → signed_word (signed n) ≡ Value n
+pub signed_read : (n : ℕ) → n < 2 ^ 64 → signed_word (signed n) ≡ Ok n
 unfolding signed
 signed_read n h = go (ltb n (2 ^ 63)) refl
   where
     back : complement (2 ^ 64 - n) ≡ n
     back = rw (ne_eqb (2 ^ 64 - n) 0 (λ e. omega (arith, e))) (omega arith)
 
-    go : (t : Bool) → ltb n (2 ^ 63) ≡ t → signed_word (pick t (decimal n) (45 ∷ decimal (2 ^ 64 - n))) ≡ Value n
+    go : (t : Bool) → ltb n (2 ^ 63) ≡ t → signed_word (pick t (decimal n) (45 ∷ decimal (2 ^ 64 - n))) ≡ Ok n
     go true e = let l = ltb-true n (2 ^ 63) e in decimal_signed n (omega arith) ∙ in_bound (2 ^ 63 - 1) n (omega arith)
     go false e =
         let l = ltb-false n (2 ^ 63) e in
         decimal_minus (2 ^ 64 - n) (omega arith)
         ∙ ap minus (in_bound (2 ^ 63) (2 ^ 64 - n) (omega arith))
-        ∙ ap Value back
+        ∙ ap Ok back

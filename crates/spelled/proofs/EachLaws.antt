@@ -1,4 +1,5 @@
 -- The loop over records: the actions written so far, and the records still to come.
+use Rattle.std.specs.Prelude.{Option, Some, None, Result, Ok, Err}
 use mathlib.Core.Path.{◌≡◌, ◌∙◌, refl, sym, ap, subst}
 use mathlib.Core.Bool.{Bool, true, false}
 use mathlib.Core.List.{List, [], ◌∷◌, ◌++◌, map, append_assoc, append-nil}
@@ -18,7 +19,8 @@ use Rattle.lent.proofs.SpanLaws.{room_is}
 use Rattle.listing.specs.Json.{joined}
 use Rattle.listing.specs.Promises.{Leaves}
 use Rattle.listing.specs.Steps.{Puts, comma, Finished}
-use Rattle.listing.specs.declared.Answer.{Answer}
+use Rattle.listing.specs.declared.ListingError.{ListingError}
+use Rattle.listing.specs.declared.ListingError.TheVariants.{NoToken}
 use Rattle.listing.proofs.PutLaws.{put_none, put_more}
 use Rattle.listing.proofs.ElementLaws.{joined_more}
 use Rattle.listing.proofs.EndLaws.{finished}
@@ -32,8 +34,6 @@ use Rattle.spelled.specs.Writing.{holds, is_last, reach, fine, fails, verdict}
 use Rattle.spelled.specs.Promises.{written_outcome}
 use Rattle.spelled.specs.Steps.{stops, RowIs, RowsAre, PutEach}
 use Rattle.spelled.specs.declared.writing.Row.{Row}
-use Rattle.spelled.specs.declared.writing.Row.TheVariants.{Fails, Put}
-use Rattle.spelled.specs.declared.writing.Rows.{Rows}
 use Rattle.spelled.proofs.StartLaws.{start_low}
 
 -- ---- one step of the definitions
@@ -132,8 +132,8 @@ module _ {words text old new : List ℕ} {offset to count at : ℕ} (x : Sofar w
     is_last_lem = last_is text (offset_past offset (next text words offset at left)) left (drop (at + action_words) words) last last_here
 
     -- one that fails ends it
-    pub halted : {new' : List ℕ} {row : Row} → RowIs (length text) offset (record_in text offset (drop at words)) last count to new new' row → row ≡ Fails
-        → PutEach words text old new' (Rows.Fails count)
+    pub halted : {new' : List ℕ} {row : Option Row} → RowIs (length text) offset (record_in text offset (drop at words)) last count to new new' row → row ≡ None
+        → PutEach words text old new' (Err count)
     halted {new'} w e =
         let r = subst (RowIs (length text) offset (record_in text offset (drop at words)) last count to new new') e w in
         let v : verdict 0 0 (records_of words text) ≡ fails count =
@@ -141,9 +141,11 @@ module _ {words text old new : List ℕ} {offset to count at : ℕ} (x : Sofar w
         record { long = r.0 ∙ x.put.long; rows_are = v }
 
     -- one more
-    pub turned : {new' : List ℕ} {row : Row} {past after : ℕ} → RowIs (length text) offset (record_in text offset (drop at words)) last count to new new' row → row ≡ Put past after
-        → Sofar words text old new' past after (count + 1) (at + action_words)
-    turned {new'} {row} {past} {after} w f =
+    pub turned : {new' : List ℕ} {row : Option Row} {put : Row} → RowIs (length text) offset (record_in text offset (drop at words)) last count to new new' row → row ≡ Some put
+        → Sofar words text old new' put.past put.next (count + 1) (at + action_words)
+    turned {new'} {row} {put} w f =
+        let past = put.past in
+        let after = put.next in
         let r = subst (RowIs (length text) offset (record_in text offset (drop at words)) last count to new new') f w in
         let d = next text words offset at left in
         let y = r.action in
@@ -177,7 +179,7 @@ module _ {words text old new : List ℕ} {offset to count at : ℕ} (x : Sofar w
             ap (λ (k : ℕ). joined (map spell x.done) ++ (comma k ++ spell y)) (sym n) ∙ sym (joined_more (map spell x.done) (spell y)) ∙ ap joined (sym (spelt_append x.done y))
 
   -- all are written
-  pub ended : whole words ≤ count → PutEach words text old new (Rows.Put to)
+  pub ended : whole words ≤ count → PutEach words text old new (Ok to)
   unfolding records_in verdict shown
   ended h =
       let z : whole words - count ≡ 0 = omega (arith, h) in
@@ -187,11 +189,11 @@ module _ {words text old new : List ℕ} {offset to count at : ℕ} (x : Sofar w
 
 -- ---- the end of the call
 
-module _ {words text old mid : List ℕ} {rows : Rows} (x : PutEach words text old mid rows) where
-  pub each_failed : {k : ℕ} {new : List ℕ} → rows ≡ Rows.Fails k → new ≡ zeros (length mid) → Leaves (written_outcome words text (length old)) old new (Answer.NoToken k)
+module _ {words text old mid : List ℕ} {rows : Result ℕ ℕ} (x : PutEach words text old mid rows) where
+  pub each_failed : {k : ℕ} {new : List ℕ} → rows ≡ Err k → new ≡ zeros (length mid) → Leaves (written_outcome words text (length old)) old new (Err (NoToken k))
   unfolding written_outcome
   each_failed q e = rw (subst (RowsAre words text old mid) q x.rows_are) (record { answer = refl; buffer = e ∙ ap zeros x.long })
 
-  pub each_written : {end : ℕ} {new : List ℕ} {r : Answer} → rows ≡ Rows.Put end → Finished mid new end r → Leaves (written_outcome words text (length old)) old new r
+  pub each_written : {end : ℕ} {new : List ℕ} {r : Result ℕ ListingError} → rows ≡ Ok end → Finished mid new end r → Leaves (written_outcome words text (length old)) old new r
   unfolding written_outcome spell_all
   each_written q f = let w = subst (RowsAre words text old mid) q x.rows_are in rw w.0 (finished w.1 f)

@@ -1,4 +1,7 @@
 -- No whitespace at the end: a spelling ends in it exactly when the text that stands last and bare does, and what is read from a trimmed piece never.
+use Rattle.ascii.specs.declared.numbers.NumberError.TheVariants.{Unreadable, TooLarge}
+use Rattle.ascii.specs.declared.numbers.NumberError.{NumberError}
+use Rattle.std.specs.Prelude.{Result, Ok, Err}
 use mathlib.Core.Path.{◌≡◌, ◌∙◌, refl, sym, ap, subst}
 use mathlib.Core.Bool.{Bool, true, false}
 use mathlib.Core.List.{List, [], ◌∷◌, ◌++◌}
@@ -13,8 +16,6 @@ use Rattle.ascii.specs.Classes.{white}
 use Rattle.ascii.specs.Fold.{lowered, same}
 use Rattle.ascii.specs.Splits.{Split, whole, halves, split}
 use Rattle.ascii.specs.Numbers.{all_digits, unsigned_by}
-use Rattle.ascii.specs.declared.numbers.Number.{Number}
-use Rattle.ascii.specs.declared.numbers.Number.TheVariants.{Value, Unreadable, TooLarge}
 use Rattle.ascii.proofs.ByteLaws.{above}
 use Rattle.ascii.proofs.NumberLaws.{digit_bounds}
 use Rattle.ascii.proofs.TestLaws.{both}
@@ -108,10 +109,10 @@ EndsIn u k (bad flaw n) = Unit {0}
 EndsIn u k (unknown n) = Unit {0}
 
 -- a number, by a rule with no such text
-number_ending : (u : Rule) (r : Row) (n : Number) → ((v : ℕ) → end_text u (numbered r.code v) ≡ []) → EndsIn u r.code (number_by r n)
-number_ending u r (Value v) e = (refl, ap (last_by white false) (e v) ∙ nil_ending)
-number_ending u r Unreadable e = tt
-number_ending u r TooLarge e = tt
+number_ending : (u : Rule) (r : Row) (n : Result ℕ NumberError) → ((v : ℕ) → end_text u (numbered r.code v) ≡ []) → EndsIn u r.code (number_by r n)
+number_ending u r (Ok v) e = (refl, ap (last_by white false) (e v) ∙ nil_ending)
+number_ending u r (Err Unreadable) e = tt
+number_ending u r (Err TooLarge) e = tt
 
 rule_ending : (u : Rule) (r : Row) (t : List ℕ) → Ending t → EndsIn u r.code (with_text u r t)
 unfolding with_text

@@ -1,4 +1,5 @@
 -- One record of lent words: where its texts must end, and that its words are those that a reader writes exactly if they end there.
+use Rattle.std.specs.Prelude.{Some, None}
 use mathlib.Core.Path.{◌≡◌, ◌∙◌, refl, sym, ap, subst}
 use mathlib.Core.Bool.{Bool, true, false}
 use mathlib.Core.List.{List, [], ◌∷◌}
@@ -23,7 +24,6 @@ use Rattle.single_action.specs.Plans.{cut}
 use Rattle.spelled.specs.Records.{laid_by, record_in}
 use Rattle.spelled.specs.Steps.{stood_at, end_by, text_end, slot_of, entry_action, Placed, ReadEntry}
 use Rattle.spelled.specs.declared.entries.Entry.{Entry}
-use Rattle.spelled.specs.declared.entries.Reading.TheVariants.{Stray, Stands}
 
 -- ---- one text
 
@@ -379,7 +379,7 @@ module _ (text words : List ℕ) (at o : ℕ) (fit : at + action_words ≤ lengt
       ∙ ap (λ (r : List ℕ). word 3 ∷ r)
       (next_word 4 (omega arith) ∙ ap (λ (r : List ℕ). word 4 ∷ r) (next_word 5 (omega arith) ∙ ap (λ (r : List ℕ). word 5 ∷ r) (next_word 6 (omega arith)))))))
 
-  pub reads_unknown : known_by (shape_of (get_or words at 0)) (word 4) ≡ false → ReadEntry text o (drop at words) Stray
+  pub reads_unknown : known_by (shape_of (get_or words at 0)) (word 4) ≡ false → ReadEntry text o (drop at words) None
   reads_unknown e = record { answer = rw seven (unknown_none text o (get_or words at 0) (word 1) (word 2) (word 3) (word 4) (word 5) (word 6) (drop (at + 7) words) e); placed = tt }
 
   module _ (low : o ≤ length text) (near : o ≤ end_most) {ta tb tc : Bool} {second third past : ℕ} (ea : ta ≡ get_or (marks_for (get_or words at 0) (word 4)) 2 false) (eb : tb ≡ get_or (marks_for (get_or words at 0) (word 4)) 3 false)
@@ -399,7 +399,7 @@ module _ (text words : List ℕ) (at o : ℕ) (fit : at + action_words ≤ lengt
     past_at_lem : past ≡ past_at text o (get_or words at 0) (word 1) (word 2) (word 3) (word 4) (word 5) (word 6) (drop (at + 7) words)
     past_at_lem = past_is ∙ ap (λ (p : ℕ). text_end (has_c (shape_of (get_or words at 0)) (word 4)) (word 5) p (length text)) third_at_lem
 
-    pub reads_past : length text < past → ReadEntry text o (drop at words) Stray
+    pub reads_past : length text < past → ReadEntry text o (drop at words) None
     reads_past h = record { answer = rw seven (past_none text o (get_or words at 0) (word 1) (word 2) (word 3) (word 4) (word 5) (word 6) (drop (at + 7) words) low (subst (λ (p : ℕ). length text < p) past_at_lem h)); placed = tt }
 
     abbrev made : Entry
@@ -408,7 +408,7 @@ module _ (text words : List ℕ) (at o : ℕ) (fit : at + action_words ≤ lengt
     made_is : entry_of text o (get_or words at 0) (word 1) (word 2) (word 3) (word 4) (word 5) (word 6) (drop (at + 7) words) ≡ made
     made_is = rw (← second_is, ← third_is, ← past_is)
 
-    pub reads_stands : known_by (shape_of (get_or words at 0)) (word 4) ≡ true → word 1 < 2 ^ 64 → past ≤ length text → ReadEntry text o (drop at words) (Stands made)
+    pub reads_stands : known_by (shape_of (get_or words at 0)) (word 4) ≡ true → word 1 < 2 ^ 64 → past ≤ length text → ReadEntry text o (drop at words) (Some made)
     reads_stands e w h =
         let l = subst (λ (p : ℕ). p ≤ length text) past_at_lem h in
         record {

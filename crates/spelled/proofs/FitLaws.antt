@@ -1,11 +1,14 @@
 -- The tests on a text by places: a byte that stands in it, its first byte and its last one.
+use Rattle.ascii.specs.declared.numbers.NumberError.{NumberError}
+use Rattle.std.specs.Prelude.{Result, Ok, Err}
+use Rattle.std.specs.Result.{is_err}
 use mathlib.Core.Path.{◌≡◌, ◌∙◌, refl, sym, ap}
 use mathlib.Core.Bool.{Bool, true, false, not}
 use mathlib.Core.List.{List, [], ◌∷◌, ◌++◌}
 use Prim.Native.Nat.{ℕ, suc, ◌+◌, ◌-◌, ◌≤◌, ◌<◌}
 use native.Mathlib.Omega.{arith}
 use native.Mathlib.Numerals.{one-add}
-use borrow.Author.Tests.{lt-ltb, le-ltb, ltb-true, ltb-false}
+use borrow.Author.Tests.{lt-ltb, le-ltb, ltb-true, ltb-false, eq-eqb, eqb-true}
 use lib.ListN.{length, take, get_or}
 use lib.Seq.{take-length}
 use lib.Dec.{eqb, ltb}
@@ -16,12 +19,13 @@ use Rattle.ascii.specs.Trim.{leading}
 use Rattle.ascii.specs.Splits.{leads, first_of}
 use Rattle.ascii.specs.Numbers.{signed_word}
 use Rattle.ascii.proofs.ListLaws.{last_byte}
+use Rattle.ascii.proofs.TestLaws.{apart}
 use Rattle.single_action.specs.Setvar.{has_macro}
 use Rattle.single_action.specs.Plans.{cut}
 use Rattle.single_action.specs.declared.naming.Rule.TheVariants.{Wanted as wanted, Unmarked as unmarked, Equation as equation, Expiry as expiry}
 use Rattle.records.specs.Actions.{slot_text}
 use Rattle.spelled.specs.Spelling.{has}
-use Rattle.spelled.specs.Condition.{isnt, first_by, last_by, textual, name_fits}
+use Rattle.spelled.specs.Condition.{isnt, first_by, last_by, unread, textual, name_fits}
 use Rattle.spelled.specs.Steps.{Placed, entry_action, bare, marked_end, value_kept, setting_kept, kept}
 use Rattle.spelled.specs.declared.entries.Entry.{Entry}
 
@@ -60,6 +64,22 @@ suc_ltb a b = go (ltb a b) refl
     go : (t : Bool) → ltb a b ≡ t → ltb (suc a) (suc b) ≡ t
     go true e = lt-ltb (suc a) (suc b) (omega (arith, ltb-true a b e))
     go false e = le-ltb (suc a) (suc b) (omega (arith, ltb-false a b e))
+
+-- a length as `is_empty` tells it
+pub filled : {r : Bool} (n : ℕ) → r ≡ eqb n 0 → r ≡ false → 0 < n
+filled n e f = go (ltb 0 n) refl
+  where
+    go : (t : Bool) → ltb 0 n ≡ t → 0 < n
+    go true g = ltb-true 0 n g
+    go false g = let z : n ≡ 0 = omega (arith, ltb-false 0 n g) in absurd (apart (eq-eqb n 0 z) (sym e ∙ f))
+
+pub emptied : {r : Bool} (n : ℕ) → r ≡ eqb n 0 → r ≡ true → n ≡ 0
+emptied n e f = eqb-true n 0 (sym e ∙ f)
+
+-- an error is no number
+pub unread_err : (x : Result ℕ NumberError) → is_err x ≡ unread x
+unread_err (Ok n) = refl
+unread_err (Err e) = refl
 
 -- it stands there where the search finds it
 pub has_found : (m : ℕ) (t : List ℕ) → ltb (first_of m t) (length t) ≡ has m t

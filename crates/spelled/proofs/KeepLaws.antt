@@ -1,4 +1,5 @@
 -- The tests on a record's numbers and texts are what its spelling reads back to: a record that is kept is one that is written.
+use Rattle.std.specs.Prelude.{Option, None}
 use mathlib.Core.Path.{◌≡◌, ◌∙◌, refl, sym, ap}
 use mathlib.Core.Bool.{Bool, true, false}
 use mathlib.Core.List.{List, [], ◌∷◌, ◌++◌}
@@ -24,8 +25,7 @@ use Rattle.spelled.specs.Texts.{steady_texts, rule_in, end_of, walk_of, stays_by
 use Rattle.spelled.specs.Back.{reads_back}
 use Rattle.spelled.specs.Writing.{ascii, followed, holds}
 use Rattle.spelled.specs.Steps.{opened, stays, passed, passed_on, passed_all, mark_for, closed, rule_for, kept, keeps}
-use Rattle.spelled.specs.declared.passing.Passed.{Passed}
-use Rattle.spelled.specs.declared.passing.Passed.TheVariants.{Lost}
+use Rattle.spelled.specs.declared.passing.Open.{Open}
 use Rattle.spelled.proofs.BackLaws.{exact}
 use Rattle.spelled.proofs.PassLaws.{spelling_nest}
 use Rattle.spelled.proofs.TextwiseLaws.{stays_by_texts_lem}
@@ -46,14 +46,14 @@ and_true false = refl
 abbrev sound : Nest → List ℕ → Bool
 sound n t = and (ascii t) (and (steady t) (uncut n t))
 
-passed_is : (n : Nest) (t : List ℕ) → passed n t ≡ pick (sound n t) (opened (nest_past n t)) Lost
+passed_is : (n : Nest) (t : List ℕ) → passed n t ≡ pick (sound n t) (opened (nest_past n t)) None
 unfolding passed ascii steady uncut nest_past
 passed_is n [] = refl
 passed_is n (b ∷ r) =
-    ap (λ (p : Passed). pick (stays n b r) p Lost) (passed_is (nest_after n b) r)
+    ap (λ (p : Option Open). pick (stays n b r) p None) (passed_is (nest_after n b) r)
     ∙ go (ltb b 128) (isnt (and (eqb b 92) (or (leads 10 r) (leads 13 r)))) (isnt (cuts n b)) (ascii r) (steady r) (uncut (nest_after n b) r) (opened (nest_past (nest_after n b) r))
   where
-    go : (a s u x y z : Bool) (p : Passed) → pick (and a (and s u)) (pick (and x (and y z)) p Lost) Lost ≡ pick (and (and a x) (and (and s y) (and u z))) p Lost
+    go : (a s u x y z : Bool) (p : Option Open) → pick (and a (and s u)) (pick (and x (and y z)) p None) None ≡ pick (and (and a x) (and (and s y) (and u z))) p None
     go true true true x y z p = refl
     go true true false x y z p = rw (and_false y, and_false x)
     go true false u x y z p = rw (and_false x)
@@ -70,17 +70,17 @@ module _ (m : ℕ) (a b c : List ℕ) where
   abbrev n₃ : Nest
   n₃ = nest_past n₂ c
 
-  all_passed : passed_all m a b c ≡ pick (and (sound (nest m 0) a) (and (sound n₁ b) (sound n₂ c))) (opened n₃) Lost
+  all_passed : passed_all m a b c ≡ pick (and (sound (nest m 0) a) (and (sound n₁ b) (sound n₂ c))) (opened n₃) None
   all_passed =
-      ap (λ (p : Passed). passed_on (passed_on p b) c) (passed_is (nest m 0) a)
+      ap (λ (p : Option Open). passed_on (passed_on p b) c) (passed_is (nest m 0) a)
       ∙ first (sound (nest m 0) a)
     where
-      second : (t : Bool) → passed_on (pick t (opened n₂) Lost) c ≡ pick (and t (sound n₂ c)) (opened n₃) Lost
+      second : (t : Bool) → passed_on (pick t (opened n₂) None) c ≡ pick (and t (sound n₂ c)) (opened n₃) None
       second true = passed_is n₂ c
       second false = refl
 
-      first : (t : Bool) → passed_on (passed_on (pick t (opened n₁) Lost) b) c ≡ pick (and t (and (sound n₁ b) (sound n₂ c))) (opened n₃) Lost
-      first true = ap (λ (p : Passed). passed_on p c) (passed_is n₁ b) ∙ second (sound n₁ b)
+      first : (t : Bool) → passed_on (passed_on (pick t (opened n₁) None) b) c ≡ pick (and t (and (sound n₁ b) (sound n₂ c))) (opened n₃) None
+      first true = ap (λ (p : Option Open). passed_on p c) (passed_is n₁ b) ∙ second (sound n₁ b)
       first false = refl
 
 -- ---- a record
@@ -127,7 +127,7 @@ module _ (x : Action) where
       go true = refl
       go false = refl
 
-closed_by : (m : ℕ) (last p : Bool) (n : Nest) → closed m last (pick p (opened n) Lost) ≡ and p (or last (and (eqb n.mark m) (eqb n.depth 0)))
+closed_by : (m : ℕ) (last p : Bool) (n : Nest) → closed m last (pick p (opened n) None) ≡ and p (or last (and (eqb n.mark m) (eqb n.depth 0)))
 closed_by m last true n = refl
 closed_by m last false n = refl
 

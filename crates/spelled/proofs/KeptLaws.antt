@@ -13,7 +13,9 @@ use Rattle.ascii.specs.Fold.{lowered, same}
 use Rattle.ascii.proofs.TestLaws.{apart, both}
 use Rattle.ascii.proofs.SameLaws.{same_refl}
 use Rattle.names.proofs.Tests.{every, at}
-use Rattle.records.specs.Codes.{transformation_code, Shape, no_code, bare, one, two, setting, shapes, shape_of, known_by, has_a, has_b, has_c, is_kind}
+use Rattle.records.specs.Codes.{transformation_code, shapes, shape_of, known_by, has_a, has_b, has_c, is_kind}
+use Rattle.records.specs.declared.marking.Shape.{Shape}
+use Rattle.records.specs.declared.marking.Shape.TheVariants.{NoCode as no_code, Bare as bare, One as one, Two as two, Setting as setting}
 use Rattle.records.specs.Actions.{Slot, absent, present, Action, slot_text}
 use Rattle.records.specs.Decoding.{stands}
 use Rattle.records.proofs.ShapeLaws.{known_past}

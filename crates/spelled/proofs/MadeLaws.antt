@@ -1,4 +1,7 @@
 -- Every action that is read from a piece fits: `fits` asks no more than that a reader makes the record.
+use Rattle.ascii.specs.declared.numbers.NumberError.TheVariants.{Unreadable, TooLarge}
+use Rattle.ascii.specs.declared.numbers.NumberError.{NumberError}
+use Rattle.std.specs.Prelude.{Option, Some, None, Result, Ok, Err}
 use mathlib.Core.Path.{◌≡◌, ◌∙◌, refl, sym, ap, subst}
 use mathlib.Core.Bool.{Bool, true, false}
 use mathlib.Core.List.{List, [], ◌∷◌}
@@ -14,12 +17,8 @@ use Rattle.ascii.specs.Trim.{strip_start, trim_ends}
 use Rattle.ascii.specs.Splits.{Split, whole, halves, split, leads}
 use Rattle.ascii.specs.Numbers.{unsigned_by, signed_word, complement}
 use Rattle.ascii.specs.Numerals.{Signed, positive, negative}
-use Rattle.ascii.specs.declared.numbers.Number.{Number}
-use Rattle.ascii.specs.declared.numbers.Number.TheVariants.{Value, Unreadable, TooLarge}
 use Rattle.ascii.proofs.SignedLaws.{unsigned_value, signed_value}
 use Rattle.ascii.proofs.TestLaws.{both, joins}
-use Rattle.names.specs.declared.Lookup.{Lookup}
-use Rattle.names.specs.declared.Lookup.TheVariants.{Code, Unknown}
 use Rattle.names.specs.Tables as N
 use Rattle.names.specs.Severities.{severities, severity_code}
 use Rattle.records.specs.Codes.{transformation_code}
@@ -87,7 +86,7 @@ complement_small v h = go (eqb v 0) refl
     go true e = omega arith
     go false e = omega (arith, eqb-false v 0 e)
 
-signed_small : (s : List ℕ) (w : ℕ) → signed_word s ≡ Value w → w < 2 ^ 64
+signed_small : (s : List ℕ) (w : ℕ) → signed_word s ≡ Ok w → w < 2 ^ 64
 signed_small s w e = go ((signed_value s w).0 e)
   where
     go : {s : List ℕ} {w : ℕ} → Signed s w → w < 2 ^ 64
@@ -97,12 +96,12 @@ signed_small s w e = go ((signed_value s w).0 e)
 amount_small : (s : List ℕ) → ltb (amount (signed_word s)) (2 ^ 64) ≡ true
 amount_small s = go (signed_word s) (signed_small s)
   where
-    go : (n : Number) → ((w : ℕ) → n ≡ Value w → w < 2 ^ 64) → ltb (amount n) (2 ^ 64) ≡ true
-    go (Value w) h = lt-ltb w (2 ^ 64) (h w refl)
-    go Unreadable h = refl
-    go TooLarge h = refl
+    go : (n : Result ℕ NumberError) → ((w : ℕ) → n ≡ Ok w → w < 2 ^ 64) → ltb (amount n) (2 ^ 64) ≡ true
+    go (Ok w) h = lt-ltb w (2 ^ 64) (h w refl)
+    go (Err Unreadable) h = refl
+    go (Err TooLarge) h = refl
 
-int_small : (s : List ℕ) (n : ℕ) → leads 45 s ≡ false → signed_word s ≡ Value n → n < 2 ^ 63
+int_small : (s : List ℕ) (n : ℕ) → leads 45 s ≡ false → signed_word s ≡ Ok n → n < 2 ^ 63
 unfolding signed_word
 int_small [] n h e = let z : ◌≡◌ {A = ℕ} 0 1 = cc in absurd (omega arith)
 int_small (b ∷ r) n h e = let p = (unsigned_value (2 ^ 63 - 1) (b ∷ r) n).0 (rw h at e) in omega (arith, p.1)
@@ -115,12 +114,12 @@ value_fits_lem s = go (has_macro s) refl (leads 43 s) refl (leads 45 s) refl (si
     ored true c e = refl
     ored false c e = e
 
-    number : has_macro s ≡ false → leads 43 s ≡ false → leads 45 s ≡ false → (n : Number) → signed_word s ≡ n → value_fits (number_or s n) ≡ true
-    number m p d (Value n) e = lt-ltb n (2 ^ 63) (int_small s n d e)
-    number m p d Unreadable e = ored (same s (bytes "1")) (textual s) (rw (m, p, d, e))
-    number m p d TooLarge e = ored (same s (bytes "1")) (textual s) (rw (m, p, d, e))
+    number : has_macro s ≡ false → leads 43 s ≡ false → leads 45 s ≡ false → (n : Result ℕ NumberError) → signed_word s ≡ n → value_fits (number_or s n) ≡ true
+    number m p d (Ok n) e = lt-ltb n (2 ^ 63) (int_small s n d e)
+    number m p d (Err Unreadable) e = ored (same s (bytes "1")) (textual s) (rw (m, p, d, e))
+    number m p d (Err TooLarge) e = ored (same s (bytes "1")) (textual s) (rw (m, p, d, e))
 
-    go : (t : Bool) → has_macro s ≡ t → (u : Bool) → leads 43 s ≡ u → (v : Bool) → leads 45 s ≡ v → (n : Number) → signed_word s ≡ n
+    go : (t : Bool) → has_macro s ≡ t → (u : Bool) → leads 43 s ≡ u → (v : Bool) → leads 45 s ≡ v → (n : Result ℕ NumberError) → signed_word s ≡ n
         → value_fits (pick t (macro s) (pick u (increment (amount (signed_word (drop 1 s)))) (pick v (decrement (amount (signed_word (drop 1 s)))) (number_or s n)))) ≡ true
     go true m u p v d n e = m
     go false m true p v d n e = amount_small (drop 1 s)
@@ -178,7 +177,7 @@ MadeBy u k (done x) = Made u k x
 MadeBy u k (bad flaw n) = Unit {0}
 MadeBy u k (unknown n) = Unit {0}
 
-number_fits : (most n : ℕ) (t : List ℕ) → unsigned_by most t ≡ Value n → leb n most ≡ true
+number_fits : (most n : ℕ) (t : List ℕ) → unsigned_by most t ≡ Ok n → leb n most ≡ true
 number_fits most n t e = le-leb n most ((unsigned_value most t n).0 e).1
 
 -- the codes of a table are small
@@ -186,37 +185,37 @@ unfoldable all_small : List N.Row → Bool
 all_small [] = true
 all_small (r ∷ rs) = and (leb r.code 255) (all_small rs)
 
-rows_small : (rs : List N.Row) (name : List ℕ) (n : ℕ) → all_small rs ≡ true → N.find rs name ≡ Code n → leb n 255 ≡ true
+rows_small : (rs : List N.Row) (name : List ℕ) (n : ℕ) → all_small rs ≡ true → N.find rs name ≡ Some n → leb n 255 ≡ true
 unfolding all_small N.find
 rows_small [] name n h e = let z : ◌≡◌ {A = ℕ} 0 1 = cc in absurd (omega arith)
 rows_small (r ∷ rs) name n h e =
     let p = both (leb r.code 255) (all_small rs) h in
     go (same r.name name) e p.0 (λ e. rows_small rs name n p.1 e)
   where
-    go : (t : Bool) → pick t (Code r.code) (N.find rs name) ≡ Code n → leb r.code 255 ≡ true → (N.find rs name ≡ Code n → leb n 255 ≡ true) → leb n 255 ≡ true
+    go : (t : Bool) → pick t (Some r.code) (N.find rs name) ≡ Some n → leb r.code 255 ≡ true → (N.find rs name ≡ Some n → leb n 255 ≡ true) → leb n 255 ≡ true
     go true e p ih = let g : r.code ≡ n = cc in rw (← g) p
     go false e p ih = ih e
 
-severity_small : (t : List ℕ) (n : ℕ) → severity_code t ≡ Code n → leb n 255 ≡ true
+severity_small : (t : List ℕ) (n : ℕ) → severity_code t ≡ Some n → leb n 255 ≡ true
 unfolding severity_code severities all_small
 severity_small t n e = rows_small severities (lowered t) n refl e
 
-severity_fits : (t : List ℕ) (n : ℕ) → severity_number t ≡ Value n → leb n 255 ≡ true
+severity_fits : (t : List ℕ) (n : ℕ) → severity_number t ≡ Ok n → leb n 255 ≡ true
 unfolding severity_number
 severity_fits t n e = go (unsigned_by 255 t) refl (severity_code t) refl e
   where
-    go : (x : Number) → unsigned_by 255 t ≡ x → (l : Lookup) → severity_code t ≡ l → or_word x t ≡ Value n → leb n 255 ≡ true
-    go (Value m) f l g e = number_fits 255 n t (f ∙ e)
-    go Unreadable f (Code m) g e = severity_small t n (g ∙ (let h : m ≡ n = cc in ap Code h))
-    go Unreadable f Unknown g e = let z : ◌≡◌ {A = ℕ} 0 1 = cc in absurd (omega arith)
-    go TooLarge f l g e = let z : ◌≡◌ {A = ℕ} 0 1 = cc in absurd (omega arith)
+    go : (x : Result ℕ NumberError) → unsigned_by 255 t ≡ x → (l : Option ℕ) → severity_code t ≡ l → or_word x t ≡ Ok n → leb n 255 ≡ true
+    go (Ok m) f l g e = number_fits 255 n t (f ∙ e)
+    go (Err Unreadable) f (Some m) g e = severity_small t n (g ∙ (let h : m ≡ n = cc in ap Some h))
+    go (Err Unreadable) f None g e = let z : ◌≡◌ {A = ℕ} 0 1 = cc in absurd (omega arith)
+    go (Err TooLarge) f l g e = let z : ◌≡◌ {A = ℕ} 0 1 = cc in absurd (omega arith)
 
 -- a number that was read, by a rule that keeps it
-number_made : (u : Rule) (r : Row) (n : Number) → ((v : ℕ) → canon u (numbered r.code v) ≡ numbered r.code v)
-    → ((v : ℕ) → n ≡ Value v → texts_fit u (numbered r.code v) ≡ true) → MadeBy u r.code (number_by r n)
-number_made u r (Value v) c f = record { coded_by = refl; canonical = c v; fitted = f v refl }
-number_made u r Unreadable c f = tt
-number_made u r TooLarge c f = tt
+number_made : (u : Rule) (r : Row) (n : Result ℕ NumberError) → ((v : ℕ) → canon u (numbered r.code v) ≡ numbered r.code v)
+    → ((v : ℕ) → n ≡ Ok v → texts_fit u (numbered r.code v) ≡ true) → MadeBy u r.code (number_by r n)
+number_made u r (Ok v) c f = record { coded_by = refl; canonical = c v; fitted = f v refl }
+number_made u r (Err Unreadable) c f = tt
+number_made u r (Err TooLarge) c f = tt
 
 rule_made : (u : Rule) (r : Row) (t : List ℕ) → MadeBy u r.code (with_text u r t)
 unfolding with_text canon texts_fit
@@ -236,10 +235,10 @@ rule_made equation r t = go (split 61 t) (split_free 61 t)
     go (halves a b) h = record { coded_by = refl; canonical = refl; fitted = deny h }
 rule_made expiry r t = go (split 61 t) (split_free 61 t)
   where
-    soon : (b : List ℕ) (n : Number) → unsigned_by 18446744073709551615 b ≡ n → leb (seconds n) 18446744073709551615 ≡ true
-    soon b (Value n) e = number_fits 18446744073709551615 n b e
-    soon b Unreadable e = refl
-    soon b TooLarge e = refl
+    soon : (b : List ℕ) (n : Result ℕ NumberError) → unsigned_by 18446744073709551615 b ≡ n → leb (seconds n) 18446744073709551615 ≡ true
+    soon b (Ok n) e = number_fits 18446744073709551615 n b e
+    soon b (Err Unreadable) e = refl
+    soon b (Err TooLarge) e = refl
 
     go : (x : Split) → has 61 (first_half x) ≡ false → Made expiry r.code (expiry_by r.code x)
     go (whole a) h = record { coded_by = refl; canonical = refl; fitted = joins (deny h) refl }

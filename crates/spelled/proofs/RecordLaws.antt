@@ -1,4 +1,5 @@
 -- One record put: its action is the entry's, it is written where it is kept, and it ends where its spelling does.
+use Rattle.std.specs.Prelude.{Option, Some, None}
 use mathlib.Core.Path.{◌≡◌, ◌∙◌, refl, sym, ap, subst}
 use mathlib.Core.Bool.{Bool, true, false}
 use mathlib.Core.List.{List, ◌++◌}
@@ -27,11 +28,7 @@ use Rattle.spelled.specs.Records.{record_in}
 use Rattle.spelled.specs.Writing.{holds, reach}
 use Rattle.spelled.specs.Steps.{slot_of, entry_action, Placed, EntryAt, reading_shows, ReadEntry, rule_for, mark_for, kept, closed, passed_all, keeps, RowIs}
 use Rattle.spelled.specs.declared.entries.Entry.{Entry}
-use Rattle.spelled.specs.declared.entries.Reading.{Reading}
-use Rattle.spelled.specs.declared.entries.Reading.TheVariants.{Stray, Stands}
-use Rattle.spelled.specs.declared.passing.Passed.{Passed}
-use Rattle.spelled.specs.declared.passing.Passed.TheVariants.{Lost, Open}
-use Rattle.spelled.specs.declared.writing.Row.TheVariants.{Fails, Put}
+use Rattle.spelled.specs.declared.passing.Open.{Open}
 use Rattle.spelled.proofs.KeptLaws.{Stands as StandsBy}
 use Rattle.spelled.proofs.KeepLaws.{keeps_holds}
 
@@ -91,30 +88,30 @@ module _ {text : List ℕ} {e : Entry} (x : Placed text e) where
     unfolding keeps
     unkept k = rw k
 
-    module _ (k : kept rule (entry_action text e) ≡ true) {p : Passed}
+    module _ (k : kept rule (entry_action text e) ≡ true) {p : Option Open}
         (q : p ≡ passed_all mark (cut text e.first e.second) (cut text e.second e.third) (cut text e.third e.past)) where
       kept_passed : keeps rule mark last (entry_action text e) ≡ closed mark last p
       unfolding keeps
       kept_passed = rw (k, x.a_is, x.b_is, x.c_is, q)
 
-      pub kept_lost : p ≡ Lost → false ≡ keeps rule mark last (entry_action text e)
+      pub kept_lost : p ≡ None → false ≡ keeps rule mark last (entry_action text e)
       kept_lost l = sym (kept_passed ∙ rw l)
 
-      module _ {m d : ℕ} (o : p ≡ Open m d) where
+      module _ {at_end : Open} (o : p ≡ Some at_end) where
         pub kept_last : last ≡ true → true ≡ keeps rule mark last (entry_action text e)
         kept_last l = sym (kept_passed ∙ rw (o, l))
 
-        pub kept_open : last ≡ false → (m ≡ mark → ⊥) → false ≡ keeps rule mark last (entry_action text e)
-        kept_open l n = sym (kept_passed ∙ rw (o, l, ne_eqb m mark n))
+        pub kept_open : last ≡ false → (at_end.mark ≡ mark → ⊥) → false ≡ keeps rule mark last (entry_action text e)
+        kept_open l n = sym (kept_passed ∙ rw (o, l, ne_eqb at_end.mark mark n))
 
-        pub kept_closed : last ≡ false → m ≡ mark → eqb d 0 ≡ keeps rule mark last (entry_action text e)
-        kept_closed l n = sym (kept_passed ∙ rw (o, l, eq-eqb m mark n))
+        pub kept_closed : last ≡ false → at_end.mark ≡ mark → eqb at_end.depth 0 ≡ keeps rule mark last (entry_action text e)
+        kept_closed l n = sym (kept_passed ∙ rw (o, l, eq-eqb at_end.mark mark n))
 
 -- ---- the record at a place
 
 -- an entry that was read there
-module _ {text : List ℕ} {o : ℕ} {w : List ℕ} {r : Reading} {e : Entry} (x : ReadEntry text o w r) (q : r ≡ Stands e) where
-  there : EntryAt text o (Stands e)
+module _ {text : List ℕ} {o : ℕ} {w : List ℕ} {r : Option Entry} {e : Entry} (x : ReadEntry text o w r) (q : r ≡ Some e) where
+  there : EntryAt text o (Some e)
   there = subst (EntryAt text o) q x.placed
 
   pub placed_there : Placed text e
@@ -126,22 +123,19 @@ module _ {text : List ℕ} {o : ℕ} {w : List ℕ} {r : Reading} {e : Entry} (x
   pub shown_there : record_in text o w ≡ shows (entry_action text e)
   shown_there = x.answer ∙ ap (reading_shows text) q
 
-pub none_there : {text : List ℕ} {o : ℕ} {w : List ℕ} {r : Reading} → ReadEntry text o w r → r ≡ Stray → record_in text o w ≡ none
+pub none_there : {text : List ℕ} {o : ℕ} {w : List ℕ} {r : Option Entry} → ReadEntry text o w r → r ≡ None → record_in text o w ≡ none
 none_there {text} x q = x.answer ∙ ap (reading_shows text) q
 
 module _ (n o : ℕ) (d : Decoded) (last : Bool) (k to : ℕ) (old new : List ℕ) where
-  pub row_stray : d ≡ none → length new ≡ length old → RowIs n o d last k to old new Fails
-  row_stray e l = (l, rw e)
-
   module _ {x : Action} (e : d ≡ shows x) where
-    pub row_unwritten : holds last x ≡ false → length new ≡ length old → RowIs n o d last k to old new Fails
+    pub row_unwritten : holds last x ≡ false → length new ≡ length old → RowIs n o d last k to old new None
     row_unwritten h l = (l, rw (e, h))
 
     module _ {mid : List ℕ} {next end : ℕ} (p : Puts old mid to next (comma k)) (q : Puts mid new next end (spell x)) where
       end_is : end ≡ reach k to x
       end_is = omega (arith, p.next_is, q.next_is)
 
-      pub row_long : limit < end → RowIs n o d last k to old new Fails
+      pub row_long : limit < end → RowIs n o d last k to old new None
       row_long h = (q.long ∙ p.long, rw (e, lt-leb (reach k to x) limit (omega (arith, end_is, h))) (go (holds last x)))
         where
           go : (t : Bool) → isnt (and t false) ≡ true
@@ -149,7 +143,7 @@ module _ (n o : ℕ) (d : Decoded) (last : Bool) (k to : ℕ) (old new : List �
           go false = refl
 
       pub row_put : holds last x ≡ true → end ≤ limit → {past : ℕ} → past ≡ o + length (action_text x) → past ≤ n → past ≤ end_most
-          → RowIs n o d last k to old new (Put past end)
+          → RowIs n o d last k to old new (Some (record { past = past; next = end }))
       row_put h l {past} f i m = record {
         action = x;
         action_is = e;

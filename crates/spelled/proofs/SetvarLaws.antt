@@ -1,4 +1,7 @@
 -- A setvar that fits is read back from its spelling.
+use Rattle.ascii.specs.declared.numbers.NumberError.TheVariants.{Unreadable, TooLarge}
+use Rattle.ascii.specs.declared.numbers.NumberError.{NumberError}
+use Rattle.std.specs.Prelude.{Result, Ok, Err}
 use mathlib.Core.Path.{◌≡◌, ◌∙◌, refl, sym, ap}
 use mathlib.Core.Bool.{Bool, true, false}
 use mathlib.Core.List.{List, [], ◌∷◌, ◌++◌, append-nil, append_assoc}
@@ -12,8 +15,6 @@ use Rattle.ascii.specs.Text.{bytes}
 use Rattle.ascii.specs.Fold.{lowered, same}
 use Rattle.ascii.specs.Splits.{leads}
 use Rattle.ascii.specs.Numbers.{all_digits, signed_word}
-use Rattle.ascii.specs.declared.numbers.Number.{Number}
-use Rattle.ascii.specs.declared.numbers.Number.TheVariants.{Value, Unreadable, TooLarge}
 use Rattle.ascii.proofs.NumberLaws.{digit_bounds, in_bound}
 use Rattle.ascii.proofs.SameLaws.{same_true}
 use Rattle.ascii.proofs.TestLaws.{apart, both}
@@ -68,10 +69,10 @@ text_back t h =
     let r = both (isnt (leads 45 t)) (unread (signed_word t)) q.1 in
     rw (denied (has_macro t) p.0, denied (leads 43 t) q.0, denied (leads 45 t) r.0) (go (signed_word t) r.1)
   where
-    go : (n : Number) → unread n ≡ true → number_or t n ≡ text t
-    go (Value n) e = absurd (apart e refl)
-    go Unreadable e = refl
-    go TooLarge e = refl
+    go : (n : Result ℕ NumberError) → unread n ≡ true → number_or t n ≡ text t
+    go (Ok n) e = absurd (apart e refl)
+    go (Err Unreadable) e = refl
+    go (Err TooLarge) e = refl
 
 pub int_back : (n : ℕ) → n < 2 ^ 63 → value_of (decimal n) ≡ int n
 unfolding value_of plain_value
@@ -82,11 +83,11 @@ int_back n h =
 
 pub increment_back : (n : ℕ) → n < 2 ^ 64 → value_of (43 ∷ signed n) ≡ increment n
 unfolding value_of plain_value has_macro
-increment_back n h = rw (signed_macro n) (ap (λ (m : Number). increment (amount m)) (signed_read n h))
+increment_back n h = rw (signed_macro n) (ap (λ (m : Result ℕ NumberError). increment (amount m)) (signed_read n h))
 
 pub decrement_back : (n : ℕ) → n < 2 ^ 64 → value_of (45 ∷ signed n) ≡ decrement n
 unfolding value_of plain_value has_macro
-decrement_back n h = rw (signed_macro n) (ap (λ (m : Number). decrement (amount m)) (signed_read n h))
+decrement_back n h = rw (signed_macro n) (ap (λ (m : Result ℕ NumberError). decrement (amount m)) (signed_read n h))
 
 pub macro_back : (t : List ℕ) → has_macro t ≡ true → value_of t ≡ macro t
 unfolding value_of

@@ -1,4 +1,5 @@
 -- An action that fits is read back from its spelling, whatever its rule.
+use Rattle.std.specs.Prelude.{Ok}
 use mathlib.Core.Path.{◌≡◌, ◌∙◌, refl, sym, ap}
 use mathlib.Core.Bool.{Bool, true, false}
 use mathlib.Core.List.{List, [], ◌∷◌}
@@ -12,7 +13,6 @@ use Rattle.ascii.specs.Classes.{digit}
 use Rattle.ascii.specs.Fold.{lowered, same}
 use Rattle.ascii.specs.Trim.{strip_end}
 use Rattle.ascii.specs.Numbers.{all_digits, unsigned_by}
-use Rattle.ascii.specs.declared.numbers.Number.TheVariants.{Value}
 use Rattle.ascii.proofs.NumberLaws.{digit_bounds, in_bound}
 use Rattle.ascii.proofs.TestLaws.{apart, both}
 use Rattle.records.specs.Codes.{transformation_code}
@@ -55,7 +55,7 @@ decimal_stripped n =
 
 -- ---- by the rule
 
-number_back : (most n : ℕ) → n ≤ most → n < 100000000000000000000 → unsigned_by most (decimal n) ≡ Value n
+number_back : (most n : ℕ) → n ≤ most → n < 100000000000000000000 → unsigned_by most (decimal n) ≡ Ok n
 number_back most n h k = decimal_unsigned n k most ∙ in_bound most n h
 
 pub rule_back : (u : Rule) (r : Row) (x : Action) → small u ≡ true → r.code ≡ x.code → texts_fit u x ≡ true

@@ -13,7 +13,9 @@ use Rattle.ascii.specs.Text.{bytes}
 use Rattle.ascii.specs.Fold.{lowered, same}
 use Rattle.ascii.proofs.SameLaws.{never, and_left, and_right, same_true}
 use Rattle.listing.specs.Json.{onto, decimal}
-use Rattle.records.specs.Codes.{Shape, no_code, bare, one, two, shapes, shape_of, known_by, is_kind, text_kind, has_b, has_c, setting as setting_shape}
+use Rattle.records.specs.Codes.{shapes, shape_of, known_by, is_kind, text_kind, has_b, has_c}
+use Rattle.records.specs.declared.marking.Shape.{Shape}
+use Rattle.records.specs.declared.marking.Shape.TheVariants.{NoCode as no_code, Bare as bare, One as one, Two as two, Setting as setting_shape}
 use Rattle.records.specs.Actions.{Action, slot_text, action_text}
 use Rattle.single_action.specs.contracts.naming.Rule.{the_type}
 use Rattle.single_action.specs.Setvar.{SetValue, text, int, increment, decrement, delete, macro}

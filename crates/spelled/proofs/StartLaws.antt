@@ -3,7 +3,7 @@ use mathlib.Core.Path.{◌≡◌, ◌∙◌, refl, sym, ap, ap₂}
 use mathlib.Core.Bool.{Bool, true, false}
 use mathlib.Core.List.{List, [], ◌∷◌}
 use mathlib.Core.Logic.{◌⊎◌, inl, inr, ⊎_elim}
-use Prim.Native.Nat.{ℕ, zero, suc, ◌+◌, ◌-◌, ◌≤◌, ◌<◌, min}
+use Prim.Native.Nat.{ℕ, zero, suc, ◌+◌, ◌*◌, ◌-◌, ◌≤◌, ◌<◌, min}
 use native.Mathlib.Omega.{arith}
 use native.Mathlib.Nat.{add-zero}
 use lib.ListN.{length, take, drop, get_or, length-drop}
@@ -14,7 +14,9 @@ use Rattle.ascii.specs.Choice.{pick, and}
 use Rattle.ascii.specs.Fold.{same}
 use Rattle.ascii.proofs.TestLaws.{apart}
 use Rattle.lent.specs.Sizes.{action_words, span_offset, span_length, room_for}
-use Rattle.records.specs.Codes.{Shape, no_code, bare, one, two, setting, shape_of, has_a, has_b, has_c}
+use Rattle.records.specs.Codes.{shape_of, has_a, has_b, has_c}
+use Rattle.records.specs.declared.marking.Shape.{Shape}
+use Rattle.records.specs.declared.marking.Shape.TheVariants.{NoCode as no_code, Bare as bare, One as one, Two as two, Setting as setting}
 use Rattle.records.specs.Actions.{Action, action_text}
 use Rattle.records.specs.Layout.{action_record}
 use Rattle.records.specs.Marks.{marks_for, marks_of, known, spans_by, spans_of, span_end, end_most, inside, inside_all}
@@ -30,6 +32,15 @@ room_more n h = omega arith
 room_none : (n : ℕ) → n < action_words → room_for action_words n ≡ 0
 unfolding room_for
 room_none n h = omega arith
+
+-- the places of whole records, and past them
+pub whole_at : (n k : ℕ) {m : ℕ} → k < m → m ≡ room_for action_words n → (k + 1) * action_words ≤ n
+unfolding room_for
+whole_at n k h e = omega arith
+
+pub past_whole : (n k : ℕ) {m : ℕ} → m ≤ k → m ≡ room_for action_words n → n < (k + 1) * action_words
+unfolding room_for
+past_whole n k h e = omega arith
 
 -- the code at a place has texts
 abbrev pub texts_at : List ℕ → ℕ → Bool

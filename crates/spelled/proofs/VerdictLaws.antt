@@ -1,4 +1,7 @@
 -- Records are written exactly when they stand for a list whose spelling reads back to it, by the reader's own promise.
+use Rattle.lent.specs.declared.gating.GateError.{GateError}
+use Rattle.lent.specs.declared.gating.GateError.TheVariants.{TooLong, Short, NotAscii}
+use Rattle.std.specs.Prelude.{Result, Ok, Err}
 use mathlib.Core.Path.{◌≡◌, ◌∙◌, refl, sym, ap, subst}
 use mathlib.Core.Bool.{Bool, true, false}
 use mathlib.Core.List.{List, [], ◌∷◌, map}
@@ -12,8 +15,6 @@ use Rattle.ascii.proofs.TestLaws.{apart, both, joins}
 use Rattle.lent.specs.Sizes.{limit, action_words, room_for}
 use Rattle.lent.specs.Sources.{Sourced}
 use Rattle.lent.specs.Table.{Refusal, Outcome, refuses, reads, past_gate}
-use Rattle.lent.specs.declared.gating.Gate.{Gate}
-use Rattle.lent.specs.declared.gating.Gate.TheVariants.{Open, TooLong, NotAscii, Short}
 use Rattle.lent.proofs.HighLaws.{high_low, low_high}
 use Rattle.lent.proofs.GateLaws.{open_is}
 use Rattle.listing.specs.Json.{trail, joined}
@@ -154,7 +155,7 @@ module _ (xs : List Action) (a : low xs ≡ true) (h : written xs ≡ true) (l :
   found_back = (back_is xs).0 (sym (exact xs) ∙ h)
 
   -- past the gate, with so much text and scratch
-  pub gate_back : (text work : ℕ) → length (spell_all xs) ≤ text → length (spell_all xs) ≤ work → actions_gate (spell_all xs) text work ≡ Open
+  pub gate_back : (text work : ℕ) → length (spell_all xs) ≤ text → length (spell_all xs) ≤ work → actions_gate (spell_all xs) text work ≡ (Ok tt)
   gate_back text work t w =
       let s = spell_all xs in
       let high = ascii_high s (low_spelling xs a) in
@@ -165,7 +166,7 @@ module _ (xs : List Action) (a : low xs ≡ true) (h : written xs ≡ true) (l :
   read_back text work records t w r =
       let b = found_back in
       let c : length b.0 ≤ room_for action_words records = omega (arith, r, length-map b.0 (λ (y : Sourced Action). y.thing), ap length b.2) in
-      outcome_by_lem (spell_all xs) text work records Open (reads b.0) (gate_back text work t w) b.1 ∙ room_read records b.0 c
+      outcome_by_lem (spell_all xs) text work records (Ok tt) (reads b.0) (gate_back text work t w) b.1 ∙ room_read records b.0 c
 
   pub reads_as : ReadsAs (spell_all xs) xs
   reads_as =
@@ -191,11 +192,11 @@ backed xs r = go (actions_gate s (length s) (length s)) refl r.read
         stopping (refuses f) = true
         stopping (reads x) = false
 
-    go : (g : Gate) → actions_gate s (length s) (length s) ≡ g → past_gate g (actions_of s) ≡ reads r.found → Backed xs
-    go TooLong e h = refused h
-    go (NotAscii p) e h = refused h
-    go Short e h = refused h
-    go Open e h =
+    go : (g : Result Unit GateError) → actions_gate s (length s) (length s) ≡ g → past_gate g (actions_of s) ≡ reads r.found → Backed xs
+    go (Err TooLong) e h = refused h
+    go (Err (NotAscii p)) e h = refused h
+    go (Err Short) e h = refused h
+    go (Ok tt) e h =
         let o = (open_is s (min (length s) (length s)) (length s)).0 e in
         record {
           all_low = subst (λ (l : List Action). low l ≡ true) r.same (read_low s r.found h (high_ascii s (low_high s o.ascii)));

@@ -11,7 +11,8 @@ use Rattle.ascii.specs.Fold.{same}
 use Rattle.ascii.proofs.TestLaws.{apart, both, joins}
 use Rattle.ascii.proofs.SameLaws.{same_true}
 use Rattle.listing.specs.Json.{decimal}
-use Rattle.records.specs.Codes.{bare, text_kind}
+use Rattle.records.specs.Codes.{text_kind}
+use Rattle.records.specs.declared.marking.Shape.TheVariants.{Bare as bare}
 use Rattle.records.specs.Actions.{Slot, absent, present, Action, slot_text, action_text}
 use Rattle.records.specs.Decoding.{stands}
 use Rattle.single_action.specs.Marks.{quotation}

@@ -1,13 +1,12 @@
 -- When a list's spelling reads back to it, decided by a walk over the records: the condition of M-109.
-use Rattle.std.specs.Prelude.{Bool, true, false, List, [], ◌∷◌, ℕ, ◌^◌, eqb, leb, ltb}
+use Rattle.ascii.specs.declared.numbers.NumberError.{NumberError}
+use Rattle.std.specs.Prelude.{Bool, true, false, List, [], ◌∷◌, ℕ, ◌^◌, eqb, leb, ltb, Result, Ok, Err}
 use Rattle.ascii.specs.Choice.{pick, and, or}
 use Rattle.ascii.specs.Text.{bytes}
 use Rattle.ascii.specs.Classes.{white}
 use Rattle.ascii.specs.Fold.{lowered, same}
 use Rattle.ascii.specs.Splits.{leads}
 use Rattle.ascii.specs.Numbers.{signed_word}
-use Rattle.ascii.specs.declared.numbers.Number.{Number}
-use Rattle.ascii.specs.declared.numbers.Number.TheVariants.{Value, Unreadable, TooLarge}
 use Rattle.records.specs.Codes.{transformation_code}
 use Rattle.records.specs.Actions.{Slot, absent, present, Action, slot_text, action_text}
 use Rattle.single_action.specs.Marks.{quotation}
@@ -62,10 +61,9 @@ unfoldable pub last_by : (ℕ → Bool) → Bool → List ℕ → Bool
 last_by test d [] = d
 last_by test d (b ∷ r) = last_by test (test b) r
 
-abbrev pub unread : Number → Bool
-unread (Value n) = false
-unread Unreadable = true
-unread TooLarge = true
+abbrev pub unread : Result ℕ NumberError → Bool
+unread (Ok n) = false
+unread (Err e) = true
 
 -- A text that is read as a text behind `=`.
 unfoldable pub textual : List ℕ → Bool

@@ -1,7 +1,7 @@
 -- What write_actions promises: the answer, and every byte of the lent buffer, on every path.
-use Rattle.std.specs.Prelude.{ℕ, List, length}
+use Rattle.std.specs.Prelude.{ℕ, List, length, Result}
 use Rattle.listing.specs.Promises.{Outcome, no_token, fitted, Leaves}
-use Rattle.listing.specs.declared.Answer.{Answer}
+use Rattle.listing.specs.declared.ListingError.{ListingError}
 use Rattle.spelled.specs.Spelling.{spell_all}
 use Rattle.spelled.specs.Records.{shown, records_of}
 use Rattle.spelled.specs.Writing.{Verdict, fine, fails, verdict}
@@ -15,5 +15,5 @@ outcome_by n xs (fails k) = no_token k
 unfoldable pub written_outcome : List ℕ → List ℕ → ℕ → Outcome
 written_outcome words text n = outcome_by n (spell_all (shown (records_of words text))) (verdict 0 0 (records_of words text))
 
-abbrev pub WriteActions : List ℕ → List ℕ → List ℕ → List ℕ → Answer → Type 0
+abbrev pub WriteActions : List ℕ → List ℕ → List ℕ → List ℕ → Result ℕ ListingError → Type 0
 WriteActions words text old new r = Leaves (written_outcome words text (length old)) old new r

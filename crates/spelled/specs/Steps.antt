@@ -1,5 +1,5 @@
 -- What the private functions promise: a record's place, the tests on it, the walk over its texts, and its spelling put.
-use Rattle.std.specs.Prelude.{◌≡◌, ℕ, ◌+◌, ◌-◌, ◌^◌, ◌≤◌, ◌<◌, Bool, true, false, List, [], ◌∷◌, ◌++◌, map, length, eqb, leb, ltb}
+use Rattle.std.specs.Prelude.{◌≡◌, ℕ, ◌+◌, ◌-◌, ◌^◌, ◌≤◌, ◌<◌, Bool, true, false, List, [], ◌∷◌, ◌++◌, map, length, eqb, leb, ltb, Option, Some, None, Result, Ok, Err}
 use Rattle.ascii.specs.Choice.{pick, and, or}
 use Rattle.ascii.specs.Text.{bytes}
 use Rattle.ascii.specs.Classes.{white}
@@ -25,13 +25,8 @@ use Rattle.spelled.specs.Texts.{rule_in}
 use Rattle.spelled.specs.Records.{record_in, records_of, shown}
 use Rattle.spelled.specs.Writing.{holds, reach, fine, fails, verdict}
 use Rattle.spelled.specs.declared.entries.Entry.{Entry}
-use Rattle.spelled.specs.declared.entries.Reading.{Reading}
-use Rattle.spelled.specs.declared.entries.Reading.TheVariants.{Stray, Stands}
-use Rattle.spelled.specs.declared.passing.Passed.{Passed}
-use Rattle.spelled.specs.declared.passing.Passed.TheVariants.{Lost, Open}
+use Rattle.spelled.specs.declared.passing.Open.{Open}
 use Rattle.spelled.specs.declared.writing.Row.{Row}
-use Rattle.spelled.specs.declared.writing.Row.TheVariants.{Fails, Put}
-use Rattle.spelled.specs.declared.writing.Rows.{Rows}
 
 -- ---- a record's place
 
@@ -75,15 +70,15 @@ pub record Placed (text : List ℕ) (e : Entry) : Type 0 where
   pub c_is : slot_text (entry_action text e).c ≡ cut text e.third e.past
 
 -- An entry that stands there, and its offsets.
-abbrev pub EntryAt : List ℕ → ℕ → Reading → Type 0
-EntryAt text o Stray = Unit {0}
-EntryAt text o (Stands e) = Placed text e × (e.first ≡ o)
+abbrev pub EntryAt : List ℕ → ℕ → Option Entry → Type 0
+EntryAt text o None = Unit {0}
+EntryAt text o (Some e) = Placed text e × (e.first ≡ o)
 
-abbrev pub reading_shows : List ℕ → Reading → Decoded
-reading_shows text Stray = none
-reading_shows text (Stands e) = shows (entry_action text e)
+abbrev pub reading_shows : List ℕ → Option Entry → Decoded
+reading_shows text None = none
+reading_shows text (Some e) = shows (entry_action text e)
 
-pub record ReadEntry (text : List ℕ) (o : ℕ) (words : List ℕ) (r : Reading) : Type 0 where
+pub record ReadEntry (text : List ℕ) (o : ℕ) (words : List ℕ) (r : Option Entry) : Type 0 where
   pub answer : record_in text o words ≡ reading_shows text r
   pub placed : EntryAt text o r
 
@@ -139,32 +134,35 @@ kept setting x = setting_kept x
 abbrev pub line_end : List ℕ → Bool
 line_end r = or (leads 10 r) (leads 13 r)
 
-abbrev pub opened : Nest → Passed
-opened n = Open n.mark n.depth
+abbrev pub open_at : ℕ → ℕ → Option Open
+open_at mark depth = Some (record { mark = mark; depth = depth })
+
+abbrev pub opened : Nest → Option Open
+opened n = open_at n.mark n.depth
 
 -- Behind a byte: it is ASCII, no backslash before a line end, and no comma that cuts.
 abbrev pub stays : Nest → ℕ → List ℕ → Bool
 stays n b r = and (ltb b 128) (and (isnt (and (eqb b 92) (line_end r))) (isnt (cuts n b)))
 
-abbrev pub stepped : Nest → List ℕ → Passed
+abbrev pub stepped : Nest → List ℕ → Option Open
 stepped n [] = opened n
-stepped n (b ∷ r) = pick (stays n b r) (opened (nest_after n b)) Lost
+stepped n (b ∷ r) = pick (stays n b r) (opened (nest_after n b)) None
 
 -- With no mark open, by the cutter alone.
-abbrev pub stepped_bare : ℕ → ℕ → Passed
-stepped_bare d b = pick (cuts (nest 0 d) b) Lost (opened (nest_after (nest 0 d) b))
+abbrev pub stepped_bare : ℕ → ℕ → Option Open
+stepped_bare d b = pick (cuts (nest 0 d) b) None (opened (nest_after (nest 0 d) b))
 
 -- Behind a text.
-unfoldable pub passed : Nest → List ℕ → Passed
+unfoldable pub passed : Nest → List ℕ → Option Open
 passed n [] = opened n
-passed n (b ∷ r) = pick (stays n b r) (passed (nest_after n b) r) Lost
+passed n (b ∷ r) = pick (stays n b r) (passed (nest_after n b) r) None
 
-abbrev pub passed_on : Passed → List ℕ → Passed
-passed_on Lost t = Lost
-passed_on (Open m d) t = passed (nest m d) t
+abbrev pub passed_on : Option Open → List ℕ → Option Open
+passed_on None t = None
+passed_on (Some o) t = passed (nest o.mark o.depth) t
 
 -- Behind three texts, the mark m being open before them.
-abbrev pub passed_all : ℕ → List ℕ → List ℕ → List ℕ → Passed
+abbrev pub passed_all : ℕ → List ℕ → List ℕ → List ℕ → Option Open
 passed_all m a b c = passed_on (passed_on (passed (nest m 0) a) b) c
 
 -- ---- a record that is written
@@ -184,9 +182,9 @@ mark_for expiry t = 0
 mark_for setting t = mark_in t
 
 -- With others behind it only the mark around it is open at its end.
-abbrev pub closed : ℕ → Bool → Passed → Bool
-closed m last Lost = false
-closed m last (Open mark depth) = or last (and (eqb mark m) (eqb depth 0))
+abbrev pub closed : ℕ → Bool → Option Open → Bool
+closed m last None = false
+closed m last (Some o) = or last (and (eqb o.mark m) (eqb o.depth 0))
 
 unfoldable pub keeps : Rule → ℕ → Bool → Action → Bool
 keeps rule m last x = and (kept rule x) (closed m last (passed_all m (slot_text x.a) (slot_text x.b) (slot_text x.c)))
@@ -224,16 +222,16 @@ pub record RowPut (n o : ℕ) (d : Decoded) (last : Bool) (k to : ℕ) (old new 
   pub inside : (past ≤ n) × (past ≤ end_most)
   pub put : Puts old new to next (comma k ++ spell action)
 
-abbrev pub RowIs : ℕ → ℕ → Decoded → Bool → ℕ → ℕ → List ℕ → List ℕ → Row → Type 0
-RowIs n o d last k to old new Fails = (length new ≡ length old) × (stops last k to d ≡ true)
-RowIs n o d last k to old new (Put past next) = RowPut n o d last k to old new past next
+abbrev pub RowIs : ℕ → ℕ → Decoded → Bool → ℕ → ℕ → List ℕ → List ℕ → Option Row → Type 0
+RowIs n o d last k to old new None = (length new ≡ length old) × (stops last k to d ≡ true)
+RowIs n o d last k to old new (Some r) = RowPut n o d last k to old new r.past r.next
 
 -- The records put: all of them, or some before the first that fails.
-abbrev pub RowsAre : List ℕ → List ℕ → List ℕ → List ℕ → Rows → Type 0
-RowsAre words text old new (Rows.Fails k) = verdict 0 0 (records_of words text) ≡ fails k
-RowsAre words text old new (Rows.Put end) =
+abbrev pub RowsAre : List ℕ → List ℕ → List ℕ → List ℕ → Result ℕ ℕ → Type 0
+RowsAre words text old new (Err k) = verdict 0 0 (records_of words text) ≡ fails k
+RowsAre words text old new (Ok end) =
     (verdict 0 0 (records_of words text) ≡ fine end) × Puts old new 0 end (joined (map spell (shown (records_of words text))))
 
-pub record PutEach (words text old new : List ℕ) (r : Rows) : Type 0 where
+pub record PutEach (words text old new : List ℕ) (r : Result ℕ ℕ) : Type 0 where
   pub long : length new ≡ length old
   pub rows_are : RowsAre words text old new r

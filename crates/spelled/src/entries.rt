@@ -17,24 +17,15 @@ pub struct Entry {
     pub past: usize,
 }
 
-#[derive(Clone, Copy)]
-pub enum Reading {
-    // its words are none that a reader writes
-    Stray,
-    Stands(Entry),
-}
-
 // The offset of the first text; one past all n bytes of the buffer, where none can stand, is taken for its end.
 pub fn first_offset(words: &[u64], n: usize) -> usize
     ensures { result ≡ min (start (whole words.now) words.now) n }
 {
-    let mut at = 0;
-    while lent::ACTION_WORDS <= words.len() - at {
+    for count in 0..lent::room(words.len(), lent::ACTION_WORDS) {
+        let at = count * lent::ACTION_WORDS;
         if records::is_text(words[at], words[at + 4], 2) {
-            let offset = lent::span_offset(words[at + 2]) as usize;
-            return if n < offset { n } else { offset };
+            return n.min(lent::span_offset(words[at + 2]) as usize);
         }
-        at += lent::ACTION_WORDS;
     }
     0
 }
@@ -60,8 +51,8 @@ fn text_end(text: bool, word: u64, at: usize, n: usize) -> usize
     end as usize
 }
 
-// The record at a place, the offset `first` being reached.
-pub fn read_entry(words: &[u64], at: usize, first: usize, text: &[u8]) -> Reading
+// The record at a place, the offset `first` being reached; none where its words are none that a reader writes.
+pub fn read_entry(words: &[u64], at: usize, first: usize, text: &[u8]) -> Option<Entry>
     requires action_words_in_bounds { at + action_words ≤ length words.now }
     requires first_in_bounds { (first ≤ length text.now) × (first ≤ end_most) }
     ensures { ReadEntry text.now first (drop at words.now) result }
@@ -69,16 +60,16 @@ pub fn read_entry(words: &[u64], at: usize, first: usize, text: &[u8]) -> Readin
     let code = words[at];
     let kind = words[at + 4];
     if !records::is_known(code, kind) {
-        return Reading::Stray;
+        return None;
     }
     let n = text.len();
     let second = text_end(records::is_text(code, kind, 2), words[at + 2], first, n);
     let third = text_end(records::is_text(code, kind, 3), words[at + 3], second, n);
     let past = text_end(records::is_text(code, kind, 5), words[at + 5], third, n);
     if n < past {
-        return Reading::Stray;
+        return None;
     }
-    Reading::Stands(Entry {
+    Some(Entry {
         code,
         number: words[at + 1],
         kind,

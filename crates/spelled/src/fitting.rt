@@ -7,8 +7,10 @@ ghost use Rattle.spelled.specs.Spelling.{has};
 ghost use Rattle.spelled.specs.Steps.{Placed, entry_action, bare, marked_end, value_kept, setting_kept, kept};
 
 use crate::entries::Entry;
-use ascii::Number;
 use single_action::Rule;
+
+// What a setvar starts with that deletes.
+const DELETING: u8 = b'!';
 
 pub fn has_byte(t: &[u8], b: u8) -> bool
     ensures { result ≡ has b t.now }
@@ -19,73 +21,50 @@ pub fn has_byte(t: &[u8], b: u8) -> bool
 fn ends_white(t: &[u8]) -> bool
     ensures { result ≡ last_by white false t.now }
 {
-    if t.len() == 0 {
-        return false;
-    }
-    ascii::is_white(t[t.len() - 1])
+    !t.is_empty() && ascii::is_white(t[t.len() - 1])
 }
 
 // Whether a quotation mark stands at either end.
 fn marks_an_end(t: &[u8]) -> bool
     ensures { result ≡ marked_end t.now }
 {
-    if t.len() == 0 {
-        return false;
-    }
-    if single_action::is_quotation(t[0]) {
-        return true;
-    }
-    single_action::is_quotation(t[t.len() - 1])
+    !t.is_empty()
+        && (single_action::is_quotation(t[0]) || single_action::is_quotation(t[t.len() - 1]))
 }
 
 // Neither a number nor a value kind.
 fn is_bare(number: u64, kind: u64) -> bool
     ensures { result ≡ bare number kind }
 {
-    if kind != 0 {
-        return false;
-    }
-    number == 0
+    kind == 0 && number == 0
 }
 
 // Neither, and a text that has not the flaw.
 fn is_flawless(number: u64, kind: u64, flaw: bool) -> bool
     ensures { result ≡ and (bare number kind) (isnt flaw) }
 {
-    if !is_bare(number, kind) {
-        return false;
-    }
-    !flaw
+    is_bare(number, kind) && !flaw
 }
 
 // A number up to the largest, and no value kind.
 fn is_number(number: u64, kind: u64, most: u64) -> bool
     ensures { result ≡ and (eqb kind 0) (leb number most) }
 {
-    if kind != 0 {
-        return false;
-    }
-    number <= most
+    kind == 0 && number <= most
 }
 
 // Two texts with `=` between: none in the first, and the second stands last.
 fn is_equation(number: u64, kind: u64, a: &[u8], b: &[u8]) -> bool
     ensures { result ≡ and (isnt (has 61 a.now)) (and (bare number kind) (isnt (last_by white false b.now))) }
 {
-    if has_byte(a, b'=') {
-        return false;
-    }
-    is_flawless(number, kind, ends_white(b))
+    !has_byte(a, b'=') && is_flawless(number, kind, ends_white(b))
 }
 
 // A text and seconds with `=` between.
 fn is_expiry(kind: u64, a: &[u8]) -> bool
     ensures { result ≡ and (eqb kind 0) (isnt (has 61 a.now)) }
 {
-    if kind != 0 {
-        return false;
-    }
-    !has_byte(a, b'=')
+    kind == 0 && !has_byte(a, b'=')
 }
 
 // Whether a text behind `=` is read as a text: no macro, no sign first, and no number.
@@ -95,19 +74,15 @@ fn is_textual(t: &[u8]) -> bool
     if single_action::has_macro(t) {
         return false;
     }
-    if t.len() == 0 {
+    if t.is_empty() {
         return true;
     }
     match t[0] {
-        43 => return false,
-        45 => return false,
+        b'+' => return false,
+        b'-' => return false,
         _ => {}
     }
-    match ascii::signed(t) {
-        Number::Value(_) => false,
-        Number::Unreadable => true,
-        Number::TooLarge => true,
-    }
+    ascii::signed(t).is_err()
 }
 
 // A setvar's value, by its kind.
@@ -115,23 +90,10 @@ fn value_fits(kind: u64, number: u64, t: &[u8]) -> bool
     ensures { result ≡ value_kept kind number t.now }
 {
     match kind {
-        1 => {
-            if number != 0 {
-                return false;
-            }
-            if ascii::is_same(t, b"1") {
-                return true;
-            }
-            is_textual(t)
-        }
+        1 => number == 0 && (ascii::is_same(t, b"1") || is_textual(t)),
         2 => number <= i64::MAX as u64,
         5 => number == 0,
-        6 => {
-            if number != 0 {
-                return false;
-            }
-            single_action::has_macro(t)
-        }
+        6 => number == 0 && single_action::has_macro(t),
         _ => true,
     }
 }
@@ -140,15 +102,10 @@ fn value_fits(kind: u64, number: u64, t: &[u8]) -> bool
 fn name_fits(collection: &[u8], key: &[u8]) -> bool
     ensures { result ≡ name_fits collection.now key.now }
 {
-    if 0 < collection.len() {
-        if collection[0] == b'!' {
-            return false;
-        }
-    }
-    if has_byte(collection, b'=') {
+    if !collection.is_empty() && collection[0] == DELETING {
         return false;
     }
-    !has_byte(key, b'=')
+    !has_byte(collection, b'=') && !has_byte(key, b'=')
 }
 
 fn setvar_fits(e: Entry, text: &[u8]) -> bool
@@ -166,10 +123,8 @@ fn setvar_fits(e: Entry, text: &[u8]) -> bool
     if !ascii::same_lowered(collection, collection) {
         return false;
     }
-    if e.kind != records::DELETE_KIND {
-        if !name_fits(collection, &text[second..third]) {
-            return false;
-        }
+    if e.kind != records::DELETE_KIND && !name_fits(collection, &text[second..third]) {
+        return false;
     }
     value_fits(e.kind, e.number, &text[third..past])
 }

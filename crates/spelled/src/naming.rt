@@ -47,6 +47,7 @@ const LENGTHS: [u8; 33] = [
     1, // t
 ];
 
+// By number, for single_action's reason.
 const RULES: [u8; 33] = [
     0, // no code
     0, // deny

@@ -3,110 +3,81 @@ ghost use Rattle.std.specs.Prelude.{◌≡◌, ◌+◌, ◌<◌, length, drop};
 ghost use Rattle.actions.specs.Pieces.{nest};
 ghost use Rattle.spelled.specs.Steps.{line_end, stepped_bare, stepped, passed, passed_all};
 
-// The open quotation mark, 0 for none, and the depth of brackets; or that a byte does not stay.
+// The open quotation mark, 0 for none, and the depth of brackets.
 #[derive(Clone, Copy)]
-pub enum Passed {
-    Lost,
-    Open { mark: u8, depth: usize },
+pub struct Open {
+    pub mark: u8,
+    pub depth: usize,
 }
 
 // Whether a line end stands at a place: a backslash before it would take it out.
 fn is_line_end(t: &[u8], at: usize) -> bool
     ensures { result ≡ line_end (drop at t.now) }
 {
-    if t.len() <= at {
-        return false;
-    }
-    if t[at] == 10 {
-        return true;
-    }
-    t[at] == 13
+    at < t.len() && (t[at] == b'\n' || t[at] == b'\r')
 }
 
-// Behind a byte with no mark open.
-fn step_bare(depth: usize, b: u8) -> Passed
+// Behind a byte with no mark open; none where it does not stay.
+fn step_bare(depth: usize, b: u8) -> Option<Open>
     requires { depth < 9223372036854775807 }
     ensures { result ≡ stepped_bare depth b }
 {
     match b {
-        34 => Passed::Open { mark: 34, depth },
-        39 => Passed::Open { mark: 39, depth },
-        40 => Passed::Open {
+        b'"' => Some(Open { mark: b, depth }),
+        b'\'' => Some(Open { mark: b, depth }),
+        b'(' => Some(Open {
             mark: 0,
             depth: depth + 1,
-        },
-        41 => Passed::Open {
+        }),
+        b')' => Some(Open {
             mark: 0,
-            depth: if depth == 0 { 0 } else { depth - 1 },
-        },
-        44 => {
-            if depth == 0 {
-                return Passed::Lost;
-            }
-            Passed::Open { mark: 0, depth }
-        }
-        _ => Passed::Open { mark: 0, depth },
+            depth: depth.saturating_sub(1),
+        }),
+        b',' if depth == 0 => None,
+        _ => Some(Open { mark: 0, depth }),
     }
 }
 
 // Behind the byte at a place.
-fn step(mark: u8, depth: usize, t: &[u8], at: usize) -> Passed
+fn step(from: Open, t: &[u8], at: usize) -> Option<Open>
     requires at_in_bounds { at < length t.now }
-    requires depth_bound { depth < 9223372036854775807 }
-    ensures { result ≡ stepped (nest mark depth) (drop at t.now) }
+    requires depth_bound { from.depth < 9223372036854775807 }
+    ensures { result ≡ stepped (nest from.mark from.depth) (drop at t.now) }
 {
     let b = t[at];
     if 128 <= b {
-        return Passed::Lost;
+        return None;
     }
-    if b == 92 {
-        if is_line_end(t, at + 1) {
-            return Passed::Lost;
-        }
+    if b == b'\\' && is_line_end(t, at + 1) {
+        return None;
     }
-    if mark == 0 {
-        return step_bare(depth, b);
+    if from.mark == 0 {
+        return step_bare(from.depth, b);
     }
-    Passed::Open {
-        mark: if b == mark { 0 } else { mark },
-        depth,
-    }
+    Some(Open {
+        mark: if b == from.mark { 0 } else { from.mark },
+        depth: from.depth,
+    })
 }
 
 // Behind a text.
-fn pass(mark: u8, depth: usize, t: &[u8]) -> Passed
-    requires { depth + length t.now < 9223372036854775807 }
-    ensures { result ≡ passed (nest mark depth) t.now }
+fn pass(from: Open, t: &[u8]) -> Option<Open>
+    requires { from.depth + length t.now < 9223372036854775807 }
+    ensures { result ≡ passed (nest from.mark from.depth) t.now }
 {
-    let mut open = mark;
-    let mut deep = depth;
-    let mut at = 0;
-    while at < t.len() {
-        match step(open, deep, t, at) {
-            Passed::Lost => return Passed::Lost,
-            Passed::Open { mark, depth } => {
-                open = mark;
-                deep = depth;
-            }
-        }
-        at += 1;
+    let mut reached = from;
+    for at in 0..t.len() {
+        reached = step(reached, t, at)?;
     }
-    Passed::Open {
-        mark: open,
-        depth: deep,
-    }
+    Some(reached)
 }
 
 // Behind three texts.
-pub fn pass_all(mark: u8, a: &[u8], b: &[u8], c: &[u8]) -> Passed
+pub fn pass_all(mark: u8, a: &[u8], b: &[u8], c: &[u8]) -> Option<Open>
     requires { length a.now + length b.now + length c.now < 9223372036854775807 }
     ensures { result ≡ passed_all mark a.now b.now c.now }
 {
-    match pass(mark, 0, a) {
-        Passed::Lost => Passed::Lost,
-        Passed::Open { mark, depth } => match pass(mark, depth, b) {
-            Passed::Lost => Passed::Lost,
-            Passed::Open { mark, depth } => pass(mark, depth, c),
-        },
-    }
+    let first = pass(Open { mark, depth: 0 }, a)?;
+    let second = pass(first, b)?;
+    pass(second, c)
 }

@@ -7,27 +7,20 @@ ghost use Rattle.spelled.specs.Promises.{WriteActions};
 ghost use Rattle.spelled.specs.Records.{record_in};
 ghost use Rattle.spelled.specs.Steps.{Placed, entry_action, keeps, RowIs, PutEach};
 
-use crate::entries::{Entry, Reading, first_offset, read_entry};
+use crate::entries::{Entry, first_offset, read_entry};
 use crate::fitting::fits;
 use crate::naming::rule_for;
-use crate::passing::{Passed, pass_all};
+use crate::passing::pass_all;
 use crate::putting::put_byte;
 use crate::spelling::{mark_for, put_entry};
-use listing::Answer;
+use listing::ListingError;
 use single_action::Rule;
 
-// The first record that is not written, or the place past all of them.
+// A record put: the offset past its texts, and the place past its spelling.
 #[derive(Clone, Copy)]
-pub enum Rows {
-    Fails(usize),
-    Put(usize),
-}
-
-// A record that is not written, or the offset past its texts and the place past its spelling.
-#[derive(Clone, Copy)]
-pub enum Row {
-    Fails,
-    Put { past: usize, next: usize },
+pub struct Row {
+    pub past: usize,
+    pub next: usize,
 }
 
 // Whether a record's spelling reads back to it: with others behind it nothing may be left open.
@@ -48,16 +41,8 @@ fn is_kept(rule: Rule, e: Entry, text: &[u8], mark: u8, last: bool) -> bool
         &text[second..third],
         &text[third..past],
     ) {
-        Passed::Lost => false,
-        Passed::Open { mark: open, depth } => {
-            if last {
-                return true;
-            }
-            if open != mark {
-                return false;
-            }
-            depth == 0
-        }
+        None => false,
+        Some(open) => last || (open.mark == mark && open.depth == 0),
     }
 }
 
@@ -72,7 +57,7 @@ fn put_comma(out: &mut [u8], at: usize, count: usize) -> usize
     put_byte(out, at, b',')
 }
 
-// The record at a place, with so many before it: put where it is written and ends within the limit.
+// The record at a place, with so many before it: put where it is written and ends within the limit, else none.
 fn put_record(
     words: &[u64],
     at: usize,
@@ -82,64 +67,57 @@ fn put_record(
     count: usize,
     out: &mut [u8],
     to: usize,
-) -> Row
+) -> Option<Row>
     requires action_words_in_bounds { at + action_words ≤ length words.now }
     requires offset_in_bounds { (offset ≤ length text.now) × (offset ≤ end_most) }
     requires to_le_limit { to ≤ limit }
     ensures { RowIs (length text.now) offset (record_in text.now offset (drop at words.now)) last count to out.old out.new result }
 {
-    match read_entry(words, at, offset, text) {
-        Reading::Stray => Row::Fails,
-        Reading::Stands(e) => {
-            let rule = rule_for(e.code);
-            let first = e.first;
-            let past = e.past;
-            let mark = mark_for(rule, &text[first..past]);
-            if !is_kept(rule, e, text, mark, last) {
-                return Row::Fails;
-            }
-            let next = put_comma(out, to, count);
-            let end = put_entry(out, next, rule, e, text, mark);
-            if lent::LIMIT < end {
-                return Row::Fails;
-            }
-            Row::Put { past, next: end }
-        }
+    let e = read_entry(words, at, offset, text)?;
+    let rule = rule_for(e.code);
+    let first = e.first;
+    let past = e.past;
+    let mark = mark_for(rule, &text[first..past]);
+    if !is_kept(rule, e, text, mark, last) {
+        return None;
     }
+    let next = put_comma(out, to, count);
+    let end = put_entry(out, next, rule, e, text, mark);
+    if lent::LIMIT < end {
+        return None;
+    }
+    Some(Row { past, next: end })
 }
 
-// The records one after another, up to one that is not written.
-fn put_records(words: &[u64], text: &[u8], out: &mut [u8]) -> Rows
+// The records one after another, and the place past them; or the first that is not written.
+fn put_records(words: &[u64], text: &[u8], out: &mut [u8]) -> Result<usize, usize>
     ensures { PutEach words.now text.now out.old out.new result }
 {
     let most = lent::room(words.len(), lent::ACTION_WORDS);
     let mut offset = first_offset(words, text.len());
     let mut to = 0;
-    let mut count = 0;
-    let mut at = 0;
-    while count < most {
+    for count in 0..most {
+        let at = count * lent::ACTION_WORDS;
         match put_record(words, at, offset, text, most <= count + 1, count, out, to) {
-            Row::Fails => return Rows::Fails(count),
-            Row::Put { past, next } => {
-                offset = past;
-                to = next;
+            None => return Err(count),
+            Some(row) => {
+                offset = row.past;
+                to = row.next;
             }
         }
-        count += 1;
-        at += lent::ACTION_WORDS;
     }
-    Rows::Put(to)
+    Ok(to)
 }
 
 // The spelling of the list that records stand for, where it reads back to it; a refusal leaves the buffer all zero.
-pub fn write_actions(words: &[u64], text: &[u8], out: &mut [u8]) -> Answer
+pub fn write_actions(words: &[u64], text: &[u8], out: &mut [u8]) -> Result<usize, ListingError>
     ensures { WriteActions words.now text.now out.old out.new result }
 {
     match put_records(words, text, out) {
-        Rows::Fails(record) => {
-            lent::clear_bytes(out);
-            Answer::NoToken(record)
+        Err(record) => {
+            out.fill(0);
+            Err(ListingError::NoToken(record))
         }
-        Rows::Put(end) => listing::finish(out, end),
+        Ok(end) => listing::finish(out, end),
     }
 }

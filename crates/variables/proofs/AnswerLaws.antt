@@ -1,4 +1,7 @@
 -- From a list read at 0 and 0 to what the parsers promise: one law for each way out.
+use Rattle.lent.specs.declared.gating.GateError.TheVariants.{TooLong, Short, NotAscii}
+use Rattle.lent.specs.declared.gating.GateError.{GateError}
+use Rattle.std.specs.Prelude.{Result, Ok, Err}
 use mathlib.Core.Path.{◌≡◌, ◌∙◌, refl, sym, ap, ap₂, subst}
 use mathlib.Core.Bool.{Bool, true, false}
 use mathlib.Core.List.{List, [], ◌∷◌}
@@ -15,7 +18,6 @@ use Rattle.lent.specs.Gates.{gate_of}
 use Rattle.lent.specs.Endings.{starts, Finished}
 use Rattle.lent.specs.Layout.{texts_of, records_of, words_of}
 use Rattle.lent.specs.Table.{Given, given, refused as refused_by, no_room, unknown_variable, refuses, reads, given_by}
-use Rattle.lent.specs.declared.gating.Gate.{Gate}
 use Rattle.lent.proofs.BufferLaws.{stored_length, taken_first, each_length, each_fits, joined_append}
 use Rattle.lent.specs.Admission.{Opened}
 use Rattle.lent.proofs.GateLaws.{open_is}
@@ -28,8 +30,12 @@ use Rattle.variables.specs.Layout.{variable_whole, exclusion_whole, variable_tex
 use Rattle.variables.specs.Promises.{answer_given, laid_out, roomed, updated, hung, variables_outcome, update_outcome, Meets}
 use Rattle.variables.specs.Steps.{excluding_of, hanging, targets_of, read_outcome, outcome_of}
 use Rattle.variables.specs.Cores.{records_from, reached_by, reached_text, reached_records, ReadTargets}
-use Rattle.variables.specs.declared.Answer.{Answer}
+use Rattle.variables.specs.declared.Read.{Read}
+use Rattle.variables.specs.declared.VariablesError.{VariablesError}
 use Rattle.variables.specs.declared.Reached.{Reached}
+use Rattle.variables.specs.declared.TargetsError.{TargetsError}
+use Rattle.variables.specs.declared.TargetsError.TheVariants.{Unknown as NoVariable, Unfit}
+use Rattle.variables.specs.declared.VariablesError.TheVariants.{Gate, Unknown}
 use Rattle.variables.specs.declared.singles.Exclusions.{Exclusions}
 use Rattle.variables.specs.declared.singles.Exclusions.TheVariants.{AsWritten, LookedUp}
 use Rattle.variables.proofs.FitLaws.{Within, targets_within}
@@ -66,17 +72,17 @@ given_is m vs es full e = rw (← e) (go full)
     go false = refl
 
 -- what an answer of the core tells
-seen : Reached → Given
-seen (Reached.Read count used) = given 0 (count ∷ used ∷ [])
-seen (Reached.Unknown piece name first past) = given 7 (piece ∷ name ∷ part_word (placed first past) ∷ [])
-seen Reached.Unfit = given 3 (0 ∷ [])
+seen : Result Reached TargetsError → Given
+seen (Ok q) = given 0 (q.count ∷ q.offset ∷ [])
+seen (Err (NoVariable piece name first past)) = given 7 (piece ∷ name ∷ part_word (placed first past) ∷ [])
+seen (Err Unfit) = given 3 (0 ∷ [])
 
-places_seen : Reached → List ℕ
-places_seen (Reached.Read count used) = []
-places_seen (Reached.Unknown piece name first past) = first ∷ past ∷ []
-places_seen Reached.Unfit = []
+places_seen : Result Reached TargetsError → List ℕ
+places_seen (Ok q) = []
+places_seen (Err (NoVariable piece name first past)) = first ∷ past ∷ []
+places_seen (Err Unfit) = []
 
-module _ (n : Exclusions) (s text records : List ℕ) {text₁ records₁ : List ℕ} {r : Reached} (x : ReadTargets n s 0 0 text text₁ records records₁ r)
+module _ (n : Exclusions) (s text records : List ℕ) {text₁ records₁ : List ℕ} {r : Result Reached TargetsError} (x : ReadTargets n s 0 0 text text₁ records records₁ r)
     (o : Opened s (length text) (length s)) where
   begins : starts (length s) (length text) 0 0 ≡ true
   begins = (starts_is (length s) (length text) 0 0).1 (record { within = o.within; offset_low = omega arith; count_low = omega arith; room = omega (arith, o.room) })
@@ -90,35 +96,35 @@ module _ (n : Exclusions) (s text records : List ℕ) {text₁ records₁ : List
   words_told : records₁ ≡ reached_records 0 0 records (targets_of n s)
   words_told = x.words ∙ rw begins
 
-  pub never_unfit : r ≡ Reached.Unfit → ⊥
+  pub never_unfit : r ≡ Err Unfit → ⊥
   unfolding seen
   never_unfit e = go (targets_of n s) told
     where
       go : (ts : Targets) → r ≡ reached_by 0 ts → ⊥
-      go (targets vs es) f = let z = ap (λ (q : Reached). (seen q).number) (sym e ∙ f) in omega (arith, z)
-      go (refused i name y) f = let z = ap (λ (q : Reached). (seen q).number) (sym e ∙ f) in omega (arith, z)
+      go (targets vs es) f = let z = ap (λ (q : Result Reached TargetsError). (seen q).number) (sym e ∙ f) in omega (arith, z)
+      go (refused i name y) f = let z = ap (λ (q : Result Reached TargetsError). (seen q).number) (sym e ∙ f) in omega (arith, z)
 
   -- the places of a refused piece are in order, and within the list
-  pub refused_narrow : (piece name first past : ℕ) → r ≡ Reached.Unknown piece name first past → (first ≤ past) × (past ≤ limit)
+  pub refused_narrow : (piece name first past : ℕ) → r ≡ Err (NoVariable piece name first past) → (first ≤ past) × (past ≤ limit)
   unfolding places_seen
   refused_narrow piece name first past e = go (targets_of n s) told (targets_inside n s)
     where
       go : (ts : Targets) → r ≡ reached_by 0 ts → EachIn (Inside (length s)) ts → (first ≤ past) × (past ≤ limit)
-      go (targets vs es) f h = let z = ap (λ (q : Reached). length (places_seen q)) (sym e ∙ f) in absurd (omega (arith, z))
+      go (targets vs es) f h = let z = ap (λ (q : Result Reached TargetsError). length (places_seen q)) (sym e ∙ f) in absurd (omega (arith, z))
       go (refused i w y) f h =
           let z : first ∷ past ∷ [] ≡ y.first ∷ y.past ∷ [] = ap places_seen (sym e ∙ f) in
           let a : first ≡ y.first = ap (λ (l : List ℕ). get_or l 0 0) z in
           let b : past ≡ y.past = ap (λ (l : List ℕ). get_or l 1 0) z in
           (omega (arith, a, b, h.some), omega (arith, b, h.within, o.within))
 
-  pub parsed_unknown : (piece name first past span : ℕ) → r ≡ Reached.Unknown piece name first past → span ≡ span_word first (past - first)
-      → Meets (read_outcome n s (length records)) text text₁ records records₁ (Answer.Unknown piece name span)
+  pub parsed_unknown : (piece name first past span : ℕ) → r ≡ Err (NoVariable piece name first past) → span ≡ span_word first (past - first)
+      → Meets (read_outcome n s (length records)) text text₁ records records₁ (Err (Unknown piece name span))
   unfolding seen read_outcome
   parsed_unknown piece name first past span e k = go (targets_of n s) refl told text_told words_told
     where
       go : (ts : Targets) → targets_of n s ≡ ts → r ≡ reached_by 0 ts → text₁ ≡ reached_text 0 text ts → records₁ ≡ reached_records 0 0 records ts
-          → Meets (updated (length records) (targets_of n s)) text text₁ records records₁ (Answer.Unknown piece name span)
-      go (targets vs es) q f a b = let z = ap (λ (q : Reached). (seen q).number) (sym e ∙ f) in absurd (omega (arith, z))
+          → Meets (updated (length records) (targets_of n s)) text text₁ records records₁ (Err (Unknown piece name span))
+      go (targets vs es) q f a b = let z = ap (λ (q : Result Reached TargetsError). (seen q).number) (sym e ∙ f) in absurd (omega (arith, z))
       go (refused i w y) q f a b = rw q (record { answer = ap (λ (j : ℕ). given 7 (piece ∷ name ∷ j ∷ [])) k ∙ ap seen (sym e ∙ f); texts = a; words = b })
 
   -- the records are at the front, where they fit
@@ -131,8 +137,8 @@ module _ (n : Exclusions) (s text records : List ℕ) {text₁ records₁ : List
       rw (w, ← l) (taken_first records (words_from 0 vs es) (omega (arith, l, k)))
 
   -- the last step
-  pub parsed_read : (count used : ℕ) → r ≡ Reached.Read count used → {text' records' : List ℕ} {full : Bool}
-      → Finished used count variable_words text₁ text' records₁ records' full → (v : Answer)
+  pub parsed_read : (count used : ℕ) → r ≡ Ok (record { count = count; offset = used }) → {text' records' : List ℕ} {full : Bool}
+      → Finished used count variable_words text₁ text' records₁ records' full → (v : Result Read VariablesError)
       → answer_given v ≡ pick full (refused_by (no_room count)) (given 0 (count ∷ used ∷ []))
       → Meets (read_outcome n s (length records)) text text' records records' v
   unfolding seen read_outcome
@@ -140,9 +146,9 @@ module _ (n : Exclusions) (s text records : List ℕ) {text₁ records₁ : List
     where
       go : (ts : Targets) → targets_of n s ≡ ts → r ≡ reached_by 0 ts → text₁ ≡ reached_text 0 text ts → records₁ ≡ reached_records 0 0 records ts → Within (length s) (length s) ts
           → Meets (updated (length records) (targets_of n s)) text text' records records' v
-      go (refused i w y) q f a b h = let z = ap (λ (q : Reached). (seen q).number) (sym e ∙ f) in absurd (omega (arith, z))
+      go (refused i w y) q f a b h = let z = ap (λ (q : Result Reached TargetsError). (seen q).number) (sym e ∙ f) in absurd (omega (arith, z))
       go (targets vs es) q f a b h =
-          let z : count ∷ used ∷ [] ≡ (length vs + length es) ∷ (0 + length (texts vs es)) ∷ [] = ap (λ (q : Reached). (seen q).values) (sym e ∙ f) in
+          let z : count ∷ used ∷ [] ≡ (length vs + length es) ∷ (0 + length (texts vs es)) ∷ [] = ap (λ (q : Result Reached TargetsError). (seen q).values) (sym e ∙ f) in
           let c : count ≡ length vs + length es = ap (λ (l : List ℕ). get_or l 0 0) z in
           let u : used ≡ length (texts vs es) = ap (λ (l : List ℕ). get_or l 1 0) z ∙ zero-add _ in
           let w = subst (λ (k : ℕ). Finished used k variable_words text₁ text' records₁ records' full) c y in
@@ -158,23 +164,17 @@ module _ (n : Exclusions) (s text records : List ℕ) {text₁ records₁ : List
 
 -- ---- the gate
 
-module _ (n : Exclusions) (s text records : List ℕ) (g : Gate) (e : g ≡ gate_of s (length text) (length s)) where
-  pub gate_too_long : g ≡ Gate.TooLong → Meets (outcome_of n s (length text) (length records)) text text records records Answer.TooLong
+module _ (n : Exclusions) (s text records : List ℕ) (g : Result Unit GateError) (e : g ≡ gate_of s (length text) (length s)) where
+  pub gate_refused : (h : GateError) → g ≡ Err h → Meets (outcome_of n s (length text) (length records)) text text records records (Err (Gate h))
   unfolding outcome_of
-  gate_too_long f = let z = sym e ∙ f in record { answer = rw z; texts = rw z; words = rw z }
+  gate_refused TooLong f = let z = sym e ∙ f in record { answer = rw z; texts = rw z; words = rw z }
+  gate_refused (NotAscii p) f = let z = sym e ∙ f in record { answer = rw z; texts = rw z; words = rw z }
+  gate_refused Short f = let z = sym e ∙ f in record { answer = rw z; texts = rw z; words = rw z }
 
-  pub gate_not_ascii : (p : ℕ) → g ≡ Gate.NotAscii p → Meets (outcome_of n s (length text) (length records)) text text records records (Answer.NotAscii p)
-  unfolding outcome_of
-  gate_not_ascii p f = let z = sym e ∙ f in record { answer = rw z; texts = rw z; words = rw z }
-
-  pub gate_short : g ≡ Gate.Short → Meets (outcome_of n s (length text) (length records)) text text records records Answer.Short
-  unfolding outcome_of
-  gate_short f = let z = sym e ∙ f in record { answer = rw z; texts = rw z; words = rw z }
-
-  pub gate_opened : g ≡ Gate.Open → Opened s (length text) (length s)
+  pub gate_opened : g ≡ (Ok tt) → Opened s (length text) (length s)
   gate_opened f = (open_is s (length text) (length s)).0 (sym e ∙ f)
 
-  pub gate_open : g ≡ Gate.Open → {text' records' : List ℕ} {r : Answer} → Meets (read_outcome n s (length records)) text text' records records' r
+  pub gate_open : g ≡ (Ok tt) → {text' records' : List ℕ} {r : Result Read VariablesError} → Meets (read_outcome n s (length records)) text text' records records' r
       → Meets (outcome_of n s (length text) (length records)) text text' records records' r
   unfolding outcome_of
   gate_open f x = rw (sym e ∙ f) x

@@ -1,5 +1,6 @@
 -- How many records a list can need: a variable takes two bytes at least, an exclusion one, or two where it is looked up, and a bar stands between two pieces.
 -- So n bytes of variables need at most n / 2 records (`TX|!|!`), and n bytes of update targets (n + 1) / 3 (`TX|TX|TX`).
+use Rattle.std.specs.Prelude.{Option, Some, None, Result}
 use mathlib.Core.Path.{◌≡◌, ◌∙◌, refl, ap, subst}
 use mathlib.Core.Bool.{Bool, true, false}
 use mathlib.Core.List.{List, [], ◌∷◌}
@@ -21,8 +22,6 @@ use Rattle.lent.specs.Buffers.{joined}
 use Rattle.lent.proofs.SpanLaws.{room_is}
 use Rattle.names.specs.Tables.{name_at}
 use Rattle.names.specs.Variables.{variables, variable_code}
-use Rattle.names.specs.declared.Lookup.{Lookup}
-use Rattle.names.specs.declared.Lookup.TheVariants.{Code, Unknown}
 use Rattle.names.proofs.Tests.{every, at}
 use Rattle.names.proofs.TableLaws.{find_none}
 use Rattle.variables.specs.Parts.{cut, Piece, piece_texts, place_of, kept, filled_from, pieces_from, pieces}
@@ -30,7 +29,8 @@ use Rattle.variables.specs.Variables.{at_colon, front_of, Selection, none, selec
 use Rattle.variables.specs.Steps.{excluding_of, excluded_of, kept_count, kept_of, hanging, targets_of}
 use Rattle.variables.specs.Promises.{answer_given, ParseVariables, ParseUpdateTargets}
 use Rattle.variables.specs.Calls.{AllMeant, needed}
-use Rattle.variables.specs.declared.Answer.{Answer}
+use Rattle.variables.specs.declared.Read.{Read}
+use Rattle.variables.specs.declared.VariablesError.{VariablesError}
 use Rattle.variables.specs.declared.singles.Exclusions.{Exclusions}
 use Rattle.variables.specs.declared.singles.Exclusions.TheVariants.{AsWritten, LookedUp}
 use Rattle.variables.proofs.PartLaws.{spread, cut_spread}
@@ -63,7 +63,7 @@ all_long : every (λ k. leb 2 (length (name_at variables k))) (length variables)
 unfolding every variables bytes
 all_long = refl
 
-no_variable_lem : (name : List ℕ) → length name ≤ 1 → variable_code name ≡ Unknown
+no_variable_lem : (name : List ℕ) → length name ≤ 1 → variable_code name ≡ None
 unfolding variable_code
 no_variable_lem name h = find_none variables (uppered name) other
   where
@@ -125,10 +125,10 @@ written_few : (k : ℕ) (x : Part) (e : List ℕ) (ts : Targets) → Few AsWritt
 written_few k x e (targets vs es) h = omega arith
 written_few k x e (refused i name z) h = tt
 
-known_few : (k : ℕ) (x : Part) (l : Lookup) (name e : List ℕ) (ts : Targets) → 1 ≤ length e → Few LookedUp k ts → Few LookedUp (suc (length e) + suc k) (if_known x l name (with_exclusion x e ts))
-known_few k x (Code c) name e (targets vs es) l h = omega arith
-known_few k x (Code c) name e (refused i m z) l h = tt
-known_few k x Unknown name e ts l h = tt
+known_few : (k : ℕ) (x : Part) (l : Option ℕ) (name e : List ℕ) (ts : Targets) → 1 ≤ length e → Few LookedUp k ts → Few LookedUp (suc (length e) + suc k) (if_known x l name (with_exclusion x e ts))
+known_few k x (Some c) name e (targets vs es) l h = omega arith
+known_few k x (Some c) name e (refused i m z) l h = tt
+known_few k x None name e ts l h = tt
 
 excluding_few : (n : Exclusions) (k : ℕ) (x : Part) (e : List ℕ) (ts : Targets) → Few n k ts → Few n (suc (length e) + suc k) (excluding_of n x e ts)
 unfolding split
@@ -194,13 +194,13 @@ crowded_never n s m most b h a f =
     let c : needed n s ≤ room_for variable_words m = (room_is variable_words m (needed n s) (omega arith)).1 (omega (arith, l, needed_is n s 0 a)) in
     omega (arith, c)
 
-pub variables_fit : (s : List ℕ) {text text' records records' : List ℕ} {r : Answer} → ParseVariables s text text' records records' r
+pub variables_fit : (s : List ℕ) {text text' records records' : List ℕ} {r : Result Read VariablesError} → ParseVariables s text text' records records' r
     → length s / 2 * variable_words ≤ length records → (answer_given r).number ≡ 4 → ⊥
 variables_fit s {records = records} x h e =
     let f = (parse_variables_numbers s x).number_4.0 e in
     crowded_never AsWritten s (length records) (length s / 2) (λ vs es q. omega (arith, variables_most s vs es q)) h f.1.0 f.1.1
 
-pub update_targets_fit : (s : List ℕ) {text text' records records' : List ℕ} {r : Answer} → ParseUpdateTargets s text text' records records' r
+pub update_targets_fit : (s : List ℕ) {text text' records records' : List ℕ} {r : Result Read VariablesError} → ParseUpdateTargets s text text' records records' r
     → (length s + 1) / 3 * variable_words ≤ length records → (answer_given r).number ≡ 4 → ⊥
 update_targets_fit s {records = records} x h e =
     let f = (parse_update_targets_numbers s x).number_4.0 e in

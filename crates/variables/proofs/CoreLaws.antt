@@ -3,7 +3,7 @@ use mathlib.Core.Path.{◌≡◌, ◌∙◌, refl, sym, ap, ap₂, subst}
 use mathlib.Core.Bool.{Bool, true, false}
 use mathlib.Core.Logic.{inl, inr}
 use mathlib.Core.List.{List, [], ◌∷◌, ◌++◌}
-use Prim.Native.Nat.{ℕ, ◌+◌, ◌-◌, ◌*◌, ◌≤◌}
+use Prim.Native.Nat.{ℕ, ◌+◌, ◌*◌, ◌≤◌}
 use native.Mathlib.Omega.{arith}
 use lib.ListN.{length, length-append}
 use lib.Dec.{eqb}
@@ -23,7 +23,10 @@ use Rattle.variables.specs.Variables.{Variable, targets, refused, read_all}
 use Rattle.variables.specs.Layout.{variable_whole, exclusion_whole, variable_text, exclusion_text, selection_texts, texts}
 use Rattle.variables.specs.Steps.{part, excluding_of, excluded_of, AllRead, Stopped, Added, AllOrNone, kept_count, kept_of, hanging, targets_of}
 use Rattle.variables.specs.Cores.{records_from, ReadTargets}
-use Rattle.variables.specs.declared.Reached.TheVariants as Reached
+use Rattle.variables.specs.declared.TargetsError.TheVariants.{Unknown, Unfit}
+use Rattle.variables.specs.declared.Reached.{Reached}
+use Rattle.variables.specs.declared.TargetsError.{TargetsError}
+use Rattle.std.specs.Prelude.{Result, Ok, Err}
 use Rattle.variables.specs.declared.singles.Exclusions.{Exclusions}
 use Rattle.variables.specs.declared.singles.Exclusions.TheVariants.{AsWritten, LookedUp}
 use Rattle.variables.proofs.PlaceLaws.{part_length}
@@ -95,12 +98,15 @@ targets_read n s vs e = ap (hanging n) e ∙ hanging_kept n vs (excluded_of (pie
 
 -- ---- the ways out
 
+abbrev reached : ℕ → ℕ → Result Reached TargetsError
+reached count offset = Ok (record { count = count; offset = offset })
+
 pub used_fits : {n : Exclusions} {s : List ℕ} {offset place : ℕ} {text text₁ records records₁ : List ℕ} {variables excluded used : ℕ}
     → AllRead n s offset place text text₁ records records₁ variables excluded used → used ≤ offset + length s
 used_fits {n} {s} x = omega (arith, x.wrote.used_is, x.fits, length-append (selection_texts x.vs) (texts_of exclusion_text (excluded_of (pieces s))))
 
 module _ (n : Exclusions) (s : List ℕ) (offset place : ℕ) (text records : List ℕ) where
-  pub core_unfit : starts (length s) (length text) offset place ≡ false → ReadTargets n s offset place text text records records Reached.Unfit
+  pub core_unfit : starts (length s) (length text) offset place ≡ false → ReadTargets n s offset place text text records records (Err Unfit)
   core_unfit h = record { answer = rw h; texts = rw h; words = rw h }
 
   module _ (h : starts (length s) (length text) offset place ≡ true) where
@@ -111,12 +117,12 @@ module _ (n : Exclusions) (s : List ℕ) (offset place : ℕ) (text records : Li
     pub core_unknown : {piece begin end first past : ℕ} → Stopped n s piece begin end first past → (text₁ records₁ : List ℕ) {text₂ records₂ : List ℕ}
         → length text₁ ≡ length text → length records₁ ≡ length records
         → text₂ ≡ stored (zeros (length text₁)) 0 (part s begin end) → records₂ ≡ zeros (length records₁)
-        → ReadTargets n s offset place text text₂ records records₂ (Reached.Unknown piece (end - begin) first past)
+        → ReadTargets n s offset place text text₂ records records₂ (Err (Unknown piece (length (part s begin end)) first past))
     core_unknown {piece} {begin} {end} {first} {past} x text₁ records₁ l m d b =
         let e = targets_refused n s piece (part s begin end) (placed first past) x.read in
         let k = part_length s begin end x.inside in
         record {
-          answer = rw (h, e, k);
+          answer = rw (h, e);
           texts = rw (h, e) (refused_text_lem text (part s begin end) (d ∙ ap (λ (i : ℕ). stored (zeros i) 0 (part s begin end)) l) (omega (arith, k, x.inside, room)));
           words = rw (h, e) (b ∙ ap zeros m);
         }
@@ -165,9 +171,9 @@ module _ (n : Exclusions) (s : List ℕ) (offset place : ℕ) (text records : Li
             ∙ sym (each_append records (place * variable_words) (records_of variable_whole variable_text offset x.vs) (records_of exclusion_whole exclusion_text used es))
             ∙ ap (λ (o : ℕ). stored_each records (place * variable_words) (records_of variable_whole variable_text offset x.vs ++ records_of exclusion_whole exclusion_text o es)) x.wrote.used_is
 
-        pub core_read : ReadTargets n s offset place text text₂ records records₂ (Reached.Read (variables + kept) past)
+        pub core_read : ReadTargets n s offset place text text₂ records records₂ (Ok (record { count = variables + kept; offset = past }))
         core_read = record {
-          answer = rw (h, targets_are) (ap₂ Reached.Read count_is past_is);
+          answer = rw (h, targets_are) (ap₂ reached count_is past_is);
           texts = rw (h, targets_are) text_is;
           words = rw (h, targets_are) words_are;
         }

@@ -1,5 +1,6 @@
 -- A list's texts and records are within its own length, by its definition: what is read from a place on never goes further than the list is long.
 -- The idea: a piece's text is a part of it, and every piece has a byte.
+use Rattle.std.specs.Prelude.{Option, Some, None}
 use mathlib.Core.Path.{◌≡◌, refl, sym, subst}
 use mathlib.Core.Bool.{Bool, true, false}
 use mathlib.Core.List.{List, [], ◌∷◌}
@@ -17,8 +18,6 @@ use Rattle.lent.specs.Sources.{Part}
 use Rattle.lent.specs.Buffers.{joined}
 use Rattle.lent.specs.Layout.{texts_of}
 use Rattle.names.specs.Variables.{variable_code}
-use Rattle.names.specs.declared.Lookup.{Lookup}
-use Rattle.names.specs.declared.Lookup.TheVariants.{Code, Unknown}
 use Rattle.variables.specs.Parts.{onto, cut, Piece, piece_texts, place_of, kept, filled_from, pieces_from, pieces}
 use Rattle.variables.specs.Variables.{at_colon, front_of, Selection, none, key, regex, is_regex, selection, Single, variable, unknown, named, split_single, single, Targets, targets, refused, with_variable, with_exclusion, if_known, piece, read_all}
 use Rattle.variables.specs.Layout.{selection_text, exclusion_text, selection_texts}
@@ -91,9 +90,9 @@ selection_small t = go (is_regex t)
     go true = omega (arith, length-take (length t - 2) (drop 1 t), length-drop 1 t)
     go false = omega arith
 
-named_small : (k : ℕ) (l : Lookup) (name : List ℕ) (counts : Bool) (chosen : Selection) → length (selection_text chosen) ≤ k → Small k (named l name counts chosen)
-named_small k (Code c) name counts chosen h = h
-named_small k Unknown name counts chosen h = tt
+named_small : (k : ℕ) (l : Option ℕ) (name : List ℕ) (counts : Bool) (chosen : Selection) → length (selection_text chosen) ≤ k → Small k (named l name counts chosen)
+named_small k (Some c) name counts chosen h = h
+named_small k None name counts chosen h = tt
 
 split_small : (k : ℕ) (x : Split) (counts : Bool) → spread x ≤ k → Small k (split_single x counts)
 split_small k (whole name) counts h = named_small k (variable_code name) name counts none (omega arith)
@@ -127,9 +126,9 @@ unfolding texts_of
 exclusion_within k m x e (targets vs es) w = (omega (arith, length-append e (texts_of exclusion_text es)), omega arith)
 exclusion_within k m x e (refused i n z) w = tt
 
-known_within : (k m : ℕ) (x : Part) (l : Lookup) (n : List ℕ) (ts : Targets) → Within k m ts → Within k m (if_known x l n ts)
-known_within k m x (Code c) n ts w = w
-known_within k m x Unknown n ts w = tt
+known_within : (k m : ℕ) (x : Part) (l : Option ℕ) (n : List ℕ) (ts : Targets) → Within k m ts → Within k m (if_known x l n ts)
+known_within k m x (Some c) n ts w = w
+known_within k m x None n ts w = tt
 
 excluding_within : (n : Exclusions) (k m : ℕ) (x : Part) (e : List ℕ) (ts : Targets) → Within k m ts → Within (suc (length e) + k) (suc m) (excluding_of n x e ts)
 excluding_within AsWritten k m x e ts w = exclusion_within k m x e ts w

@@ -1,4 +1,5 @@
 -- Either every name of a list is meant, and the list is read; or one is missing, and it is refused there.
+use Rattle.std.specs.Prelude.{Option, Some, None}
 use mathlib.Core.Path.{◌≡◌, ◌∙◌, refl, sym, ap}
 use mathlib.Core.Bool.{Bool, true, false}
 use mathlib.Core.List.{List, [], ◌∷◌, ◌++◌}
@@ -10,7 +11,6 @@ use lib.Dec.{eqb}
 use Rattle.ascii.specs.Splits.{Split, whole, halves}
 use Rattle.lent.specs.Sources.{Part, Sourced, sourced}
 use Rattle.names.specs.Variables.{variable_code}
-use Rattle.names.specs.declared.Lookup.{Lookup}
 use Rattle.variables.specs.Parts.{Piece}
 use Rattle.variables.specs.Variables.{at_colon, front_of, Selection, none, selection, Variable, Single, variable, named, split_single, single, Targets, targets, refused, with_variable, with_exclusion, if_known, piece, read_all}
 use Rattle.variables.specs.Steps.{excluding_of, behind_mark, excluded_of}
@@ -46,7 +46,7 @@ Refuses n p x = (z : Part) (ts : Targets) → piece (excluding_of n) z p ts ≡ 
 -- by what is asked and found
 data Judged (n : Exclusions) (p : List ℕ) : Type 0 where
   fine : Meant n p → Reads n p → Judged n p
-  bad : (x : List ℕ) → asked n p ≡ name x → variable_code x ≡ Lookup.Unknown → Refuses n p x → Judged n p
+  bad : (x : List ℕ) → asked n p ≡ name x → variable_code x ≡ None → Refuses n p x → Judged n p
 
 module _ (n : Exclusions) where
   -- a variable, by its name up to the colon
@@ -55,12 +55,12 @@ module _ (n : Exclusions) where
       → ((z : Part) (es : List (Sourced (List ℕ))) → behind_mark z p es ≡ es) → ((q : Piece) (ps : List Piece) → length (unmarked p q ps) ≡ suc (length ps)) → Judged n p
   by_name p x counts a h m u = go (variable_code (front_of x)) refl
     where
-      go : (l : Lookup) → variable_code (front_of x) ≡ l → Judged n p
-      go (Lookup.Code c) e =
-          let y = split_by x counts ∙ ap (λ (l : Lookup). named l (front_of x) counts (chosen_by x)) e in
+      go : (l : Option ℕ) → variable_code (front_of x) ≡ l → Judged n p
+      go (Some c) e =
+          let y = split_by x counts ∙ ap (λ (l : Option ℕ). named l (front_of x) counts (chosen_by x)) e in
           fine (found (front_of x) c a e) (adds (record { code = c; counts = counts; chosen = chosen_by x }) (λ z ts. h z ts ∙ ap (λ (y : Single). with_variable z y ts) y) m u)
-      go Lookup.Unknown e =
-          let y = split_by x counts ∙ ap (λ (l : Lookup). named l (front_of x) counts (chosen_by x)) e in
+      go None e =
+          let y = split_by x counts ∙ ap (λ (l : Option ℕ). named l (front_of x) counts (chosen_by x)) e in
           bad (front_of x) a e (λ z ts. h z ts ∙ unknown_first z (split_single x counts) (front_of x) y ts)
 
 -- an exclusion, by whether its name is looked up
@@ -68,12 +68,12 @@ behind : (n : Exclusions) (b : ℕ) (r : List ℕ) → eqb b 33 ≡ true → Jud
 behind AsWritten b r e = fine (unasked (rw e)) (excludes r (λ z ts. rw e) (λ z es. rw e) (λ q ps. rw e))
 behind LookedUp b r e = go (variable_code (front_of (at_colon r))) refl
   where
-    go : (l : Lookup) → variable_code (front_of (at_colon r)) ≡ l → Judged LookedUp (b ∷ r)
-    go (Lookup.Code c) f =
+    go : (l : Option ℕ) → variable_code (front_of (at_colon r)) ≡ l → Judged LookedUp (b ∷ r)
+    go (Some c) f =
         fine (found (front_of (at_colon r)) c (rw e) f)
-        (excludes r (λ z ts. rw e (ap (λ (l : Lookup). if_known z l (front_of (at_colon r)) (with_exclusion z r ts)) f)) (λ z es. rw e) (λ q ps. rw e))
-    go Lookup.Unknown f =
-        bad (front_of (at_colon r)) (rw e) f (λ z ts. rw e (ap (λ (l : Lookup). if_known z l (front_of (at_colon r)) (with_exclusion z r ts)) f))
+        (excludes r (λ z ts. rw e (ap (λ (l : Option ℕ). if_known z l (front_of (at_colon r)) (with_exclusion z r ts)) f)) (λ z es. rw e) (λ q ps. rw e))
+    go None f =
+        bad (front_of (at_colon r)) (rw e) f (λ z ts. rw e (ap (λ (l : Option ℕ). if_known z l (front_of (at_colon r)) (with_exclusion z r ts)) f))
 
 judged : (n : Exclusions) (p : List ℕ) → Judged n p
 unfolding single
@@ -95,11 +95,11 @@ pub record Understood (n : Exclusions) (ps : List Piece) : Type 0 where
 
 module _ (n : Exclusions) where
   -- a name is not both a variable's and none
-  never : {p : List ℕ} {x : List ℕ} → Meant n p → asked n p ≡ name x → variable_code x ≡ Lookup.Unknown → ⊥
+  never : {p : List ℕ} {x : List ℕ} → Meant n p → asked n p ≡ name x → variable_code x ≡ None → ⊥
   never (unasked e) a u = let z : ◌≡◌ {A = ℕ} 0 1 = cc in omega arith
   never {p} {x} (found y c e f) a u =
       let k : y ≡ x = cc in
-      let l : Lookup.Code c ≡ Lookup.Unknown = sym f ∙ ap variable_code k ∙ u in
+      let l : Some c ≡ None = sym f ∙ ap variable_code k ∙ u in
       let z : ◌≡◌ {A = ℕ} 0 1 = cc in
       omega arith
 
@@ -110,7 +110,7 @@ module _ (n : Exclusions) where
       go (fine m r) = r
       go (bad x a u h) = absurd (never m a u)
 
-  refuses_of : (p x : List ℕ) → asked n p ≡ name x → variable_code x ≡ Lookup.Unknown → Refuses n p x
+  refuses_of : (p x : List ℕ) → asked n p ≡ name x → variable_code x ≡ None → Refuses n p x
   refuses_of p x a u = go (judged n p)
     where
       go : Judged n p → Refuses n p x

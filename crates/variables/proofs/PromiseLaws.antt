@@ -1,5 +1,8 @@
 -- What the two parsers promise, in plain words: every number exactly when it is given, and what is given and left with it.
 -- The idea: lent's RowLaws has numbers 1 to 3 and one law for all; the names and the room tell 7, 4 and 0 apart.
+use Rattle.lent.specs.declared.gating.GateError.TheVariants.{TooLong, Short, NotAscii}
+use Rattle.lent.specs.declared.gating.GateError.{GateError}
+use Rattle.std.specs.Prelude.{Result, Ok, Err}
 use mathlib.Core.Path.{◌≡◌, ◌∙◌, refl, sym, ap, ap₂}
 use mathlib.Core.Bool.{Bool, true, false}
 use mathlib.Core.List.{List, [], ◌∷◌}
@@ -14,7 +17,6 @@ use Rattle.lent.specs.Sources.{part_word, Sourced}
 use Rattle.lent.specs.Buffers.{zeros, padded}
 use Rattle.lent.specs.Gates.{gate_of}
 use Rattle.lent.specs.Table.{Given, no_room, unknown_variable, Outcome, refuses, reads, past_gate, Filled, given_by, text_by, records_by}
-use Rattle.lent.specs.declared.gating.Gate.{Gate}
 use Rattle.lent.specs.Admission.{FirstAt, Opened, Shortened}
 use Rattle.lent.proofs.GateLaws.{Row}
 use Rattle.lent.proofs.OutcomeLaws.{number_of, given_number, past_row}
@@ -26,7 +28,9 @@ use Rattle.variables.specs.Layout.{texts, words_from}
 use Rattle.variables.specs.Promises.{answer_given, laid_out, roomed, updated, Meets, ParseVariables, ParseUpdateTargets}
 use Rattle.variables.specs.Steps.{excluded_of, kept_count, kept_of, read_outcome, outcome_of}
 use Rattle.variables.specs.Calls.{AllMeant, Missing, unmarked_of, needed}
-use Rattle.variables.specs.declared.Answer.{Answer}
+use Rattle.variables.specs.declared.Read.{Read}
+use Rattle.variables.specs.declared.VariablesError.{VariablesError}
+use Rattle.variables.specs.declared.VariablesError.TheVariants.{Gate, Unknown, NoRoom}
 use Rattle.variables.specs.declared.singles.Exclusions.{Exclusions}
 use Rattle.variables.specs.declared.singles.Exclusions.TheVariants.{AsWritten, LookedUp}
 use Rattle.variables.proofs.AnswerLaws.{refused_is, as_variables, as_update}
@@ -96,7 +100,7 @@ module _ (n : Exclusions) (s : List ℕ) (m : ℕ) where
 -- ---- the whole call
 
 -- Every number exactly when it is given, and what is given and left with it, for a call with these buffers before and after it.
-pub record Numbers (n : Exclusions) (s text text' records records' : List ℕ) (r : Answer) : Type 0 where
+pub record Numbers (n : Exclusions) (s text text' records records' : List ℕ) (r : Result Read VariablesError) : Type 0 where
   -- 1: the input is over the limit.
   pub number_1 : ((answer_given r).number ≡ 1) ↔ (limit < length s)
   -- 2: it is not, and a byte is 128 or more.
@@ -110,22 +114,22 @@ pub record Numbers (n : Exclusions) (s text text' records records' : List ℕ) (
   -- 0: none of these.
   pub number_0 : ((answer_given r).number ≡ 0) ↔ (Opened s (length text) (length s) × (AllMeant n (pieces s) × (needed n s ≤ room_for variable_words (length records))))
   -- Each in full: 1 to 3 touch nothing.
-  pub long : limit < length s → (r ≡ Answer.TooLong) × (text' ≡ text) × (records' ≡ records)
-  pub high : (p : ℕ) → (length s ≤ limit) × FirstAt s p → (r ≡ Answer.NotAscii p) × (text' ≡ text) × (records' ≡ records)
-  pub short : Shortened s (length text) (length s) → (r ≡ Answer.Short) × (text' ≡ text) × (records' ≡ records)
+  pub long : limit < length s → (r ≡ Err (Gate TooLong)) × (text' ≡ text) × (records' ≡ records)
+  pub high : (p : ℕ) → (length s ≤ limit) × FirstAt s p → (r ≡ Err (Gate (NotAscii p))) × (text' ≡ text) × (records' ≡ records)
+  pub short : Shortened s (length text) (length s) → (r ≡ Err (Gate Short)) × (text' ≡ text) × (records' ≡ records)
   -- 7 gives the first such piece and its span; the name stands in the text as written, and all else is zero.
   pub missed : Opened s (length text) (length s) → (x : Missing n (pieces s))
-      → (r ≡ Answer.Unknown (length x.passed) (length x.text) (part_word x.this.place)) × (text' ≡ padded (length text) x.text) × (records' ≡ zeros (length records))
+      → (r ≡ Err (Unknown (length x.passed) (length x.text) (part_word x.this.place))) × (text' ≡ padded (length text) x.text) × (records' ≡ zeros (length records))
   -- 4 gives the records needed, and all is zero.
   pub full : Opened s (length text) (length s) → AllMeant n (pieces s) → room_for variable_words (length records) < needed n s
-      → (r ≡ Answer.NoRoom (needed n s)) × (text' ≡ zeros (length text)) × (records' ≡ zeros (length records))
+      → (r ≡ Err (NoRoom (needed n s))) × (text' ≡ zeros (length text)) × (records' ≡ zeros (length records))
   -- 0 gives the count and the texts' length; texts and records, and zeros beyond.
   pub read : Opened s (length text) (length s) → (a : AllMeant n (pieces s)) → needed n s ≤ room_for variable_words (length records)
-      → (r ≡ Answer.Read (needed n s) (length (texts (variables_of n s 0 a) (exclusions_of n s 0))))
+      → (r ≡ Ok (record { count = needed n s; text = length (texts (variables_of n s 0 a) (exclusions_of n s 0)) }))
       × (text' ≡ padded (length text) (texts (variables_of n s 0 a) (exclusions_of n s 0)))
       × (records' ≡ padded (length records) (words_from 0 (variables_of n s 0 a) (exclusions_of n s 0)))
 
-module _ (n : Exclusions) (s : List ℕ) {text text' records records' : List ℕ} {r : Answer} (x : Meets (outcome_of n s (length text) (length records)) text text' records records' r) where
+module _ (n : Exclusions) (s : List ℕ) {text text' records records' : List ℕ} {r : Result Read VariablesError} (x : Meets (outcome_of n s (length text) (length records)) text text' records records' r) where
   abbrev past : Outcome Filled
   past = read_outcome n s (length records)
 
@@ -134,7 +138,7 @@ module _ (n : Exclusions) (s : List ℕ) {text text' records records' : List ℕ
   number_is = ap (λ (g : Given). g.number) x.answer ∙ given_number (outcome_of n s (length text) (length records))
 
   -- what is given back and left, by an outcome that the call comes to
-  by_outcome : (o : Outcome Filled) (v : Answer) → outcome_of n s (length text) (length records) ≡ o → given_by o ≡ answer_given v
+  by_outcome : (o : Outcome Filled) (v : Result Read VariablesError) → outcome_of n s (length text) (length records) ≡ o → given_by o ≡ answer_given v
       → (r ≡ v) × (text' ≡ text_by o text) × (records' ≡ records_by o records)
   by_outcome o v e g = (
     answer_told r v (x.answer ∙ ap given_by e ∙ g),
@@ -142,7 +146,7 @@ module _ (n : Exclusions) (s : List ℕ) {text text' records records' : List ℕ
     x.words ∙ ap (λ (o : Outcome Filled). records_by o records) e,
   )
 
-  at_gate : (g : Gate) → Row s (length text) (length s) g → outcome_of n s (length text) (length records) ≡ past_gate g past
+  at_gate : (g : Result Unit GateError) → Row s (length text) (length s) g → outcome_of n s (length text) (length records) ≡ past_gate g past
   unfolding outcome_of
   at_gate g h = past_row s (length text) (length s) past g h
 
@@ -158,19 +162,19 @@ module _ (n : Exclusions) (s : List ℕ) {text text' records records' : List ℕ
         number_7 = rw number_is e.1.1.1.0;
         number_4 = rw number_is e.1.1.1.1.0;
         number_0 = rw number_is e.1.1.1.1.1.0;
-        long = λ h. by_outcome _ Answer.TooLong (at_gate Gate.TooLong h) refl;
-        high = λ p h. by_outcome _ (Answer.NotAscii p) (at_gate (Gate.NotAscii p) h) refl;
-        short = λ h. by_outcome _ Answer.Short (at_gate Gate.Short h) refl;
-        missed = λ o y. by_outcome _ (Answer.Unknown (length y.passed) (length y.text) (part_word y.this.place)) (at_gate Gate.Open o ∙ missing_is n s m y) refl;
-        full = λ o a h. by_outcome _ (Answer.NoRoom (needed n s)) (at_gate Gate.Open o ∙ crowded_is n s m a h) refl;
-        read = λ o a h. by_outcome _ (Answer.Read (needed n s) (length (texts (variables_of n s 0 a) (exclusions_of n s 0)))) (at_gate Gate.Open o ∙ roomy_is n s m a h)
+        long = λ h. by_outcome _ (Err (Gate TooLong)) (at_gate (Err TooLong) h) refl;
+        high = λ p h. by_outcome _ (Err (Gate (NotAscii p))) (at_gate (Err (NotAscii p)) h) refl;
+        short = λ h. by_outcome _ (Err (Gate Short)) (at_gate (Err Short) h) refl;
+        missed = λ o y. by_outcome _ (Err (Unknown (length y.passed) (length y.text) (part_word y.this.place))) (at_gate (Ok tt) o ∙ missing_is n s m y) refl;
+        full = λ o a h. by_outcome _ (Err (NoRoom (needed n s))) (at_gate (Ok tt) o ∙ crowded_is n s m a h) refl;
+        read = λ o a h. by_outcome _ (Ok (record { count = needed n s; text = length (texts (variables_of n s 0 a) (exclusions_of n s 0)) })) (at_gate (Ok tt) o ∙ roomy_is n s m a h)
             (rw (needed_is n s m a));
       }
 
-pub parse_variables_numbers : (s : List ℕ) {text text' records records' : List ℕ} {r : Answer} → ParseVariables s text text' records records' r
+pub parse_variables_numbers : (s : List ℕ) {text text' records records' : List ℕ} {r : Result Read VariablesError} → ParseVariables s text text' records records' r
     → Numbers AsWritten s text text' records records' r
 parse_variables_numbers s {text} {text'} {records} {records'} {r} x = numbers AsWritten s (rw (as_variables s (length text) (length records)) at x)
 
-pub parse_update_targets_numbers : (s : List ℕ) {text text' records records' : List ℕ} {r : Answer} → ParseUpdateTargets s text text' records records' r
+pub parse_update_targets_numbers : (s : List ℕ) {text text' records records' : List ℕ} {r : Result Read VariablesError} → ParseUpdateTargets s text text' records records' r
     → Numbers LookedUp s text text' records records' r
 parse_update_targets_numbers s {text} {text'} {records} {records'} {r} x = numbers LookedUp s (rw (as_update s (length text) (length records)) at x)

@@ -19,9 +19,10 @@ use Rattle.lent.proofs.LayoutLaws.{texts_more, count_more}
 use Rattle.variables.specs.Parts.{Piece, pieces_from, pieces}
 use Rattle.variables.specs.Variables.{Variable, variable, Targets, targets, refused, with_variable, with_exclusion, piece, read_all}
 use Rattle.variables.specs.Layout.{variable_text, exclusion_text, selection_texts, variable_whole, exclusion_whole}
-use Rattle.variables.specs.Steps.{part, NextPiece, excluding_of, whole_words, behind_mark, excluded_of, IsVariable, IsExclusion, IsUnknown, Narrow, WroteVariables, WroteExclusions, AllRead, Stopped, Added, AllOrNone, kept_of}
+use Rattle.variables.specs.Steps.{part, NextPiece, excluding_of, whole_words, behind_mark, excluded_of, IsVariable, IsExclusion, IsUnknown, Lies, entry_part, text_at, WroteVariables, WroteExclusions, AllRead, Stopped, Added, AllOrNone, kept_of}
 use Rattle.variables.specs.declared.singles.Exclusions.{Exclusions}
 use Rattle.variables.specs.declared.singles.Entry.{Entry}
+use Rattle.variables.specs.declared.singles.Entry.TheVariants.{Exclusion}
 use Rattle.variables.proofs.PlaceLaws.{part_length, part_part}
 use Rattle.variables.proofs.SingleLaws.{plain_mark, has_mark}
 use Rattle.variables.proofs.LayoutLaws.{wrote_none, wrote_more}
@@ -169,25 +170,18 @@ module _ {n : Exclusions} {s : List ℕ} {offset place : ℕ} {text₀ records�
 
     -- a variable
     module _ (e : Entry) (u : IsVariable (excluding_of n) this e) where
-      pub entry_narrow : Narrow e used
-      entry_narrow = let t = u.held.text in record {
-        ordered = t.ordered;
-        near = omega (arith, t.inside, this_long, p.before, p.inside);
-        offset_low = omega (arith, used_low);
-      }
+      pub entry_lies : Lies this (entry_part e)
+      entry_lies = u.held.text.lies
 
-      pub entry_inside : e.past ≤ length this
-      entry_inside = u.held.text.inside
-
-      pub turned : (text' records' : List ℕ) → text' ≡ stored text used (part this e.first e.past)
+      pub turned : (text' records' : List ℕ) {used' : ℕ} → text' ≡ stored text used (text_at this (entry_part e))
           → records' ≡ stored records ((place + variables) * variable_words) (whole_words used e first (length this))
-          → Sofar n s offset place text₀ records₀ text' records' next (variables + 1) excluded (used + (e.past - e.first))
-      turned text' records' a b =
+          → used' ≡ used + length (text_at this (entry_part e))
+          → Sofar n s offset place text₀ records₀ text' records' next (variables + 1) excluded used'
+      turned text' records' {used'} a b f =
           let t = u.held.text in
           let v = sourced u.v (placed first past) in
           let w : whole_words used e first (length this) ≡ variable_whole used v = ap₂ (λ (l : List ℕ) (k : ℕ). l ++ (span_word first k ∷ [])) (u.held.words used) this_long in
-          let l = part_length this e.first e.past t.inside in
-          let grown : used + (e.past - e.first) + length (texts_of exclusion_text x.es) + (variables + 1 + excluded) ≤ offset + next = omega (arith, x.low, t.short, t.ordered, this_long, p.begun, p.some, p.before) in
+          let grown : used' + length (texts_of exclusion_text x.es) + (variables + 1 + excluded) ≤ offset + next = omega (arith, x.low, f, ap length t.is, t.short, this_long, p.begun, p.some, p.before) in
           record {
             vs = x.vs ++ (v ∷ []);
             es = x.es;
@@ -197,8 +191,8 @@ module _ {n : Exclusions} {s : List ℕ} {offset place : ℕ} {text₀ records�
             marked = mark_is ∙ ap (λ (l : List (Sourced (List ℕ))). x.es ++ l) (u.plain (placed first past) (excluded_of (pieces_from next (drop next s))));
             excluded_are = x.excluded_are;
             wrote = let z : place + (variables + 1) ≡ place + variables + 1 = omega arith in
-                rw z (wrote_more x.wrote wide_variable v text' records' (part this e.first e.past) (whole_words used e first (length this)) (used + (e.past - e.first))
-                t.is w (omega (arith, l)) a b);
+                rw z (wrote_more x.wrote wide_variable v text' records' (text_at this (entry_part e)) (whole_words used e first (length this)) used'
+                t.is w f a b);
             low = grown;
             inside = p.inside;
             fits = omega (arith, grown, p.inside);
@@ -231,7 +225,7 @@ add_begun s text records offset place = record {
 
 -- the entry of an exclusion whose piece has that length
 abbrev pub exclusion_entry : ℕ → Entry
-exclusion_entry n = record { kind = 2; code = 0; counts = false; selection = 0; spanned = true; first = 1; past = n }
+exclusion_entry n = Exclusion (placed 1 n)
 
 module _ {s : List ℕ} {offset place : ℕ} {text₀ records₀ text records : List ℕ} {at used count : ℕ} (x : Adding s offset place text₀ records₀ text records at used count) where
   pub add_ended : pieces_from at (drop at s) ≡ [] → Added (excluded_of (pieces s)) offset place text₀ text records₀ records used
@@ -295,18 +289,15 @@ module _ {s : List ℕ} {offset place : ℕ} {text₀ records₀ text records : 
       inside = p.inside;
     }
 
-    pub add_narrow : length s ≤ limit → offset ≤ limit + limit → Narrow (exclusion_entry (past - first)) used
-    add_narrow h k = record {
-      ordered = omega (arith, p.some);
-      near = omega (arith, p.before, p.inside);
-      offset_low = omega (arith, x.used_low, p.begun, p.some, p.before, p.inside);
-    }
+    pub add_lies : Lies (part s first past) (entry_part (exclusion_entry (past - first)))
+    add_lies = (omega (arith, p.some), omega (arith, piece_long))
 
     -- an exclusion
-    pub add_turned : get_or s first 0 ≡ 33 → (text' records' : List ℕ) → text' ≡ stored text used (part (part s first past) 1 (past - first))
+    pub add_turned : get_or s first 0 ≡ 33 → (text' records' : List ℕ) {used' : ℕ} → text' ≡ stored text used (part (part s first past) 1 (past - first))
         → records' ≡ stored records (count * variable_words) (whole_words used (exclusion_entry (past - first)) first (length (part s first past)))
-        → Adding s offset place text₀ records₀ text' records' next (used + (past - first - 1)) (count + 1)
-    add_turned h text' records' a b =
+        → used' ≡ used + length (part (part s first past) 1 (past - first))
+        → Adding s offset place text₀ records₀ text' records' next used' (count + 1)
+    add_turned h text' records' {used'} a b f =
         let q = part s first past in
         let t : part q 1 (past - first) ≡ drop 1 q = ap (λ (k : ℕ). take (k - 1) (drop 1 q)) (sym piece_long) ∙ rest_is q 1 in
         let l : length (drop 1 q) ≡ past - first - 1 = length-drop 1 q ∙ ap (λ (k : ℕ). k - 1) piece_long in
@@ -316,9 +307,9 @@ module _ {s : List ℕ} {offset place : ℕ} {text₀ records₀ text records : 
           es = x.es ++ (d ∷ []);
           marked = mark_at ∙ ap (λ (l : List (Sourced (List ℕ))). x.es ++ l) (has_mark q piece_some (first_byte ∙ h) (placed first past) (excluded_of (pieces_from next (drop next s))))
               ∙ sym (append_assoc x.es (d ∷ []) (excluded_of (pieces_from next (drop next s))));
-          wrote = wrote_more x.wrote wide_exclusion d text' records' (part q 1 (past - first)) (whole_words used (exclusion_entry (past - first)) first (length q)) (used + (past - first - 1))
-              t r (omega (arith, ap length t, l)) a b;
-          used_low = omega (arith, x.used_low, p.begun, p.some, p.before);
+          wrote = wrote_more x.wrote wide_exclusion d text' records' (part q 1 (past - first)) (whole_words used (exclusion_entry (past - first)) first (length q)) used'
+              t r f a b;
+          used_low = omega (arith, x.used_low, f, ap length t, l, p.begun, p.some, p.before);
           count_low = omega (arith, x.count_low, p.begun, p.some, p.before);
           inside = p.inside;
         }

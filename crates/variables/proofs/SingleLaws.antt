@@ -1,4 +1,5 @@
 -- One piece read by places: the name up to its colon, the selection behind it, and what its first byte says.
+use Rattle.std.specs.Prelude.{Option, Some, None, Result, Ok, Err}
 use mathlib.Core.Path.{◌≡◌, ◌∙◌, refl, sym, ap}
 use mathlib.Core.Bool.{Bool, true, false}
 use mathlib.Core.List.{List, [], ◌∷◌}
@@ -13,13 +14,15 @@ use Rattle.ascii.specs.Splits.{Split, first_of}
 use Rattle.ascii.proofs.ListLaws.{next_byte, rest_is}
 use Rattle.ascii.proofs.SplitLaws.{joined, first_fits, split_at}
 use Rattle.lent.specs.Sizes.{span_word}
-use Rattle.lent.specs.Sources.{Part, Sourced, sourced}
+use Rattle.lent.specs.Sources.{Part, part as placed, Sourced, sourced}
 use Rattle.names.specs.Variables.{variable_code}
-use Rattle.names.specs.declared.Lookup.{Lookup}
 use Rattle.variables.specs.Variables.{at_colon, is_regex, selection, Single, unknown, named, split_single, single, Targets, targets, refused, with_variable, front_of, if_known, with_exclusion, Excluding, as_written, looked_up, piece}
 use Rattle.variables.specs.Steps.{part, selection_after, Chose, Found, Missed, Singles, behind_mark, IsExclusion, IsUnknown, Pieced}
 use Rattle.variables.specs.declared.singles.Chosen.{Chosen}
-use Rattle.variables.specs.declared.singles.Reading.{Reading}
+use Rattle.variables.specs.declared.singles.Chosen.TheVariants.{Key, Regex}
+use Rattle.variables.specs.declared.singles.Entry.{Entry}
+use Rattle.variables.specs.declared.singles.Entry.TheVariants.{Variable as Var, Exclusion}
+use Rattle.variables.specs.declared.singles.UnknownName.{UnknownName}
 use Rattle.variables.proofs.PlaceLaws.{part_length}
 
 -- ---- at the colon
@@ -69,15 +72,8 @@ module _ (t : List ℕ) where
       go false b d e = let z : ◌≡◌ {A = ℕ} 0 1 = cc in absurd (omega arith)
 
 module _ (p : List ℕ) (colon : ℕ) where
-  pub chose_none : 0 < length p → length p ≤ colon → colon ≤ length p
-      → Chose p (selection_after (drop colon p)) (record { selection = 0; spanned = false; first = colon; past = colon })
-  chose_none l h k =
-      let z : colon - colon ≡ 0 = omega arith in
-      rw (drop_of_length-le p h) (record {
-        number = refl;
-        span = λ o. refl;
-        text = record { is = rw z; ordered = omega arith; inside = k; short = omega arith };
-      })
+  pub chose_none : 0 < length p → length p ≤ colon → Chose p (selection_after (drop colon p)) None
+  chose_none l h = rw (drop_of_length-le p h) (record { number = refl; span = λ o. refl; text = record { is = refl; lies = tt; short = l } })
 
   module _ (h : colon < length p) where
     abbrev rest : List ℕ
@@ -90,16 +86,16 @@ module _ (p : List ℕ) (colon : ℕ) where
     rest_long = length-drop (colon + 1) p
 
     pub chose_key : is_regex rest ≡ false
-        → Chose p (selection_after (drop colon p)) (record { selection = 1; spanned = true; first = colon + 1; past = length p })
+        → Chose p (selection_after (drop colon p)) (Some (Key (placed (colon + 1) (length p))))
     unfolding selection
     chose_key e = rw (after_is, e) (record {
       number = refl;
       span = λ o. ap (span_word o) (sym rest_long);
-      text = record { is = rest_is p (colon + 1); ordered = omega arith; inside = omega arith; short = omega arith };
+      text = record { is = rest_is p (colon + 1); lies = (omega arith, omega arith); short = omega (arith, rest_long) };
     })
 
     pub chose_regex : is_regex rest ≡ true
-        → Chose p (selection_after (drop colon p)) (record { selection = 2; spanned = true; first = colon + 1 + 1; past = length p - 1 })
+        → Chose p (selection_after (drop colon p)) (Some (Regex (placed (colon + 1 + 1) (length p - 1))))
     unfolding selection
     chose_regex e =
         let l = regex_long rest e in
@@ -110,7 +106,7 @@ module _ (p : List ℕ) (colon : ℕ) where
         rw (after_is, e) (record {
           number = refl;
           span = λ o. ap (span_word o) m;
-          text = record { is = t; ordered = i; inside = omega arith; short = omega arith };
+          text = record { is = t; lies = (i, omega arith); short = omega (arith, m) };
         })
 
 -- ---- a variable's name
@@ -125,29 +121,29 @@ module _ (p : List ℕ) (first q : ℕ) (counts : Bool) (h : first ≤ length p)
   pub name_is : take (first + q - first) (drop first p) ≡ take (first_of 58 (drop first p)) (drop first p)
   name_is = let k : first + q - first ≡ first_of 58 (drop first p) = omega (arith, q_is) in ap (λ (n : ℕ). take n (drop first p)) k
 
-  module _ (l : Lookup) (f : l ≡ variable_code (take (first + q - first) (drop first p))) where
+  module _ (l : Option ℕ) (f : l ≡ variable_code (take (first + q - first) (drop first p))) where
     by_lookup : split_single (at_colon (drop first p)) counts ≡ named l (take (first + q - first) (drop first p)) counts (selection_after (drop (first + q) p))
     by_lookup =
         let n = first_of 58 (drop first p) in
         split_is (drop first p) counts
         ∙ ap (λ (x : List ℕ). named (variable_code x) x counts (selection_after (drop n (drop first p)))) (sym name_is)
-        ∙ ap (λ (x : Lookup). named x (take (first + q - first) (drop first p)) counts (selection_after (drop n (drop first p)))) (sym f)
+        ∙ ap (λ (x : Option ℕ). named x (take (first + q - first) (drop first p)) counts (selection_after (drop n (drop first p)))) (sym f)
         ∙ ap (λ (x : List ℕ). named l (take (first + q - first) (drop first p)) counts (selection_after x))
         (drop-drop n first p ∙ ap (λ (i : ℕ). drop (first + i) p) (sym q_is))
 
-    pub named_unknown : l ≡ Lookup.Unknown → Missed p (split_single (at_colon (drop first p)) counts) first (first + q)
+    pub named_unknown : l ≡ None → Missed p (split_single (at_colon (drop first p)) counts) first (first + q)
     named_unknown g = record {
-      is = by_lookup ∙ ap (λ (x : Lookup). named x (take (first + q - first) (drop first p)) counts (selection_after (drop (first + q) p))) g;
+      is = by_lookup ∙ ap (λ (x : Option ℕ). named x (take (first + q - first) (drop first p)) counts (selection_after (drop (first + q) p))) g;
       ordered = omega arith;
       inside = colon_fits;
     }
 
-    pub named_code : (code : ℕ) → l ≡ Lookup.Code code → (r : Chosen) → Chose p (selection_after (drop (first + q) p)) r
+    pub named_code : (code : ℕ) → l ≡ Some code → (r : Option Chosen) → Chose p (selection_after (drop (first + q) p)) r
         → Found p (split_single (at_colon (drop first p)) counts)
-        (record { kind = 1; code = code; counts = counts; selection = r.selection; spanned = r.spanned; first = r.first; past = r.past })
+        (Var (record { code = code; counts = counts; chosen = r }))
     named_code code g r x = record {
       v = record { code = code; counts = counts; chosen = selection_after (drop (first + q) p) };
-      is = by_lookup ∙ ap (λ (x : Lookup). named x (take (first + q - first) (drop first p)) counts (selection_after (drop (first + q) p))) g;
+      is = by_lookup ∙ ap (λ (x : Option ℕ). named x (take (first + q - first) (drop first p)) counts (selection_after (drop (first + q) p))) g;
       held = record { words = λ o. rw (x.number, x.span o); text = x.text };
     }
 
@@ -180,24 +176,24 @@ module _ (ex : Excluding) where
   unmarked (b ∷ r) l h x ts = rw (ne_eqb b 33 h)
 
   module _ (p : List ℕ) (l : 0 < length p) (h : get_or p 0 0 ≡ 33 → ⊥) where
-    pieced : (r : Reading) → Singles p (single p) r → Pieced ex p r
-    pieced (Reading.Variable e) x = record {
+    pieced : (r : Result Entry UnknownName) → Singles p (single p) r → Pieced ex p r
+    pieced (Ok (Var e)) x = record {
       v = x.v;
       is = λ z ts. unmarked p l h z ts ∙ ap (λ (y : Single). with_variable z y ts) x.is;
       plain = plain_mark p h;
       held = x.held;
     }
-    pieced Reading.Exclusion x = absurd x
-    pieced (Reading.Unknown begin end) x = record {
-      is = λ z ts. unmarked p l h z ts ∙ unknown_first z (single p) (part p begin end) x.is ts;
+    pieced (Ok (Exclusion t)) x = absurd x
+    pieced (Err u) x = record {
+      is = λ z ts. unmarked p l h z ts ∙ unknown_first z (single p) (part p u.begin u.end) x.is ts;
       ordered = x.ordered;
       inside = x.inside;
     }
 
-    pub pieced_counts : get_or p 0 0 ≡ 38 → (r : Reading) → Singles p (split_single (at_colon (drop 1 p)) true) r → Pieced ex p r
+    pub pieced_counts : get_or p 0 0 ≡ 38 → (r : Result Entry UnknownName) → Singles p (split_single (at_colon (drop 1 p)) true) r → Pieced ex p r
     pieced_counts e r x = pieced r (rw (single_counts p l e) x)
 
-    pub pieced_plain : (get_or p 0 0 ≡ 38 → ⊥) → (r : Reading) → Singles p (split_single (at_colon (drop 0 p)) false) r → Pieced ex p r
+    pub pieced_plain : (get_or p 0 0 ≡ 38 → ⊥) → (r : Result Entry UnknownName) → Singles p (split_single (at_colon (drop 0 p)) false) r → Pieced ex p r
     pieced_plain e r x = pieced r (rw (single_plain p l e) x)
 
 -- ---- an exclusion
@@ -214,23 +210,23 @@ module _ (p : List ℕ) (l : 0 < length p) (e : get_or p 0 0 ≡ 33) where
   pub marked_written : IsExclusion as_written p
   marked_written = record { is = marked_by as_written p l e; mark = has_mark p l e }
 
-  module _ (q : ℕ) (f : q ≡ first_of 58 (take (length p - 1) (drop 1 p))) (k : Lookup) (g : k ≡ variable_code (take (1 + q - 1) (drop 1 p))) where
+  module _ (q : ℕ) (f : q ≡ first_of 58 (take (length p - 1) (drop 1 p))) (k : Option ℕ) (g : k ≡ variable_code (take (1 + q - 1) (drop 1 p))) where
     looked : (z : Part) (ts : Targets) → piece looked_up z p ts ≡ if_known z k (take (1 + q - 1) (drop 1 p)) (with_exclusion z (drop 1 p) ts)
     looked z ts =
         let n = front_is (drop 1 p) ∙ sym (name_is p 1 q false (omega arith) f) in
         marked_by looked_up p l e z ts
         ∙ ap (λ (x : List ℕ). if_known z (variable_code x) x (with_exclusion z (drop 1 p) ts)) n
-        ∙ ap (λ (x : Lookup). if_known z x (take (1 + q - 1) (drop 1 p)) (with_exclusion z (drop 1 p) ts)) (sym g)
+        ∙ ap (λ (x : Option ℕ). if_known z x (take (1 + q - 1) (drop 1 p)) (with_exclusion z (drop 1 p) ts)) (sym g)
 
-    pub marked_known : (code : ℕ) → k ≡ Lookup.Code code → IsExclusion looked_up p
+    pub marked_known : (code : ℕ) → k ≡ Some code → IsExclusion looked_up p
     marked_known code i = record {
-      is = λ z ts. looked z ts ∙ ap (λ (x : Lookup). if_known z x (take (1 + q - 1) (drop 1 p)) (with_exclusion z (drop 1 p) ts)) i;
+      is = λ z ts. looked z ts ∙ ap (λ (x : Option ℕ). if_known z x (take (1 + q - 1) (drop 1 p)) (with_exclusion z (drop 1 p) ts)) i;
       mark = has_mark p l e;
     }
 
-    pub marked_unknown : k ≡ Lookup.Unknown → IsUnknown looked_up p 1 (1 + q)
+    pub marked_unknown : k ≡ None → IsUnknown looked_up p 1 (1 + q)
     marked_unknown i = record {
-      is = λ z ts. looked z ts ∙ ap (λ (x : Lookup). if_known z x (take (1 + q - 1) (drop 1 p)) (with_exclusion z (drop 1 p) ts)) i;
+      is = λ z ts. looked z ts ∙ ap (λ (x : Option ℕ). if_known z x (take (1 + q - 1) (drop 1 p)) (with_exclusion z (drop 1 p) ts)) i;
       ordered = omega arith;
       inside = colon_fits p 1 q false (omega arith) f;
     }

@@ -1,5 +1,6 @@
 -- What was read from where: a source is a part of the list, not empty, and its bytes are the piece; sources come in order.
 -- The idea: the parts that a list is cut into stand in it one behind another, and a piece stands in its part.
+use Rattle.std.specs.Prelude.{Option, Some, None}
 use mathlib.Core.Path.{◌≡◌, ◌∙◌, refl, sym, ap, subst}
 use mathlib.Core.Bool.{Bool, true, false}
 use mathlib.Core.List.{List, [], ◌∷◌}
@@ -14,8 +15,6 @@ use Rattle.ascii.specs.Trim.{trim_ends, leading_white}
 use Rattle.ascii.proofs.TrimLaws.{ends_are, ends_fit}
 use Rattle.lent.specs.Sources.{Part, Sourced}
 use Rattle.names.specs.Variables.{variable_code}
-use Rattle.names.specs.declared.Lookup.{Lookup}
-use Rattle.names.specs.declared.Lookup.TheVariants.{Code, Unknown}
 use Rattle.variables.specs.Parts.{onto, cut, Piece, place_of, kept, filled_from, pieces_from, pieces}
 use Rattle.variables.specs.Variables.{at_colon, front_of, Single, variable, unknown, single, Targets, targets, refused, with_variable, with_exclusion, if_known, piece, read_all}
 use Rattle.variables.specs.Steps.{excluding_of, hanging, targets_of}
@@ -58,9 +57,9 @@ module _ (P : Part → Type 0) where
   exclusion_in x e (targets vs es) h w = (w.0, and_at h w.1)
   exclusion_in x e (refused i n z) h w = w
 
-  known_in : (x : Part) (l : Lookup) (n : List ℕ) (ts : Targets) → P x → EachIn P ts → EachIn P (if_known x l n ts)
-  known_in x (Code c) n ts h w = w
-  known_in x Unknown n ts h w = h
+  known_in : (x : Part) (l : Option ℕ) (n : List ℕ) (ts : Targets) → P x → EachIn P ts → EachIn P (if_known x l n ts)
+  known_in x (Some c) n ts h w = w
+  known_in x None n ts h w = h
 
   excluding_in : (n : Exclusions) (x : Part) (e : List ℕ) (ts : Targets) → P x → EachIn P ts → EachIn P (excluding_of n x e ts)
   excluding_in AsWritten x e ts h w = exclusion_in x e ts h w
@@ -204,9 +203,9 @@ module _ (k : ℕ) (x : Part) (h : k ≤ x.first) (l : x.first ≤ x.past) where
   exclusion_order e (targets vs es) w = (rising_from (omega (arith, h, l)) w.0, then_at h w.1)
   exclusion_order e (refused i n z) w = omega (arith, h, l, w)
 
-  known_order : (y : Lookup) (n : List ℕ) (ts : Targets) → InOrder k ts → InOrder k (if_known x y n ts)
-  known_order (Code c) n ts w = w
-  known_order Unknown n ts w = h
+  known_order : (y : Option ℕ) (n : List ℕ) (ts : Targets) → InOrder k ts → InOrder k (if_known x y n ts)
+  known_order (Some c) n ts w = w
+  known_order None n ts w = h
 
   excluding_order : (n : Exclusions) (e : List ℕ) (ts : Targets) → InOrder x.past ts → InOrder k (excluding_of n x e ts)
   excluding_order AsWritten e ts w = exclusion_order e ts w

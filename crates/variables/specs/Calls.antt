@@ -1,8 +1,7 @@
 -- When a call is refused past the gate, and when it is read, in plain words.
-use Rattle.std.specs.Prelude.{◌≡◌, ℕ, ◌+◌, List, [], ◌∷◌, ◌++◌, length, eqb}
+use Rattle.std.specs.Prelude.{◌≡◌, ℕ, ◌+◌, List, [], ◌∷◌, ◌++◌, length, eqb, Some, None}
 use Rattle.ascii.specs.Choice.{pick}
 use Rattle.names.specs.Variables.{variable_code}
-use Rattle.names.specs.declared.Lookup.TheVariants as Lookup
 use Rattle.variables.specs.Parts.{Piece, pieces}
 use Rattle.variables.specs.Variables.{at_colon, front_of}
 use Rattle.variables.specs.Steps.{excluded_of, kept_count}
@@ -31,7 +30,7 @@ asked n (b ∷ r) = pick (eqb b 33) (asked_behind n r) (pick (eqb b 38) (up_to_c
 -- no name is looked up, or a variable's
 pub data Meant (n : Exclusions) (p : List ℕ) : Type 0 where
   unasked : asked n p ≡ nothing → Meant n p
-  found : (x : List ℕ) (code : ℕ) → asked n p ≡ name x → variable_code x ≡ Lookup.Code code → Meant n p
+  found : (x : List ℕ) (code : ℕ) → asked n p ≡ name x → variable_code x ≡ Some code → Meant n p
 
 pub data AllMeant (n : Exclusions) : List Piece → Type 0 where
   none : AllMeant n []
@@ -46,7 +45,7 @@ pub record Missing (n : Exclusions) (ps : List Piece) : Type 0 where
   pub list : ps ≡ passed ++ this ∷ after
   pub meant : AllMeant n passed
   pub asks : asked n this.text ≡ name text
-  pub unknown : variable_code text ≡ Lookup.Unknown
+  pub unknown : variable_code text ≡ None
 
 -- the pieces without a mark
 abbrev pub unmarked : List ℕ → Piece → List Piece → List Piece

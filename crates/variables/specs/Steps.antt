@@ -1,5 +1,5 @@
 -- What the functions below the two parsers promise.
-use Rattle.std.specs.Prelude.{◌⊎◌, ◌≡◌, ℕ, ◌+◌, ◌-◌, ◌*◌, ◌≤◌, ◌<◌, List, [], ◌∷◌, length, take, drop, eqb}
+use Rattle.std.specs.Prelude.{◌⊎◌, ◌≡◌, ℕ, ◌+◌, ◌-◌, ◌*◌, ◌≤◌, ◌<◌, List, [], ◌∷◌, ◌++◌, length, take, drop, eqb, Option, Some, None, Result, Ok, Err}
 use Rattle.ascii.specs.Choice.{pick, bit}
 use Rattle.lent.specs.Sizes.{limit, span_word, variable_words}
 use Rattle.lent.specs.Sources.{Part, part as placed, Sourced, sourced}
@@ -11,13 +11,16 @@ use Rattle.variables.specs.Parts.{Piece, piece_at, pieces_from, pieces}
 use Rattle.variables.specs.Variables.{Selection, none, selection, Variable, Single, variable, unknown, Targets, targets, refused, with_variable, with_exclusion, Excluding, as_written, looked_up, piece, read_all}
 use Rattle.variables.specs.Layout.{selection_code, selection_text, selection_span, variable_record, variable_text, exclusion_text, variable_whole, exclusion_whole, texts}
 use Rattle.variables.specs.Promises.{updated}
-use Rattle.variables.specs.declared.finding.Next.{Next}
+use Rattle.variables.specs.declared.finding.Piece.{Piece as Place}
 use Rattle.variables.specs.declared.singles.Exclusions.{Exclusions}
 use Rattle.variables.specs.declared.singles.Exclusions.TheVariants.{AsWritten, LookedUp}
-use Rattle.variables.specs.declared.singles.Entry.{Entry}
 use Rattle.variables.specs.declared.singles.Chosen.{Chosen}
-use Rattle.variables.specs.declared.singles.Reading.{Reading}
+use Rattle.variables.specs.declared.singles.Chosen.TheVariants.{Key, Regex}
+use Rattle.variables.specs.declared.singles.Entry.{Entry}
+use Rattle.variables.specs.declared.singles.Entry.TheVariants.{Variable as Var, Exclusion}
+use Rattle.variables.specs.declared.singles.UnknownName.{UnknownName}
 use Rattle.variables.specs.declared.writing.Tally.{Tally}
+use Rattle.variables.specs.declared.writing.UnknownPiece.{UnknownPiece}
 
 -- ---- places
 
@@ -33,9 +36,9 @@ pub record NextPiece (s : List ℕ) (at first past next : ℕ) : Type 0 where
   pub before : past < next
   pub inside : next ≤ length s + 1
 
-abbrev pub Nexts : List ℕ → ℕ → Next → Type 0
-Nexts s at (Next.Piece first past next) = NextPiece s at first past next
-Nexts s at Next.End = pieces_from at (drop at s) ≡ []
+abbrev pub Nexts : List ℕ → ℕ → Option Place → Type 0
+Nexts s at (Some p) = NextPiece s at p.first p.past p.next
+Nexts s at None = pieces_from at (drop at s) ≡ []
 
 -- ---- one piece
 
@@ -48,33 +51,60 @@ abbrev pub selection_after : List ℕ → Selection
 selection_after [] = none
 selection_after (b ∷ r) = selection r
 
--- the text of a record, as a part of its piece p, which is longer
-pub record Shown (p : List ℕ) (first past : ℕ) (text : List ℕ) : Type 0 where
-  pub is : part p first past ≡ text
-  pub ordered : first ≤ past
-  pub inside : past ≤ length p
-  pub short : past < length p + first
+-- what is chosen: its number, and the part of the piece that is its text
+abbrev pub chosen_number : Option Chosen → ℕ
+chosen_number None = 0
+chosen_number (Some (Key x)) = 1
+chosen_number (Some (Regex x)) = 2
 
-pub record Chose (p : List ℕ) (c : Selection) (r : Chosen) : Type 0 where
-  pub number : r.selection ≡ selection_code c
-  pub span : (o : ℕ) → pick r.spanned (span_word o (r.past - r.first)) 0 ≡ selection_span o c
-  pub text : Shown p r.first r.past (selection_text c)
+abbrev pub chosen_part : Option Chosen → Option Part
+chosen_part None = None
+chosen_part (Some (Key x)) = Some x
+chosen_part (Some (Regex x)) = Some x
+
+-- the same of an entry
+abbrev pub entry_part : Entry → Option Part
+entry_part (Var v) = chosen_part v.chosen
+entry_part (Exclusion x) = Some x
+
+-- a part's span where its text is put at the offset o, and its text; with no part 0 and none
+abbrev pub span_at : ℕ → Option Part → ℕ
+span_at o None = 0
+span_at o (Some x) = span_word o (x.past - x.first)
+
+abbrev pub text_at : List ℕ → Option Part → List ℕ
+text_at p None = []
+text_at p (Some x) = part p x.first x.past
+
+-- it lies in the piece p
+abbrev pub Lies : List ℕ → Option Part → Type 0
+Lies p None = Unit {0}
+Lies p (Some x) = (x.first ≤ x.past) × (x.past ≤ length p)
+
+-- the text of a record, by its part of the piece p, which is longer
+pub record Shown (p : List ℕ) (x : Option Part) (text : List ℕ) : Type 0 where
+  pub is : text_at p x ≡ text
+  pub lies : Lies p x
+  pub short : length text < length p
+
+pub record Chose (p : List ℕ) (c : Selection) (r : Option Chosen) : Type 0 where
+  pub number : chosen_number r ≡ selection_code c
+  pub span : (o : ℕ) → span_at o (chosen_part r) ≡ selection_span o c
+  pub text : Shown p (chosen_part r) (selection_text c)
 
 -- the words of an entry whose text starts at the offset o
-abbrev pub entry_span : ℕ → Entry → ℕ
-entry_span o e = pick e.spanned (span_word o (e.past - e.first)) 0
-
 abbrev pub entry_words : ℕ → Entry → List ℕ
-entry_words o e = e.kind ∷ e.code ∷ bit e.counts ∷ e.selection ∷ entry_span o e ∷ []
+entry_words o (Var v) = 1 ∷ v.code ∷ bit v.counts ∷ chosen_number v.chosen ∷ span_at o (chosen_part v.chosen) ∷ []
+entry_words o (Exclusion x) = 2 ∷ 0 ∷ 0 ∷ 0 ∷ span_word o (x.past - x.first) ∷ []
 
 -- with the last one, for a piece of so many bytes that stands at k
 abbrev pub whole_words : ℕ → Entry → ℕ → ℕ → List ℕ
-whole_words o e k n = e.kind ∷ e.code ∷ bit e.counts ∷ e.selection ∷ entry_span o e ∷ span_word k n ∷ []
+whole_words o e k n = entry_words o e ++ (span_word k n ∷ [])
 
 -- an entry of the piece p for a variable
 pub record Held (p : List ℕ) (e : Entry) (v : Variable) : Type 0 where
   pub words : (o : ℕ) → entry_words o e ≡ variable_record o v
-  pub text : Shown p e.first e.past (selection_text v.chosen)
+  pub text : Shown p (entry_part e) (selection_text v.chosen)
 
 pub record Found (p : List ℕ) (x : Single) (e : Entry) : Type 0 where
   pub v : Variable
@@ -87,10 +117,10 @@ pub record Missed (p : List ℕ) (x : Single) (begin end : ℕ) : Type 0 where
   pub inside : end ≤ length p
 
 -- a variable as it was read from a piece that has no mark
-abbrev pub Singles : List ℕ → Single → Reading → Type 0
-Singles p x (Reading.Variable e) = Found p x e
-Singles p x Reading.Exclusion = ⊥
-Singles p x (Reading.Unknown begin end) = Missed p x begin end
+abbrev pub Singles : List ℕ → Single → Result Entry UnknownName → Type 0
+Singles p x (Ok (Var v)) = Found p x (Var v)
+Singles p x (Ok (Exclusion t)) = ⊥
+Singles p x (Err u) = Missed p x u.begin u.end
 
 -- the texts behind `!`, of pieces that stand at x
 abbrev pub behind_mark : Part → List ℕ → List (Sourced (List ℕ)) → List (Sourced (List ℕ))
@@ -117,18 +147,17 @@ pub record IsUnknown (ex : Excluding) (p : List ℕ) (begin end : ℕ) : Type 0 
   pub ordered : begin ≤ end
   pub inside : end ≤ length p
 
-abbrev pub Pieced : Excluding → List ℕ → Reading → Type 0
-Pieced ex p (Reading.Variable e) = IsVariable ex p e
-Pieced ex p Reading.Exclusion = IsExclusion ex p
-Pieced ex p (Reading.Unknown begin end) = IsUnknown ex p begin end
+abbrev pub Pieced : Excluding → List ℕ → Result Entry UnknownName → Type 0
+Pieced ex p (Ok (Var v)) = IsVariable ex p (Var v)
+Pieced ex p (Ok (Exclusion t)) = IsExclusion ex p
+Pieced ex p (Err u) = IsUnknown ex p u.begin u.end
 
 -- ---- a list
 
 -- numbers that a span word takes
-pub record Narrow (e : Entry) (offset : ℕ) : Type 0 where
-  pub ordered : e.first ≤ e.past
-  pub near : e.past ≤ limit
-  pub offset_low : offset ≤ 4 * limit
+abbrev pub Narrow : Option Part → ℕ → Type 0
+Narrow None offset = Unit {0}
+Narrow (Some x) offset = (x.first ≤ x.past) × (x.past ≤ limit) × (offset ≤ 4 * limit)
 
 -- a list's texts are written from `offset` on and its records from the place `place` on, up to `used` and to `count`, each where it fits
 pub record Wrote {A : Type 0} (words : ℕ → A → List ℕ) (text_of : A → List ℕ) (offset place : ℕ) (text text' records records' : List ℕ)
@@ -159,9 +188,9 @@ pub record Stopped (n : Exclusions) (s : List ℕ) (piece begin end first past :
   pub ordered : begin ≤ end
   pub inside : end ≤ length s
 
-abbrev pub Scanned : Exclusions → List ℕ → ℕ → ℕ → List ℕ → List ℕ → List ℕ → List ℕ → Tally → Type 0
-Scanned n s offset place text text' records records' (Tally.Targets variables excluded used) = AllRead n s offset place text text' records records' variables excluded used
-Scanned n s offset place text text' records records' (Tally.Unknown piece begin end first past) = Stopped n s piece begin end first past
+abbrev pub Scanned : Exclusions → List ℕ → ℕ → ℕ → List ℕ → List ℕ → List ℕ → List ℕ → Result Tally UnknownPiece → Type 0
+Scanned n s offset place text text' records records' (Ok t) = AllRead n s offset place text text' records records' t.variables t.excluded t.used
+Scanned n s offset place text text' records records' (Err u) = Stopped n s u.piece u.begin u.end u.first u.past
 
 -- exclusions are written
 abbrev pub Added : List (Sourced (List ℕ)) → ℕ → ℕ → List ℕ → List ℕ → List ℕ → List ℕ → ℕ → Type 0

@@ -1,11 +1,9 @@
 -- One variable, and the lists that are read from pieces.
-use Rattle.std.specs.Prelude.{ℕ, suc, ◌-◌, Bool, true, false, List, [], ◌∷◌, length, take, drop, get_or, eqb, ltb}
+use Rattle.std.specs.Prelude.{ℕ, suc, ◌-◌, Bool, true, false, List, [], ◌∷◌, length, take, drop, get_or, eqb, ltb, Option, Some, None}
 use Rattle.ascii.specs.Choice.{pick, and}
 use Rattle.ascii.specs.Splits.{Split, whole, halves, split}
 use Rattle.lent.specs.Sources.{Part, Sourced, sourced}
 use Rattle.names.specs.Variables.{variable_code}
-use Rattle.names.specs.declared.Lookup.{Lookup}
-use Rattle.names.specs.declared.Lookup.TheVariants.{Code, Unknown}
 use Rattle.variables.specs.Parts.{Piece}
 
 -- ---- one variable
@@ -38,9 +36,9 @@ pub data Single : Type 0 where
   variable : Variable → Single
   unknown : List ℕ → Single
 
-abbrev pub named : Lookup → List ℕ → Bool → Selection → Single
-named (Code c) name counts chosen = variable (record { code = c; counts = counts; chosen = chosen })
-named Unknown name counts chosen = unknown name
+abbrev pub named : Option ℕ → List ℕ → Bool → Selection → Single
+named (Some c) name counts chosen = variable (record { code = c; counts = counts; chosen = chosen })
+named None name counts chosen = unknown name
 
 abbrev pub split_single : Split → Bool → Single
 split_single (whole name) counts = named (variable_code name) name counts none
@@ -75,9 +73,9 @@ abbrev pub front_of : Split → List ℕ
 front_of (whole s) = s
 front_of (halves s t) = s
 
-abbrev pub if_known : Part → Lookup → List ℕ → Targets → Targets
-if_known x (Code c) n ts = ts
-if_known x Unknown n ts = refused 0 n x
+abbrev pub if_known : Part → Option ℕ → List ℕ → Targets → Targets
+if_known x (Some c) n ts = ts
+if_known x None n ts = refused 0 n x
 
 -- What `!` does with the text behind it, in each of the two parsers; the piece stands at the part given, its `!` with it.
 abbrev pub Excluding : Type 0

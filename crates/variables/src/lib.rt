@@ -2,26 +2,30 @@
 
 #![tactic(auto)]
 
+ghost use Rattle.std.specs.Prelude.{◌≡◌};
+ghost use Rattle.variables.specs.declared.VariablesError.TheVariants.{Gate};
+
 mod finding;
 mod parsing;
 mod singles;
 mod writing;
 
+use lent::GateError;
 pub use parsing::{parse_update_targets, parse_variables, read_targets};
 pub use singles::Exclusions;
 
-// What a list of variables or of update targets answers.
-#[derive(Clone, Copy)]
-pub enum Answer {
-    // 0: how many records and bytes of text.
-    Read {
-        count: usize,
-        text: usize,
-    },
+// A list read: how many records and bytes of text.
+#[derive(Clone, Copy, Debug, PartialEq, Eq)]
+pub struct Read {
+    pub count: usize,
+    pub text: usize,
+}
+
+// Why a list of variables or of update targets is not read.
+#[derive(Clone, Copy, Debug, PartialEq, Eq)]
+pub enum VariablesError {
     // The numbers 1, 2 and 3.
-    TooLong,
-    NotAscii(usize),
-    Short,
+    Gate(GateError),
     // 7: the piece, the length of the name that is none, and the piece's span in the input.
     Unknown {
         piece: usize,
@@ -32,14 +36,24 @@ pub enum Answer {
     NoRoom(usize),
 }
 
-// What a list comes to that is read into buffers from an offset and a place on.
-#[derive(Clone, Copy)]
-pub enum Reached {
-    // How many records, and the offset past the last text.
-    Read {
-        count: usize,
-        offset: usize,
-    },
+impl From<GateError> for VariablesError {
+    ghost from_gives = { λ e r. r ≡ Gate e };
+
+    fn from(e: GateError) -> VariablesError {
+        VariablesError::Gate(e)
+    }
+}
+
+// A list read into buffers from an offset and a place on: how many records, and the offset past the last text.
+#[derive(Clone, Copy, Debug, PartialEq, Eq)]
+pub struct Reached {
+    pub count: usize,
+    pub offset: usize,
+}
+
+// Why it is not.
+#[derive(Clone, Copy, Debug, PartialEq, Eq)]
+pub enum TargetsError {
     // The piece, the length of the name that is none, and where the piece stands in the list.
     Unknown {
         piece: usize,

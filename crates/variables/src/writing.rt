@@ -1,33 +1,54 @@
 // Records and texts in the lent buffers: variables as they are read, and the exclusions after the last of them.
 ghost use Rattle.std.specs.Prelude.{◌≡◌, ◌+◌, ◌*◌, ◌≤◌, length};
-ghost use Rattle.ascii.specs.Choice.{bit};
 ghost use Rattle.lent.specs.Sizes.{limit, variable_words};
 ghost use Rattle.lent.specs.Buffers.{stored};
 ghost use Rattle.variables.specs.Parts.{pieces};
-ghost use Rattle.variables.specs.Steps.{part, entry_span, whole_words, Narrow, Scanned, excluded_of, kept_of, AllOrNone, Added};
+ghost use Rattle.variables.specs.Steps.{Lies, entry_part, chosen_number, span_at, text_at, whole_words, Narrow, Scanned, excluded_of, kept_of, AllOrNone, Added};
 
-use crate::finding::{Next, next_piece};
-use crate::singles::{Entry, Exclusions, Reading, read_piece};
+use crate::finding::{Piece, next_piece};
+use crate::singles::{Chosen, Entry, Exclusions, Target, UnknownName, read_piece};
+use ascii::Part;
 
-fn flag(b: bool) -> u64
-    ensures { result ≡ bit b }
+// Where an entry's text stands in its piece, if it has one.
+fn text_of(e: Entry) -> Option<Part>
+    ensures { result ≡ entry_part e }
 {
-    if b { 1 } else { 0 }
+    match e {
+        Entry::Variable(Target { chosen: None, .. }) => None,
+        Entry::Variable(
+            Target {
+                chosen: Some(Chosen::Key(text) | Chosen::Regex(text)),
+                ..
+            },
+        ) => Some(text),
+        Entry::Exclusion(text) => Some(text),
+    }
 }
 
-// The span word of an entry whose text starts at `offset`.
-fn span_of(e: Entry, offset: usize) -> u64
-    requires { Narrow e offset }
-    ensures { result ≡ entry_span offset e }
+// The number of what is chosen.
+fn selection_number(chosen: Option<Chosen>) -> u64
+    ensures { result ≡ chosen_number chosen }
 {
-    if e.spanned {
-        return lent::span(offset as u32, (e.past - e.first) as u32);
+    match chosen {
+        None => 0,
+        Some(Chosen::Key(_)) => 1,
+        Some(Chosen::Regex(_)) => 2,
     }
-    0
+}
+
+// The span word of a text that is put at `offset`: 0 where there is none.
+fn span_of(text: Option<Part>, offset: usize) -> u64
+    requires { Narrow text offset }
+    ensures { result ≡ span_at offset text }
+{
+    match text {
+        None => 0,
+        Some(part) => lent::span(offset as u32, (part.past - part.first) as u32),
+    }
 }
 
 // The text of an entry of the piece `p`, which stands at `at` in the list, at the offset `used`, and its record in the
-// place `count`, each where it fits.
+// place `count`, each where it fits; gives the offset past the text.
 fn put(
     p: &[u8],
     at: usize,
@@ -36,43 +57,50 @@ fn put(
     used: usize,
     records: &mut [u64],
     count: usize,
-)
-    requires narrow { Narrow e used }
-    requires past_in_bounds { (e.past ≤ length p.now) × (count ≤ 4 * limit) }
+) -> usize
+    requires lies { Lies p.now (entry_part e) }
+    requires used_bound { (used ≤ 4 * limit) × (count ≤ 4 * limit) }
     requires at_le_limit { (at ≤ limit) × (length p.now ≤ limit) }
-    ensures text_after { text.new ≡ stored text.old used (part p.now e.first e.past) }
+    ensures text_after { text.new ≡ stored text.old used (text_at p.now (entry_part e)) }
     ensures records_after { records.new ≡ stored records.old (count * variable_words) (whole_words used e at (length p.now)) }
+    ensures value { result ≡ used + length (text_at p.now (entry_part e)) }
 {
-    let record = [
-        e.kind,
-        e.code,
-        flag(e.counts),
-        e.selection,
-        span_of(e, used),
-        lent::span(at as u32, p.len() as u32),
-    ];
-    lent::store_words(records, count * lent::VARIABLE_WORDS, &record);
-    let first = e.first;
-    let past = e.past;
-    lent::store_bytes(text, used, &p[first..past]);
+    let part = text_of(e);
+    let span = span_of(part, used);
+    let source = lent::span(at as u32, p.len() as u32);
+    let record = match e {
+        Entry::Variable(v) => {
+            let selection = selection_number(v.chosen);
+            [1, v.code, u64::from(v.counts), selection, span, source]
+        }
+        Entry::Exclusion(_) => [2, 0, 0, 0, span, source],
+    };
+    lent::store(records, count * lent::VARIABLE_WORDS, &record);
+    match part {
+        None => used,
+        Some(part) => {
+            lent::store(text, used, &p[part.first..part.past]);
+            used + (part.past - part.first)
+        }
+    }
 }
 
-// What a list was read to: how many variables and exclusions, and the offset past the selections' texts;
-// or the first name that is none, with its piece, its places, and the piece's.
+// What a list was read to: how many variables and exclusions, and the offset past the selections' texts.
 #[derive(Clone, Copy)]
-pub enum Tally {
-    Targets {
-        variables: usize,
-        excluded: usize,
-        used: usize,
-    },
-    Unknown {
-        piece: usize,
-        begin: usize,
-        end: usize,
-        first: usize,
-        past: usize,
-    },
+pub struct Tally {
+    pub variables: usize,
+    pub excluded: usize,
+    pub used: usize,
+}
+
+// The first name that is none, with its piece, its places, and the piece's.
+#[derive(Clone, Copy)]
+pub struct UnknownPiece {
+    pub piece: usize,
+    pub begin: usize,
+    pub end: usize,
+    pub first: usize,
+    pub past: usize,
 }
 
 // Reads every piece, and writes the variables, texts from `offset` and records from `place` on.
@@ -83,7 +111,7 @@ pub fn scan(
     offset: usize,
     records: &mut [u64],
     place: usize,
-) -> Tally
+) -> Result<Tally, UnknownPiece>
     requires s_len_bound { length s.now ≤ limit }
     requires offset_le_limit { (offset ≤ limit) × (place ≤ limit) }
     ensures { Scanned exclusions s.now offset place text.old text.new records.old records.new result }
@@ -92,34 +120,32 @@ pub fn scan(
     let mut variables = 0;
     let mut excluded = 0;
     let mut used = offset;
+    // piece after piece: what a piece is tells which of two counts goes on
     loop {
-        let Next::Piece { first, past, next } = next_piece(s, at) else {
-            return Tally::Targets {
+        let Some(Piece { first, past, next }) = next_piece(s, at) else {
+            return Ok(Tally {
                 variables,
                 excluded,
                 used,
-            };
+            });
         };
         let p = &s[first..past];
+        at = next;
         match read_piece(p, exclusions) {
-            Reading::Unknown { begin, end } => {
-                return Tally::Unknown {
+            Err(UnknownName { begin, end }) => {
+                return Err(UnknownPiece {
                     piece: variables + excluded,
                     begin: first + begin,
                     end: first + end,
                     first,
                     past,
-                };
+                });
             }
-            Reading::Exclusion => {
-                excluded += 1;
-                at = next;
-            }
-            Reading::Variable(e) => {
-                put(p, first, e, text, used, records, place + variables);
-                used += e.past - e.first;
+            Ok(Entry::Exclusion(_)) => excluded += 1,
+            Ok(Entry::Variable(v)) => {
+                let e = Entry::Variable(v);
+                used = put(p, first, e, text, used, records, place + variables);
                 variables += 1;
-                at = next;
             }
         }
     }
@@ -143,26 +169,19 @@ pub fn add_exclusions(
     let mut at = 0;
     let mut used = offset;
     let mut count = place;
+    // by pieces, of which only those that are marked count
     while count - place < kept {
-        let Next::Piece { first, past, next } = next_piece(s, at) else {
+        let Some(Piece { first, past, next }) = next_piece(s, at) else {
             return used;
         };
+        at = next;
         if s[first] == b'!' {
-            let e = Entry {
-                kind: 2,
-                code: 0,
-                counts: false,
-                selection: 0,
-                spanned: true,
+            let e = Entry::Exclusion(Part {
                 first: 1,
                 past: past - first,
-            };
-            put(&s[first..past], first, e, text, used, records, count);
-            used += past - first - 1;
+            });
+            used = put(&s[first..past], first, e, text, used, records, count);
             count += 1;
-            at = next;
-        } else {
-            at = next;
         }
     }
     used

@@ -5,33 +5,33 @@
 ghost use Rattle.std.specs.Prelude.{◌≡◌};
 ghost use Rattle.xml.specs.Xml.{key_target, xml_target};
 
-// The Rust's enum, and Neither where it has no target.
-#[derive(Clone, Copy)]
+// What of an XML body a selection asks for, as in the Rust.
+#[derive(Clone, Copy, Debug, PartialEq, Eq)]
 pub enum XmlTarget {
     Elements,
     Attributes,
     All,
-    Neither,
 }
 
-fn key_target(t: &[u8]) -> XmlTarget
+fn key_target(t: &[u8]) -> Option<XmlTarget>
     ensures { result ≡ key_target t.now }
 {
     if ascii::same_lowered(t, b"/*") {
-        return XmlTarget::Elements;
+        return Some(XmlTarget::Elements);
     }
     if ascii::same_lowered(t, b"//@*") {
-        return XmlTarget::Attributes;
+        return Some(XmlTarget::Attributes);
     }
-    XmlTarget::Neither
+    None
 }
 
-pub fn xml_target(selection: u64, text: &[u8]) -> XmlTarget
+#[tactic(auto, unfolding(crate::specs::Xml::xml_target))]
+pub fn xml_target(selection: u64, text: &[u8]) -> Option<XmlTarget>
     ensures { result ≡ xml_target selection text.now }
 {
     match selection {
-        0 => XmlTarget::All,
+        0 => Some(XmlTarget::All),
         1 => key_target(ascii::trim(text)),
-        _ => XmlTarget::Neither,
+        _ => None,
     }
 }

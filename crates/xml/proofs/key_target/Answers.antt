@@ -7,7 +7,8 @@ use native.Mathlib.Omega.{arith}
 use Rattle.ascii.specs.Text.{bytes}
 use Rattle.ascii.specs.Fold.{same, same_lowered}
 use Rattle.ascii.proofs.FoldLaws.{same_below}
-use Rattle.xml.specs.Xml.{key_target, Elements, Attributes, Neither}
+use Rattle.std.specs.Prelude.{Some, None}
+use Rattle.xml.specs.Xml.{key_target, Elements, Attributes}
 use Rattle.xml.proofs.key_target.Goals as goal
 
 elements : (t : List ℕ) → same_lowered t (bytes "/*") ≡ same t (bytes "/*")
@@ -19,15 +20,15 @@ unfolding bytes
 attributes t = same_below t _ (omega arith, (omega arith, (omega arith, (omega arith, tt))))
 
 module _ (t : List ℕ) where
-  is_elements : same_lowered t (bytes "/*") ≡ true → key_target t ≡ Elements
+  is_elements : same_lowered t (bytes "/*") ≡ true → key_target t ≡ Some Elements
   unfolding key_target
   is_elements e = rw (← elements t, e)
 
-  is_attributes : same_lowered t (bytes "/*") ≡ false → same_lowered t (bytes "//@*") ≡ true → key_target t ≡ Attributes
+  is_attributes : same_lowered t (bytes "/*") ≡ false → same_lowered t (bytes "//@*") ≡ true → key_target t ≡ Some Attributes
   unfolding key_target
   is_attributes e f = rw (← elements t, e, ← attributes t, f)
 
-  is_neither : same_lowered t (bytes "/*") ≡ false → same_lowered t (bytes "//@*") ≡ false → key_target t ≡ Neither
+  is_neither : same_lowered t (bytes "/*") ≡ false → same_lowered t (bytes "//@*") ≡ false → key_target t ≡ None
   unfolding key_target
   is_neither e f = rw (← elements t, e, ← attributes t, f)
 

@@ -1,13 +1,12 @@
 use mathlib.Core.Path.{◌≡◌, ◌∙◌, ap}
-use mathlib.Core.Logic.{⊎_elim}
-use Prim.Native.Nat.{◌+◌, ◌-◌, ◌≤◌}
+use Prim.Native.Nat.{◌+◌, ◌≤◌}
 use native.Mathlib.Omega.{arith}
 use lib.ListN.{length, drop, get_or}
 use Rattle.ascii.specs.Splits.{first_of}
 use Rattle.ascii.proofs.ListLaws.{rest_is}
 use Rattle.actions.proofs.QuoteLaws.{Cutting, cutting_none, cutting_end, cutting_stop, cutting_opened, cutting_shut, cutting_deep, cutting_other, cutting_open, cutting_closed, run_fits, mark_is}
 use Rattle.actions.proofs.cutting.part_end.Goals as goal
-use Rattle.actions.proofs.cutting.part_end.Goals.{After-first_of, Joined-b}
+use Rattle.actions.proofs.cutting.part_end.Goals.{After-first_of, Joined-b, in-34+else-s-at, in-40, in-41, in-44+else-depth-eq0, in_default-1}
 
 -- the bytes up to the next mark
 run_is : (c : After-first_of) → let s = c.args.s.now in let at = c.loop-at.at in c.first_of.result ≡ first_of (get_or s at 0) (drop (at + 1) s)
@@ -41,8 +40,8 @@ returns-then-s-at c =
 pub overflow_add-depth : goal.overflow_add-depth
 overflow_add-depth c = omega (arith, c.loop-at.invariant.shallow)
 
-pub returns-then-depth-eq0 : goal.returns-then-depth-eq0
-returns-then-depth-eq0 c = cutting_stop c.loop-at.invariant c.loop-at-test.true c.in-44.is c.if-depth-eq0.true
+pub returns-in-44 : goal.returns-in-44
+returns-in-44 c = cutting_stop c.loop-at.invariant c.loop-at-test.true c.in-44.is c.if-depth-eq0.true
 
 -- by the arm that the byte took
 turned : (c : Joined-b) → let a = c.args in (c.loop-at.at ≤ c.match-b.at) × Cutting a.s.now a.from (c.match-b.at + 1) c.match-b.depth
@@ -51,18 +50,14 @@ turned c =
     let h = c.loop-at-test.true in
     let s = c.args.s.now in
     let at = c.loop-at.at in
-    ⊎_elim
-    (λ w. rw (w.at-is, w.depth-is) (omega arith, cutting_closed x h (mark_is _ w.in-34.is) _ (w.first_of.ensures ∙ ap (first_of (get_or s at 0)) (rest_is s (at + 1))) w.if-s-at.false))
-    (⊎_elim
-    (λ w. rw (w.at-is, w.depth-is) (omega arith, cutting_opened x h w.in-40.is))
-    (⊎_elim
-    (λ w. rw (w.at-is, w.depth-is) (omega arith, cutting_shut x h w.in-41.is))
-    (⊎_elim
-    (λ w. let e : c.loop-at.depth - 1 ≡ c.loop-at.depth = omega (arith, w.if-depth-gt0.false) in rw (w.at-is, w.depth-is) (omega arith, rw e at (cutting_shut x h w.in-41.is)))
-    (⊎_elim
-    (λ w. rw (w.at-is, w.depth-is) (omega arith, cutting_deep x h w.in-44.is w.if-depth-eq0.false))
-    (λ w. rw (w.at-is, w.depth-is) (omega arith, cutting_other x h (grind arith) (grind arith) (omega arith) (omega arith) (omega arith)))))))
-    c.match-b.branch-raw
+    elim c.match-b.branch [
+      | in-34+else-s-at w ↦
+          rw (w.at-is, w.depth-is) (omega arith, cutting_closed x h (mark_is _ w.in-34.is) _ (w.first_of.ensures ∙ ap (first_of (get_or s at 0)) (rest_is s (at + 1))) w.if-s-at.false)
+      | in-40 w ↦ rw (w.at-is, w.depth-is) (omega arith, cutting_opened x h w.in-40.is)
+      | in-41 w ↦ rw (w.at-is, w.depth-is, w.saturating_sub-depth.ensures) (omega arith, cutting_shut x h w.in-41.is)
+      | in-44+else-depth-eq0 w ↦ rw (w.at-is, w.depth-is) (omega arith, cutting_deep x h w.in-44.is w.if-depth-eq0.false)
+      | in_default-1 w ↦ rw (w.at-is, w.depth-is) (omega arith, cutting_other x h (grind arith) (grind arith) (omega arith) (omega arith) (omega arith))
+    ]
 
 pub overflow_add-at-in-loop-at : goal.overflow_add-at-in-loop-at
 overflow_add-at-in-loop-at c = omega (arith, (turned (goal.at.overflow_add-at-in-loop-at c).Joined-b).1.inside)

@@ -12,5 +12,5 @@ use Rattle.actions.proofs.lists.refuse_name.Goals as goal
 pub returns : goal.returns
 returns c =
     let name = lowered c.args.name.now in
-    let e = c.store_lowered.ensures ∙ ap (λ (l : List ℕ). stored l 0 name) c.clear_bytes.ensures in
-    record { text_after = refused_text_lem c.args.text.now name e (omega (arith, c.requires, length-map c.args.name.now lower)); records_after = c.clear_words.ensures; value = refl }
+    let e = c.store_lowered.ensures ∙ ap (λ (l : List ℕ). stored l 0 name) (c.fill-2.ensures.after (λ y e. e)) in
+    record { text_after = refused_text_lem c.args.text.now name e (omega (arith, c.requires, length-map c.args.name.now lower)); records_after = c.fill.ensures.after (λ y e. e); value = refl }

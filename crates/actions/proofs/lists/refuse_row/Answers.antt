@@ -12,4 +12,4 @@ pub returns : goal.returns
 returns c =
     let name = (row_at c.args.row).name in
     let e = c.put_name-name.ensures in
-    record { text_after = refused_text_lem c.args.text.now name (e.0 ∙ ap (λ (l : List ℕ). stored l 0 name) c.clear_bytes.ensures) c.requires; records_after = c.clear_words.ensures; value = ap (λ (n : ℕ). badly c.args.flaw c.args.piece n c.args.span) e.1 }
+    record { text_after = refused_text_lem c.args.text.now name (e.0 ∙ ap (λ (l : List ℕ). stored l 0 name) (c.fill-2.ensures.after (λ y e. e))) c.requires; records_after = c.fill.ensures.after (λ y e. e); value = ap (λ (n : ℕ). badly c.args.flaw c.args.piece n c.args.span) e.1 }

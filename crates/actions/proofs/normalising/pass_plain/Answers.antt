@@ -21,9 +21,9 @@ fits c =
 pub overflow_add-past : goal.overflow_add-past
 overflow_add-past c = omega (arith, fits (goal.at.overflow_add-past c).After-first_of)
 
-pub slice_bounds-store_bytes-end : goal.slice_bounds-store_bytes-end
-slice_bounds-store_bytes-end c = omega (arith, fits (goal.at.slice_bounds-store_bytes-end c).After-first_of)
+pub slice_bounds-store-end : goal.slice_bounds-store-end
+slice_bounds-store-end c = omega (arith, fits (goal.at.slice_bounds-store-end c).After-first_of)
 
 pub returns : goal.returns
 returns c =
-    record { place = ap (λ (k : ℕ). c.args.i + k) (span_is (goal.at.returns c).After-first_of); text = c.store_bytes.ensures }
+    record { place = ap (λ (k : ℕ). c.args.i + k) (span_is (goal.at.returns c).After-first_of); text = c.store.ensures }

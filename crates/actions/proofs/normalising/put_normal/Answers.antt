@@ -10,7 +10,7 @@ use Rattle.actions.proofs.NormalLoop.{Normalising, normalising_none}
 use Rattle.actions.proofs.PlainLaws.{passed_on}
 use Rattle.actions.proofs.NormalActLaws.{acted_none, acted_one, room_one, acted_two, room_two, held_room, held_all, ended_all}
 use Rattle.actions.proofs.normalising.put_normal.Goals as goal
-use Rattle.actions.proofs.normalising.put_normal.Goals.{After-pass_plain-past, Joined-mode}
+use Rattle.actions.proofs.normalising.put_normal.Goals.{After-pass_plain-past, Joined-mode, in-Plain, in_default}
 
 -- past a plain span
 spanned : (c : After-pass_plain-past) →
@@ -28,13 +28,13 @@ passed : (c : Joined-mode) →
 passed c =
     let a = c.args in
     let l = c.loop-mode in
-    ⊎_elim
-    (λ w.
-    let e = w.in-Plain.is in
-    let x = subst (λ (m : Mode). Normalising a.s.now a.out.now l.out m l.i l.n) e l.invariant in
-    rw (w.out-is, w.i-is, w.n-is, e) (passed_on c.requires x w.pass_plain-past.ensures))
-    (λ w. rw (w.out-is, w.i-is, w.n-is) (omega arith, l.invariant))
-    c.match-mode.branch-raw
+    elim c.match-mode.branch [
+      | in-Plain w ↦
+          let e = w.in-Plain.is in
+          let x = subst (λ (m : Mode). Normalising a.s.now a.out.now l.out m l.i l.n) e l.invariant in
+          rw (w.out-is, w.i-is, w.n-is, e) (passed_on c.requires x w.pass_plain-past.ensures)
+      | in_default w ↦ rw (w.out-is, w.i-is, w.n-is) (omega arith, l.invariant)
+    ]
 
 pub loop-mode-init : goal.loop-mode-init
 loop-mode-init c = normalising_none _ _

@@ -25,4 +25,4 @@ pub returns : goal.returns
 returns c =
     put_all c.args.s.now c.args.plan c.args.text.now c.args.used c.requires.plan_in_bounds
     c.put_text-b.ensures.text_after c.put_text-b.ensures.value c.put_text-c.ensures.text_after c.put_text-c.ensures.value c.put_text-end.ensures.text_after c.put_text-end.ensures.value
-    _ _ _ c.word_of.ensures c.word_of-2.ensures c.word_of-3.ensures c.store_words.ensures
+    _ _ _ c.word_of.ensures c.word_of-2.ensures c.word_of-3.ensures c.store.ensures

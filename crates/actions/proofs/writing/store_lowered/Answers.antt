@@ -9,9 +9,6 @@ use Rattle.actions.proofs.writing.store_lowered.Goals as goal
 pub returns-then-out-at : goal.returns-then-out-at
 returns-then-out-at c = sym (stored_short _ _ _ (omega (arith, length-map c.args.text.now lower)))
 
-pub returns-then-out-at-2 : goal.returns-then-out-at-2
-returns-then-out-at-2 c = sym (stored_short _ _ _ (omega (arith, length-map c.args.text.now lower)))
-
 pub loop-i-init : goal.loop-i-init
 loop-i-init c = storing_none _ _ _ (omega (arith, length-map c.args.text.now lower))
 

@@ -1,25 +1,26 @@
 use mathlib.Core.Path.{◌∙◌, sym}
 use Prim.Native.Nat.{◌≤◌}
 use native.Mathlib.Omega.{arith}
+use borrow.Author.Tests.{eqb-true, eqb-false}
 use lib.ListN.{get_or}
 use Rattle.ascii.proofs.NumberLaws.{begun, turned, refused, accepted, past_bound, past_word, no_digits, digit_bounds}
 use Rattle.ascii.proofs.numbers.digits.Goals as goal
 use Rattle.ascii.proofs.numbers.digits.Goals.{Else-not-is_digit}
 
-pub returns-then-s-eq0 : goal.returns-then-s-eq0
-returns-then-s-eq0 c = sym (no_digits _ c.args.s.now c.if-s-eq0.true)
+pub returns-then-is_empty : goal.returns-then-is_empty
+returns-then-is_empty c = sym (no_digits _ c.args.s.now (eqb-true _ 0 (sym c.is_empty.ensures ∙ c.if-is_empty.true)))
 
-pub loop-i-init : goal.loop-i-init
-loop-i-init c = begun c.args.s.now c.if-s-eq0.false
+pub loop-b-init : goal.loop-b-init
+loop-b-init c = begun c.args.s.now (eqb-false _ 0 (sym c.is_empty.ensures ∙ c.if-is_empty.false))
 
 pub returns-then-not-is_digit : goal.returns-then-not-is_digit
 returns-then-not-is_digit c =
-    let l = c.loop-i in
+    let l = c.loop-b in
     let w = sym c.is_digit.ensures ∙ c.if-not-is_digit.true in
-    sym (refused _ c.args.s.now l.sum l.i l.invariant c.loop-i-test.true w)
+    sym (refused _ c.args.s.now l.sum l.b-index l.invariant c.loop-b-test.true w)
 
 -- the byte is a digit
-digit_at : (c : Else-not-is_digit) → (48 ≤ get_or c.args.s.now c.loop-i.i 0) × (get_or c.args.s.now c.loop-i.i 0 ≤ 57)
+digit_at : (c : Else-not-is_digit) → (48 ≤ get_or c.args.s.now c.loop-b.b-index 0) × (get_or c.args.s.now c.loop-b.b-index 0 ≤ 57)
 digit_at c = digit_bounds _ (sym c.is_digit.ensures ∙ c.if-not-is_digit.false)
 
 pub overflow_sub-b : goal.overflow_sub-b
@@ -28,23 +29,23 @@ overflow_sub-b c = omega (arith, digit_at (goal.at.overflow_sub-b c).Else-not-is
 pub with_digit-sum-requires : goal.with_digit-sum-requires
 with_digit-sum-requires c = omega (arith, digit_at (goal.at.with_digit-sum-requires c).Else-not-is_digit)
 
-pub loop-i-preserved : goal.loop-i-preserved
-loop-i-preserved c =
-    let l = c.loop-i in
+pub loop-b-preserved : goal.loop-b-preserved
+loop-b-preserved c =
+    let l = c.loop-b in
     let w = sym c.is_digit.ensures ∙ c.if-not-is_digit.false in
-    turned c.args.s.now l.sum _ l.i l.invariant c.loop-i-test.true w c.with_digit-sum.ensures
+    turned c.args.s.now l.sum _ l.b-index l.invariant c.loop-b-test.true w c.with_digit-sum.ensures
+
+pub returns-in-Some : goal.returns-in-Some
+returns-in-Some c =
+    let l = c.loop-b in
+    sym (accepted _ c.args.s.now l.sum l.b-index l.invariant _ c.loop-b-test.false c.in-Some.is c.if-v-most.true)
 
 pub returns-in_default : goal.returns-in_default
 returns-in_default c =
-    let l = c.loop-i in
-    sym (past_word _ c.args.s.now l.sum l.i l.invariant c.loop-i-test.false c.in_default.is (omega arith))
+    let l = c.loop-b in
+    sym (past_bound _ c.args.s.now l.sum l.b-index l.invariant _ c.loop-b-test.false c.in-Some.is c.if-v-most.false)
 
-pub returns-then-v-most : goal.returns-then-v-most
-returns-then-v-most c =
-    let l = c.loop-i in
-    sym (accepted _ c.args.s.now l.sum l.i l.invariant _ c.loop-i-test.false c.in-Fits.is c.if-v-most.true)
-
-pub returns-else-v-most : goal.returns-else-v-most
-returns-else-v-most c =
-    let l = c.loop-i in
-    sym (past_bound _ c.args.s.now l.sum l.i l.invariant _ c.loop-i-test.false c.in-Fits.is c.if-v-most.false)
+pub returns-in_default-2 : goal.returns-in_default-2
+returns-in_default-2 c =
+    let l = c.loop-b in
+    sym (past_word _ c.args.s.now l.sum l.b-index l.invariant c.loop-b-test.false c.in_default.is (omega arith))

@@ -1,20 +1,26 @@
 -- By whether a `+` stands first.
 use mathlib.Core.Path.{◌≡◌, ◌∙◌, sym, ap}
-use mathlib.Core.Logic.{⊎_elim}
+use mathlib.Core.Bool.{true, false}
+use mathlib.Core.List.{List, [], ◌∷◌}
+use Prim.Native.Nat.{ℕ, ◌+◌}
+use lib.Dec.{eqb}
+use lib.ListN.{drop, take, length}
+use lib.Pointwise.{pointwise}
+use denote.Ref.{Bor}
+use Rattle.std.specs.Prelude.{Option, Some, None, MatchOption}
+use Rattle.std.specs.Option.{unwrap_or}
 use Rattle.ascii.specs.Numbers.{unsigned_by, after_plus, digits_by}
-use Rattle.ascii.proofs.ListLaws.{rest_is}
-use Rattle.ascii.proofs.SignLaws.{plus, no_plus, none_plus}
+use Rattle.ascii.proofs.SignLaws.{prefix_is, plus, none_plus}
 use Rattle.ascii.proofs.numbers.unsigned.Goals as goal
 
-pub returns-then-s-eq43 : goal.returns-then-s-eq43
-unfolding unsigned_by
-returns-then-s-eq43 c =
-    let s = c.args.s.now in
-    c.digits.ensures ∙ ap (digits_by _) (rest_is s 1 ∙ sym (plus s c.if-s-gt0.true c.if-s-eq43.true))
+stripped : (s : Bor (List ℕ)) (o : Option (Bor (List ℕ)))
+    → MatchOption o (pointwise eqb (take 1 s.now) (43 ∷ []) ≡ false) (λ x. (pointwise eqb (take 1 s.now) (43 ∷ []) ≡ true) × (x.now ≡ drop 1 s.now) × (length x.now + 1 ≡ length s.now))
+    → (unwrap_or o s).now ≡ after_plus s.now
+stripped s None h = sym (none_plus s.now (sym (prefix_is 43 s.now) ∙ h))
+stripped s (Some x) h = h.1 ∙ sym (plus s.now (sym (prefix_is 43 s.now) ∙ h.0))
 
 pub returns : goal.returns
 unfolding unsigned_by
 returns c =
-    let s = c.args.s.now in
-    let e : after_plus s ≡ s = ⊎_elim (λ w. no_plus s w.if-s-eq43.false) (λ w. none_plus s w.if-s-gt0.false) c.if-s-gt0.branch-raw in
-    c.digits-2.ensures ∙ ap (digits_by _) (sym e)
+    let s = c.args.s in
+    c.digits.ensures ∙ ap (digits_by _) (ap (λ (r : Bor (List ℕ)). r.now) c.unwrap_or.ensures ∙ stripped s c.strip_prefix.result c.strip_prefix.ensures.cases)

@@ -5,14 +5,8 @@ use Rattle.ascii.specs.Splits.{other}
 use Rattle.ascii.proofs.SplitLaws.{passes, stops}
 use Rattle.ascii.proofs.searching.first_of.Goals as goal
 
-pub passed-eights-requires : goal.passed-eights-requires
-passed-eights-requires c = (omega arith, omega arith)
-
-pub passed-i-requires : goal.passed-i-requires
-passed-i-requires c = (omega (arith, c.passed-eights.ensures.upper_bound), omega arith)
-
 pub loop-i-init : goal.loop-i-init
-loop-i-init c = (omega (arith, c.passed-i.ensures.upper_bound), omega (arith, c.passed-i.ensures.s_value, c.passed-eights.ensures.s_value))
+loop-i-init c = omega (arith, c.passed-fours.ensures.s_value, c.passed-eights.ensures.s_value)
 
 pub returns-then-s-i : goal.returns-then-s-i
 returns-then-s-i c =

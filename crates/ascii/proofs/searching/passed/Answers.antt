@@ -1,26 +1,15 @@
+use mathlib.Core.Path.{◌≡◌}
+use Prim.Native.Nat.{◌+◌, ◌-◌}
 use native.Mathlib.Omega.{arith}
+use lib.ListN.{drop, length-drop}
+use lib.Seq.{drop-drop}
+use Rattle.ascii.proofs.LackLaws.{past}
 use Rattle.ascii.proofs.searching.passed.Goals as goal
 
-pub loop-at-init : goal.loop-at-init
-loop-at-init c = (omega arith, omega arith)
-
-pub overflow_sub-s : goal.overflow_sub-s
-overflow_sub-s c = omega arith
-
-pub lacks-requires : goal.lacks-requires
-lacks-requires c = omega arith
-
-pub returns-then-not-lacks : goal.returns-then-not-lacks
-returns-then-not-lacks c = record { upper_bound = c.loop-at.invariant.0; s_value = c.loop-at.invariant.1 }
-
-pub overflow_add-at : goal.overflow_add-at
-overflow_add-at c = omega arith
-
-pub loop-at-smaller : goal.loop-at-smaller
-loop-at-smaller c = omega arith
-
 pub loop-at-preserved : goal.loop-at-preserved
-loop-at-preserved c = (omega arith, omega (arith, c.lacks.ensures c.if-not-lacks.false))
-
-pub returns : goal.returns
-returns c = record { upper_bound = c.loop-at.invariant.0; s_value = c.loop-at.invariant.1 }
+loop-at-preserved c =
+    let x = c.args in
+    let at = c.loop-at.at in
+    let n : at + x.n - at ≡ x.n = omega arith in
+    let p = past x.m (drop at x.s.now) x.n (rw length-drop (omega arith)) (rw n at (c.lacks.ensures c.if-lacks.true)) in
+    (omega arith, omega (arith, rw drop-drop at p))

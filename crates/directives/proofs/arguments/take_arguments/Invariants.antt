@@ -4,8 +4,8 @@ use lib.ListN.{length}
 use Rattle.directives.proofs.ArgumentLaws.{Going}
 use Rattle.directives.proofs.arguments.take_arguments.Given as goal
 
-abbrev pub invariant-loop-t : goal.invariant-loop-t
-invariant-loop-t l = Going l.s l.initial.here l.past l.held l.initial.scratch l.scratch l.here l.arguments
+abbrev pub invariant-loop-next : goal.invariant-loop-next
+invariant-loop-next l = Going l.s l.initial.here l.past l.held l.initial.scratch l.scratch l.here l.arguments
 
-abbrev pub decreases-loop-t : goal.decreases-loop-t
-decreases-loop-t l = length l.s - l.here.place
+abbrev pub decreases-loop-next : goal.decreases-loop-next
+decreases-loop-next l = length l.s - l.here.place

@@ -1,16 +1,17 @@
 -- What the list came to is one law of ListLaws for every answer.
+use mathlib.Core.Path.{refl}
 use Rattle.lexer.specs.Steps.{part}
-use Rattle.directives.proofs.ListLaws.{actions_judged}
+use Rattle.directives.proofs.ListLaws.{actions_fitted, actions_judged}
 use Rattle.directives.proofs.parts.add_actions.Goals as goal
 
-pub returns-in-Read : goal.returns-in-Read
-returns-in-Read c = let a = c.args in actions_judged a.e a.line a.place (part a.scratch.now a.first a.past) a.text.now _ a.records.now _ _ c.read_list-list.ensures _ c.in-Read.is
+pub unreachable-requires : goal.unreachable-requires
+unreachable-requires c = let a = c.args in actions_fitted a.e a.line a.place (part a.scratch.now a.first a.past) a.text.now _ a.records.now _ _ (rw c.in-Err-Unfit.field-0-is at c.in-Err-Unfit.ensures) refl
 
-pub returns-in-Unknown : goal.returns-in-Unknown
-returns-in-Unknown c = let a = c.args in rw c.in_argument.ensures (actions_judged a.e a.line a.place (part a.scratch.now a.first a.past) a.text.now _ a.records.now _ _ c.read_list-list.ensures _ c.in-Unknown.is)
+pub returns-in-Ok : goal.returns-in-Ok
+returns-in-Ok c = let a = c.args in actions_judged a.e a.line a.place (part a.scratch.now a.first a.past) a.text.now _ a.records.now _ _ c.in-Ok.ensures
 
-pub returns-in-Bad : goal.returns-in-Bad
-returns-in-Bad c = let a = c.args in rw c.in_argument-in-Bad.ensures (actions_judged a.e a.line a.place (part a.scratch.now a.first a.past) a.text.now _ a.records.now _ _ c.read_list-list.ensures _ c.in-Bad.is)
+pub returns-in-Err-Unknown : goal.returns-in-Err-Unknown
+returns-in-Err-Unknown c = let a = c.args in rw c.in-Err-Unknown.field-0-is (actions_judged a.e a.line a.place (part a.scratch.now a.first a.past) a.text.now _ a.records.now _ _ (rw c.in-Err-Unknown.field-0-is at c.in-Err-Unknown.ensures))
 
-pub returns-in-Unfit : goal.returns-in-Unfit
-returns-in-Unfit c = let a = c.args in actions_judged a.e a.line a.place (part a.scratch.now a.first a.past) a.text.now _ a.records.now _ _ c.read_list-list.ensures _ c.in-Unfit.is
+pub returns-in-Err-Bad : goal.returns-in-Err-Bad
+returns-in-Err-Bad c = let a = c.args in rw c.in-Err-Bad.field-0-is (actions_judged a.e a.line a.place (part a.scratch.now a.first a.past) a.text.now _ a.records.now _ _ (rw c.in-Err-Bad.field-0-is at c.in-Err-Bad.ensures))

@@ -1,36 +1,28 @@
 -- By the gate's answer, and then by how reading ends; each way is one law of EndingLaws.
-use mathlib.Core.Path.{◌∙◌, refl, ap}
+use mathlib.Core.Path.{◌∙◌, ap}
+use Rattle.std.proofs.lemmas.Result.{err_from_is_err_and}
 use Rattle.lent.specs.Buffers.{zeros}
-use Rattle.directives.proofs.EndingLaws.{open_rooms, too_long, not_ascii, short, refused, finished}
+use Rattle.directives.proofs.EndingLaws.{open_rooms, gated, refused, finished}
 use Rattle.directives.proofs.reading.directives.Goals as goal
 
-pub returns-in-TooLong : goal.returns-in-TooLong
-returns-in-TooLong c =
+pub returns-in_err-admit : goal.returns-in_err-admit
+returns-in_err-admit c =
     let a = c.args in
-    too_long a.version a.input.now a.text.now a.scratch.now a.records.now a.variables.now a.actions.now refl c.admit.ensures c.in-TooLong.is
-
-pub returns-in-NotAscii : goal.returns-in-NotAscii
-returns-in-NotAscii c =
-    let a = c.args in
-    not_ascii a.version a.input.now a.text.now a.scratch.now a.records.now a.variables.now a.actions.now refl c.admit.ensures _ c.in-NotAscii.is
-
-pub returns-in-Short : goal.returns-in-Short
-returns-in-Short c =
-    let a = c.args in
-    short a.version a.input.now a.text.now a.scratch.now a.records.now a.variables.now a.actions.now refl c.admit.ensures c.in-Short.is
+    let p = err_from_is_err_and c.from_residual.result c.from_residual.ensures.1 in
+    rw (p.1, p.2) (gated a.version a.input.now a.text.now a.scratch.now a.records.now a.variables.now a.actions.now c.min.ensures c.admit.ensures _ c.in_err-admit.was)
 
 pub read_all-ended-requires : goal.read_all-ended-requires
 read_all-ended-requires c =
     let a = c.args in
-    open_rooms a.version a.input.now a.text.now a.scratch.now a.records.now a.variables.now a.actions.now refl c.admit.ensures c.in-Open.is
+    open_rooms a.version a.input.now a.text.now a.scratch.now a.records.now a.variables.now a.actions.now c.min.ensures c.admit.ensures c.in_ok-admit.was
 
-pub returns-in-First : goal.returns-in-First
-returns-in-First c =
+pub returns-in-Err : goal.returns-in-Err
+returns-in-Err c =
     let a = c.args in
     let k = c.read_all-ended.auto in
-    refused a.version a.input.now a.text.now a.scratch.now a.records.now a.variables.now a.actions.now refl c.admit.ensures c.in-Open.is (c.clear_bytes.ensures ∙ ap zeros k.scratch) (rw c.in-First.is at c.read_all-ended.ensures) k.text k.records k.variables k.actions c.refuse.ensures
+    refused a.version a.input.now a.text.now a.scratch.now a.records.now a.variables.now a.actions.now c.min.ensures c.admit.ensures c.in_ok-admit.was (c.fill.ensures.after (λ y e. e) ∙ ap zeros k.scratch) (rw c.in-Err.is at c.read_all-ended.ensures) k.text k.records k.variables k.actions c.refuse.ensures
 
-pub returns-in-All : goal.returns-in-All
-returns-in-All c =
+pub returns-in-Ok : goal.returns-in-Ok
+returns-in-Ok c =
     let a = c.args in
-    finished a.version a.input.now a.text.now a.scratch.now a.records.now a.variables.now a.actions.now refl c.admit.ensures c.in-Open.is (c.clear_bytes.ensures ∙ ap zeros c.read_all-ended.auto.scratch) (rw c.in-All.is at c.read_all-ended.ensures) c.finish.ensures
+    finished a.version a.input.now a.text.now a.scratch.now a.records.now a.variables.now a.actions.now c.min.ensures c.admit.ensures c.in_ok-admit.was (c.fill.ensures.after (λ y e. e) ∙ ap zeros c.read_all-ended.auto.scratch) (rw c.in-Ok.is at c.read_all-ended.ensures) c.finish.ensures

@@ -1,7 +1,7 @@
 use mathlib.Core.Path.{◌∙◌, sym, ap, refl}
 use native.Mathlib.Omega.{arith}
 use Rattle.lexer.specs.declared.stepping.Lexeme.{Lexeme}
-use Rattle.directives.proofs.TextLaws.{begun, lengths, ended, passed, not_taken, ready, heard, stand, tally_low, faulty, lacking, put_fits, count_fits, turned}
+use Rattle.directives.proofs.TextLaws.{begun, ended, passed, not_taken, ready, heard, stand, tally_low, faulty, lacking, put_fits, count_fits, turned}
 use Rattle.directives.proofs.reading.read_all.Goals as goal
 
 pub loop-stop-init : goal.loop-stop-init
@@ -10,41 +10,11 @@ loop-stop-init c = (rw c.nothing_yet-t.ensures (begun c.args.version c.args.s.no
 pub token_from-requires : goal.token_from-requires
 token_from-requires c = record { s_len_bound = c.requires.0; reached = c.loop-stop.invariant.0.arrived; s_in_bounds = (omega (arith, c.loop-stop.invariant.1, c.requires.1.1), omega arith) }
 
-pub shape_of-text-in-Nothing : goal.shape_of-text-in-Nothing
-shape_of-text-in-Nothing c = (lengths c.args.version c.args.s.now c.args.text.now c.args.records.now c.args.variables.now c.args.actions.now c.requires.0 c.requires.1.0 c.loop-stop.invariant.0).0
-
-pub shape_of-scratch-in-Nothing : goal.shape_of-scratch-in-Nothing
-shape_of-scratch-in-Nothing c = c.token_from.auto.scratch ∙ c.loop-stop.invariant.1
-
-pub shape_of-records-in-Nothing : goal.shape_of-records-in-Nothing
-shape_of-records-in-Nothing c = (lengths c.args.version c.args.s.now c.args.text.now c.args.records.now c.args.variables.now c.args.actions.now c.requires.0 c.requires.1.0 c.loop-stop.invariant.0).1.0
-
-pub shape_of-variables-in-Nothing : goal.shape_of-variables-in-Nothing
-shape_of-variables-in-Nothing c = (lengths c.args.version c.args.s.now c.args.text.now c.args.records.now c.args.variables.now c.args.actions.now c.requires.0 c.requires.1.0 c.loop-stop.invariant.0).1.1.0
-
-pub shape_of-actions-in-Nothing : goal.shape_of-actions-in-Nothing
-shape_of-actions-in-Nothing c = (lengths c.args.version c.args.s.now c.args.text.now c.args.records.now c.args.variables.now c.args.actions.now c.requires.0 c.requires.1.0 c.loop-stop.invariant.0).1.1.1
-
 pub returns-in-Nothing : goal.returns-in-Nothing
 returns-in-Nothing c = rw c.at_end.ensures (ended c.args.version c.args.s.now c.args.text.now c.args.records.now c.args.variables.now c.args.actions.now c.requires.0 c.requires.1.0 c.loop-stop.invariant.0 (rw c.in-Nothing.is at c.token_from.ensures))
 
-pub shape_of-text-in-Argues : goal.shape_of-text-in-Argues
-shape_of-text-in-Argues c = (lengths c.args.version c.args.s.now c.args.text.now c.args.records.now c.args.variables.now c.args.actions.now c.requires.0 c.requires.1.0 c.loop-stop.invariant.0).0
-
-pub shape_of-scratch-in-Argues : goal.shape_of-scratch-in-Argues
-shape_of-scratch-in-Argues c = c.token_from.auto.scratch ∙ c.loop-stop.invariant.1
-
-pub shape_of-records-in-Argues : goal.shape_of-records-in-Argues
-shape_of-records-in-Argues c = (lengths c.args.version c.args.s.now c.args.text.now c.args.records.now c.args.variables.now c.args.actions.now c.requires.0 c.requires.1.0 c.loop-stop.invariant.0).1.0
-
-pub shape_of-variables-in-Argues : goal.shape_of-variables-in-Argues
-shape_of-variables-in-Argues c = (lengths c.args.version c.args.s.now c.args.text.now c.args.records.now c.args.variables.now c.args.actions.now c.requires.0 c.requires.1.0 c.loop-stop.invariant.0).1.1.0
-
-pub shape_of-actions-in-Argues : goal.shape_of-actions-in-Argues
-shape_of-actions-in-Argues c = (lengths c.args.version c.args.s.now c.args.text.now c.args.records.now c.args.variables.now c.args.actions.now c.requires.0 c.requires.1.0 c.loop-stop.invariant.0).1.1.1
-
 pub returns-in-Argues : goal.returns-in-Argues
-returns-in-Argues c = rw c.ended_at.ensures (not_taken c.args.version c.args.s.now c.args.text.now c.args.records.now c.args.variables.now c.args.actions.now c.requires.0 c.requires.1.0 c.loop-stop.invariant.0 (rw c.in-Token.is at c.token_from.ensures) (sym c.role_of.ensures ∙ c.in-Argues.is))
+returns-in-Argues c = rw c.at_line.ensures (not_taken c.args.version c.args.s.now c.args.text.now c.args.records.now c.args.variables.now c.args.actions.now c.requires.0 c.requires.1.0 c.loop-stop.invariant.0 (rw c.in-Token.is at c.token_from.ensures) (sym c.role_of.ensures ∙ c.in-Argues.is))
 
 pub loop-stop-smaller-in-Closes : goal.loop-stop-smaller-in-Closes
 loop-stop-smaller-in-Closes c = let x = (rw c.in-Token.is at c.token_from.ensures) in omega (arith, x.ahead, x.arrived.inside)
@@ -61,53 +31,23 @@ read_body-requires c = ready c.args.version c.args.s.now c.args.text.now c.args.
 pub settle_fault-requires : goal.settle_fault-requires
 settle_fault-requires c = (heard c.args.version c.args.s.now c.args.text.now c.args.records.now c.args.variables.now c.args.actions.now c.requires.0 c.requires.1.0 c.loop-stop.invariant.0 (rw c.in-Token.is at c.token_from.ensures) (omega (arith, c.loop-stop.invariant.1, c.requires.1.1)) (sym c.role_of.ensures ∙ c.in-Opens.is) c.take_arguments-taken.ensures _ c.read_body.auto.scratch, c.take_arguments-taken.ensures.arguments_are, stand c.args.version c.args.s.now c.args.text.now c.args.records.now c.args.variables.now c.args.actions.now c.requires.0 c.requires.1.0 c.loop-stop.invariant.0 (rw c.in-Token.is at c.token_from.ensures) (omega (arith, c.loop-stop.invariant.1, c.requires.1.1)) (sym c.role_of.ensures ∙ c.in-Opens.is) c.take_arguments-taken.ensures)
 
-pub shape_of-text-in-Bad : goal.shape_of-text-in-Bad
-shape_of-text-in-Bad c = c.read_body.auto.text ∙ (lengths c.args.version c.args.s.now c.args.text.now c.args.records.now c.args.variables.now c.args.actions.now c.requires.0 c.requires.1.0 c.loop-stop.invariant.0).0
-
-pub shape_of-scratch-in-Bad : goal.shape_of-scratch-in-Bad
-shape_of-scratch-in-Bad c = c.settle_fault.auto.scratch ∙ c.read_body.auto.scratch ∙ c.take_arguments-taken.auto.scratch ∙ c.token_from.auto.scratch ∙ c.loop-stop.invariant.1
-
-pub shape_of-records-in-Bad : goal.shape_of-records-in-Bad
-shape_of-records-in-Bad c = (lengths c.args.version c.args.s.now c.args.text.now c.args.records.now c.args.variables.now c.args.actions.now c.requires.0 c.requires.1.0 c.loop-stop.invariant.0).1.0
-
-pub shape_of-variables-in-Bad : goal.shape_of-variables-in-Bad
-shape_of-variables-in-Bad c = c.read_body.auto.variables ∙ (lengths c.args.version c.args.s.now c.args.text.now c.args.records.now c.args.variables.now c.args.actions.now c.requires.0 c.requires.1.0 c.loop-stop.invariant.0).1.1.0
-
-pub shape_of-actions-in-Bad : goal.shape_of-actions-in-Bad
-shape_of-actions-in-Bad c = c.read_body.auto.actions ∙ (lengths c.args.version c.args.s.now c.args.text.now c.args.records.now c.args.variables.now c.args.actions.now c.requires.0 c.requires.1.0 c.loop-stop.invariant.0).1.1.1
-
-pub returns-in-Bad : goal.returns-in-Bad
-returns-in-Bad c = rw c.settle_fault.ensures (faulty c.args.version c.args.s.now c.args.text.now c.args.records.now c.args.variables.now c.args.actions.now c.requires.0 c.requires.1.0 c.loop-stop.invariant.0 (rw c.in-Token.is at c.token_from.ensures) (omega (arith, c.loop-stop.invariant.1, c.requires.1.1)) (sym c.role_of.ensures ∙ c.in-Opens.is) c.take_arguments-taken.ensures _ refl _ _ _ _ (rw c.in-Bad.is at c.read_body.ensures))
+pub returns-in-Err : goal.returns-in-Err
+returns-in-Err c = rw c.settle_fault.ensures (faulty c.args.version c.args.s.now c.args.text.now c.args.records.now c.args.variables.now c.args.actions.now c.requires.0 c.requires.1.0 c.loop-stop.invariant.0 (rw c.in-Token.is at c.token_from.ensures) (omega (arith, c.loop-stop.invariant.1, c.requires.1.1)) (sym c.role_of.ensures ∙ c.in-Opens.is) c.take_arguments-taken.ensures _ refl _ _ _ _ (rw c.in-Err.is at c.read_body.ensures))
 
 pub settle-requires : goal.settle-requires
 settle-requires c = record { heard = (heard c.args.version c.args.s.now c.args.text.now c.args.records.now c.args.variables.now c.args.actions.now c.requires.0 c.requires.1.0 c.loop-stop.invariant.0 (rw c.in-Token.is at c.token_from.ensures) (omega (arith, c.loop-stop.invariant.1, c.requires.1.1)) (sym c.role_of.ensures ∙ c.in-Opens.is) c.take_arguments-taken.ensures _ c.read_body.auto.scratch, c.take_arguments-taken.ensures.arguments_are, stand c.args.version c.args.s.now c.args.text.now c.args.records.now c.args.variables.now c.args.actions.now c.requires.0 c.requires.1.0 c.loop-stop.invariant.0 (rw c.in-Token.is at c.token_from.ensures) (omega (arith, c.loop-stop.invariant.1, c.requires.1.1)) (sym c.role_of.ensures ∙ c.in-Opens.is) c.take_arguments-taken.ensures); variables_le_limit = tally_low c.args.version c.args.s.now c.args.text.now c.args.records.now c.args.variables.now c.args.actions.now c.requires.0 c.requires.1.0 c.loop-stop.invariant.0 (rw c.in-Token.is at c.token_from.ensures) (omega (arith, c.loop-stop.invariant.1, c.requires.1.1)) (sym c.role_of.ensures ∙ c.in-Opens.is) c.take_arguments-taken.ensures }
 
-pub shape_of-text-then-lacks_id : goal.shape_of-text-then-lacks_id
-shape_of-text-then-lacks_id c = c.read_body.auto.text ∙ (lengths c.args.version c.args.s.now c.args.text.now c.args.records.now c.args.variables.now c.args.actions.now c.requires.0 c.requires.1.0 c.loop-stop.invariant.0).0
-
-pub shape_of-scratch-then-lacks_id : goal.shape_of-scratch-then-lacks_id
-shape_of-scratch-then-lacks_id c = c.settle.auto.scratch ∙ c.read_body.auto.scratch ∙ c.take_arguments-taken.auto.scratch ∙ c.token_from.auto.scratch ∙ c.loop-stop.invariant.1
-
-pub shape_of-records-then-lacks_id : goal.shape_of-records-then-lacks_id
-shape_of-records-then-lacks_id c = (lengths c.args.version c.args.s.now c.args.text.now c.args.records.now c.args.variables.now c.args.actions.now c.requires.0 c.requires.1.0 c.loop-stop.invariant.0).1.0
-
-pub shape_of-variables-then-lacks_id : goal.shape_of-variables-then-lacks_id
-shape_of-variables-then-lacks_id c = c.settle.auto.variables ∙ c.read_body.auto.variables ∙ (lengths c.args.version c.args.s.now c.args.text.now c.args.records.now c.args.variables.now c.args.actions.now c.requires.0 c.requires.1.0 c.loop-stop.invariant.0).1.1.0
-
-pub shape_of-actions-then-lacks_id : goal.shape_of-actions-then-lacks_id
-shape_of-actions-then-lacks_id c = c.settle.auto.actions ∙ c.read_body.auto.actions ∙ (lengths c.args.version c.args.s.now c.args.text.now c.args.records.now c.args.variables.now c.args.actions.now c.requires.0 c.requires.1.0 c.loop-stop.invariant.0).1.1.1
-
 pub returns-then-lacks_id : goal.returns-then-lacks_id
-returns-then-lacks_id c = rw c.ended_at-then-lacks_id.ensures (lacking c.args.version c.args.s.now c.args.text.now c.args.records.now c.args.variables.now c.args.actions.now c.requires.0 c.requires.1.0 c.loop-stop.invariant.0 (rw c.in-Token.is at c.token_from.ensures) (omega (arith, c.loop-stop.invariant.1, c.requires.1.1)) (sym c.role_of.ensures ∙ c.in-Opens.is) c.take_arguments-taken.ensures _ refl _ _ _ c.in-Good.e (rw c.in-Good.is at c.read_body.ensures) _ _ c.settle.ensures (sym c.lacks_id.ensures ∙ c.if-lacks_id.true))
+returns-then-lacks_id c = rw c.at_line-then-lacks_id.ensures (lacking c.args.version c.args.s.now c.args.text.now c.args.records.now c.args.variables.now c.args.actions.now c.requires.0 c.requires.1.0 c.loop-stop.invariant.0 (rw c.in-Token.is at c.token_from.ensures) (omega (arith, c.loop-stop.invariant.1, c.requires.1.1)) (sym c.role_of.ensures ∙ c.in-Opens.is) c.take_arguments-taken.ensures _ refl _ _ _ c.in-Ok.e (rw c.in-Ok.is at c.read_body.ensures) _ _ c.settle.ensures (sym c.lacks_id.ensures ∙ c.if-lacks_id.true))
 
 pub put_directive-requires : goal.put_directive-requires
-put_directive-requires c = put_fits c.args.version c.args.s.now c.args.text.now c.args.records.now c.args.variables.now c.args.actions.now c.requires.0 c.requires.1.0 c.loop-stop.invariant.0 (rw c.in-Token.is at c.token_from.ensures) (omega (arith, c.loop-stop.invariant.1, c.requires.1.1)) (sym c.role_of.ensures ∙ c.in-Opens.is) c.take_arguments-taken.ensures _ refl _ _ _ c.in-Good.e (rw c.in-Good.is at c.read_body.ensures) _ _ c.settle.ensures
+put_directive-requires c = put_fits c.args.version c.args.s.now c.args.text.now c.args.records.now c.args.variables.now c.args.actions.now c.requires.0 c.requires.1.0 c.loop-stop.invariant.0 (rw c.in-Token.is at c.token_from.ensures) (omega (arith, c.loop-stop.invariant.1, c.requires.1.1)) (sym c.role_of.ensures ∙ c.in-Opens.is) c.take_arguments-taken.ensures _ refl _ _ _ c.in-Ok.e (rw c.in-Ok.is at c.read_body.ensures) _ _ c.settle.ensures
 
 pub counted-t-requires : goal.counted-t-requires
-counted-t-requires c = count_fits c.args.version c.args.s.now c.args.text.now c.args.records.now c.args.variables.now c.args.actions.now c.requires.0 c.requires.1.0 c.loop-stop.invariant.0 (rw c.in-Token.is at c.token_from.ensures) (omega (arith, c.loop-stop.invariant.1, c.requires.1.1)) (sym c.role_of.ensures ∙ c.in-Opens.is) c.take_arguments-taken.ensures _ refl _ _ _ c.in-Good.e (rw c.in-Good.is at c.read_body.ensures) _ _ c.settle.ensures
+counted-t-requires c = count_fits c.args.version c.args.s.now c.args.text.now c.args.records.now c.args.variables.now c.args.actions.now c.requires.0 c.requires.1.0 c.loop-stop.invariant.0 (rw c.in-Token.is at c.token_from.ensures) (omega (arith, c.loop-stop.invariant.1, c.requires.1.1)) (sym c.role_of.ensures ∙ c.in-Opens.is) c.take_arguments-taken.ensures _ refl _ _ _ c.in-Ok.e (rw c.in-Ok.is at c.read_body.ensures) _ _ c.settle.ensures
 
 pub loop-stop-smaller : goal.loop-stop-smaller
 loop-stop-smaller c = let x = (rw c.in-Token.is at c.token_from.ensures) in let y = c.take_arguments-taken.ensures in omega (arith, x.ahead, y.short, y.arrived.inside)
 
 pub loop-stop-preserved : goal.loop-stop-preserved
-loop-stop-preserved c = (turned c.args.version c.args.s.now c.args.text.now c.args.records.now c.args.variables.now c.args.actions.now c.requires.0 c.requires.1.0 c.loop-stop.invariant.0 (rw c.in-Token.is at c.token_from.ensures) (omega (arith, c.loop-stop.invariant.1, c.requires.1.1)) (sym c.role_of.ensures ∙ c.in-Opens.is) c.take_arguments-taken.ensures _ refl _ _ _ c.in-Good.e (rw c.in-Good.is at c.read_body.ensures) _ _ c.settle.ensures (sym c.lacks_id.ensures ∙ c.if-lacks_id.false) _ c.put_directive.ensures _ c.counted-t.ensures, c.settle.auto.scratch ∙ c.read_body.auto.scratch ∙ c.take_arguments-taken.auto.scratch ∙ c.token_from.auto.scratch ∙ c.loop-stop.invariant.1)
+loop-stop-preserved c = (turned c.args.version c.args.s.now c.args.text.now c.args.records.now c.args.variables.now c.args.actions.now c.requires.0 c.requires.1.0 c.loop-stop.invariant.0 (rw c.in-Token.is at c.token_from.ensures) (omega (arith, c.loop-stop.invariant.1, c.requires.1.1)) (sym c.role_of.ensures ∙ c.in-Opens.is) c.take_arguments-taken.ensures _ refl _ _ _ c.in-Ok.e (rw c.in-Ok.is at c.read_body.ensures) _ _ c.settle.ensures (sym c.lacks_id.ensures ∙ c.if-lacks_id.false) _ c.put_directive.ensures _ c.counted-t.ensures, c.settle.auto.scratch ∙ c.read_body.auto.scratch ∙ c.take_arguments-taken.auto.scratch ∙ c.token_from.auto.scratch ∙ c.loop-stop.invariant.1)

@@ -3,7 +3,6 @@ use mathlib.Core.Path.{◌≡◌, ◌∙◌, sym}
 use mathlib.Core.Bool.{true, false}
 use mathlib.Core.List.{List}
 use Prim.Native.Nat.{ℕ}
-use borrow.Author.Rules.{rules}
 use Rattle.ascii.specs.Text.{bytes}
 use Rattle.ascii.specs.Fold.{same_lowered}
 use Rattle.directives.specs.Directives.{of_rule, of_action, of_marker, of_defaults, of_other, shape_of}
@@ -30,29 +29,17 @@ module _ (t : List ℕ) where
   unfolding shape_of
   is_other a b c d = rw (a, b, c, d)
 
-pub same_lowered-requires : goal.same_lowered-requires
-same_lowered-requires c = search rules
-
 pub returns-then-same_lowered : goal.returns-then-same_lowered
 unfolding bytes
 returns-then-same_lowered c = sym (is_rule _ (sym c.same_lowered.ensures ∙ c.if-same_lowered.true))
-
-pub same_lowered-requires-2 : goal.same_lowered-requires-2
-same_lowered-requires-2 c = search rules
 
 pub returns-then-same_lowered-2 : goal.returns-then-same_lowered-2
 unfolding bytes
 returns-then-same_lowered-2 c = sym (is_action _ (sym c.same_lowered.ensures ∙ c.if-same_lowered.false) (sym c.same_lowered-2.ensures ∙ c.if-same_lowered-2.true))
 
-pub same_lowered-requires-3 : goal.same_lowered-requires-3
-same_lowered-requires-3 c = search rules
-
 pub returns-then-same_lowered-3 : goal.returns-then-same_lowered-3
 unfolding bytes
 returns-then-same_lowered-3 c = sym (is_marker _ (sym c.same_lowered.ensures ∙ c.if-same_lowered.false) (sym c.same_lowered-2.ensures ∙ c.if-same_lowered-2.false) (sym c.same_lowered-3.ensures ∙ c.if-same_lowered-3.true))
-
-pub same_lowered-requires-4 : goal.same_lowered-requires-4
-same_lowered-requires-4 c = search rules
 
 pub returns-then-same_lowered-4 : goal.returns-then-same_lowered-4
 unfolding bytes

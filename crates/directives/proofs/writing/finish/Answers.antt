@@ -14,7 +14,7 @@ fit c =
 pub returns-then-lacks_room : goal.returns-then-lacks_room
 returns-then-lacks_room c =
     let a = c.args in
-    ends_full a.t a.text.now a.records.now a.variables.now a.actions.now c.lacks_room.ensures c.if-lacks_room.true c.clear_bytes.ensures c.clear_words.ensures c.clear_words-then-lacks_room.ensures c.clear_words-then-lacks_room-2.ensures
+    ends_full a.t a.text.now a.records.now a.variables.now a.actions.now c.lacks_room.ensures c.if-lacks_room.true (c.fill.ensures.after (λ y e. e)) (c.fill-then-lacks_room.ensures.after (λ y e. e)) (c.fill-then-lacks_room-2.ensures.after (λ y e. e)) (c.fill-then-lacks_room-3.ensures.after (λ y e. e))
 
 pub overflow_mul-words : goal.overflow_mul-words
 overflow_mul-words c = omega (arith, fit (goal.at.overflow_mul-words c).Else-lacks_room, c.well_formed)
@@ -22,11 +22,11 @@ overflow_mul-words c = omega (arith, fit (goal.at.overflow_mul-words c).Else-lac
 pub offset_bounds-records-words : goal.offset_bounds-records-words
 offset_bounds-records-words c = omega (arith, fit (goal.at.offset_bounds-records-words c).Else-lacks_room, c.well_formed)
 
-pub slice_bounds-clear_words-count : goal.slice_bounds-clear_words-count
-slice_bounds-clear_words-count c = (fit (goal.at.slice_bounds-clear_words-count c).Else-lacks_room).0
+pub slice_bounds-fill-count : goal.slice_bounds-fill-count
+slice_bounds-fill-count c = (fit (goal.at.slice_bounds-fill-count c).Else-lacks_room).0
 
-pub slice_bounds-clear_words-start : goal.slice_bounds-clear_words-start
-slice_bounds-clear_words-start c = (fit (goal.at.slice_bounds-clear_words-start c).Else-lacks_room).0
+pub slice_bounds-fill-start : goal.slice_bounds-fill-start
+slice_bounds-fill-start c = (fit (goal.at.slice_bounds-fill-start c).Else-lacks_room).0
 
 pub overflow_mul-listed : goal.overflow_mul-listed
 overflow_mul-listed c = omega (arith, fit (goal.at.overflow_mul-listed c).Else-lacks_room, c.well_formed)
@@ -34,11 +34,11 @@ overflow_mul-listed c = omega (arith, fit (goal.at.overflow_mul-listed c).Else-l
 pub offset_bounds-variables-listed : goal.offset_bounds-variables-listed
 offset_bounds-variables-listed c = omega (arith, fit (goal.at.offset_bounds-variables-listed c).Else-lacks_room, c.well_formed)
 
-pub slice_bounds-clear_words-count-2 : goal.slice_bounds-clear_words-count-2
-slice_bounds-clear_words-count-2 c = (fit (goal.at.slice_bounds-clear_words-count-2 c).Else-lacks_room).1.0
+pub slice_bounds-fill-count-2 : goal.slice_bounds-fill-count-2
+slice_bounds-fill-count-2 c = (fit (goal.at.slice_bounds-fill-count-2 c).Else-lacks_room).1.0
 
-pub slice_bounds-clear_words-start-2 : goal.slice_bounds-clear_words-start-2
-slice_bounds-clear_words-start-2 c = (fit (goal.at.slice_bounds-clear_words-start-2 c).Else-lacks_room).1.0
+pub slice_bounds-fill-start-2 : goal.slice_bounds-fill-start-2
+slice_bounds-fill-start-2 c = (fit (goal.at.slice_bounds-fill-start-2 c).Else-lacks_room).1.0
 
 pub overflow_mul-acted : goal.overflow_mul-acted
 overflow_mul-acted c = omega (arith, fit (goal.at.overflow_mul-acted c).Else-lacks_room, c.well_formed)
@@ -46,13 +46,13 @@ overflow_mul-acted c = omega (arith, fit (goal.at.overflow_mul-acted c).Else-lac
 pub offset_bounds-actions-acted : goal.offset_bounds-actions-acted
 offset_bounds-actions-acted c = omega (arith, fit (goal.at.offset_bounds-actions-acted c).Else-lacks_room, c.well_formed)
 
-pub slice_bounds-clear_words-count-3 : goal.slice_bounds-clear_words-count-3
-slice_bounds-clear_words-count-3 c = (fit (goal.at.slice_bounds-clear_words-count-3 c).Else-lacks_room).1.1
+pub slice_bounds-fill-count-3 : goal.slice_bounds-fill-count-3
+slice_bounds-fill-count-3 c = (fit (goal.at.slice_bounds-fill-count-3 c).Else-lacks_room).1.1
 
-pub slice_bounds-clear_words-start-3 : goal.slice_bounds-clear_words-start-3
-slice_bounds-clear_words-start-3 c = (fit (goal.at.slice_bounds-clear_words-start-3 c).Else-lacks_room).1.1
+pub slice_bounds-fill-start-3 : goal.slice_bounds-fill-start-3
+slice_bounds-fill-start-3 c = (fit (goal.at.slice_bounds-fill-start-3 c).Else-lacks_room).1.1
 
 pub returns : goal.returns
 returns c =
     let a = c.args in
-    ends_left a.t a.text.now a.records.now a.variables.now a.actions.now c.lacks_room.ensures c.if-lacks_room.false c.clear_beyond.ensures c.clear_words-2.ensures c.clear_words-3.ensures c.clear_words-4.ensures
+    ends_left a.t a.text.now a.records.now a.variables.now a.actions.now c.lacks_room.ensures c.if-lacks_room.false c.clear_beyond.ensures (c.fill-2.ensures.after (λ y e. e)) (c.fill-3.ensures.after (λ y e. e)) (c.fill-4.ensures.after (λ y e. e))

@@ -1,11 +1,7 @@
--- One word a turn, by CheckLaws.
-use Prim.Native.Nat.{◌-◌}
-use lib.ListN.{length}
-use Rattle.index.proofs.CheckLaws.{Zeroing}
+use mathlib.Core.Path.{◌≡◌}
+use Rattle.index.specs.Words.{all_zero}
+use Rattle.index.proofs.CheckLaws.{zeroing}
 use Rattle.index.proofs.checking.are_zero.Given as goal
 
-abbrev pub invariant-loop-at : goal.invariant-loop-at
-invariant-loop-at l = Zeroing l.words l.first l.bits l.at
-
-abbrev pub decreases-loop-at : goal.decreases-loop-at
-decreases-loop-at l = length l.words - l.at
+abbrev pub invariant-loop-word : goal.invariant-loop-word
+invariant-loop-word l = all_zero l.words ≡ zeroing l.words l.bits l.word-index

@@ -1,9 +1,9 @@
--- One rule a turn, by CheckLaws.
-use Rattle.index.proofs.CheckLaws.{Climbing}
+use mathlib.Core.Path.{◌≡◌}
+use lib.ListN.{drop}
+use Rattle.index.specs.Standing.{from}
+use Rattle.index.specs.Words.{rules_of}
+use Rattle.index.proofs.CheckLaws.{climbing}
 use Rattle.index.proofs.checking.ascends.Given as goal
 
-abbrev pub invariant-loop-left : goal.invariant-loop-left
-invariant-loop-left l = Climbing l.words l.count l.before l.at l.left
-
-abbrev pub decreases-loop-left : goal.decreases-loop-left
-decreases-loop-left l = l.left
+abbrev pub invariant-loop-i : goal.invariant-loop-i
+invariant-loop-i l = from 0 (rules_of l.count (drop 1 l.words)) ≡ climbing l.words l.count l.i

@@ -10,7 +10,7 @@ use Rattle.lent.proofs.ending.finish.Goals.{Else-room-count}
 pub returns-then-room-count : goal.returns-then-room-count
 returns-then-room-count c =
     let a = c.args in
-    finish_full a.used a.count a.width a.text.now a.records.now c.room.ensures c.if-room-count.true c.clear_bytes.ensures c.clear_words.ensures
+    finish_full a.used a.count a.width a.text.now a.records.now c.room.ensures c.if-room-count.true (search rules) (search rules)
 
 -- where the records fit
 records_fit : (c : Else-room-count) → c.args.count * c.args.width ≤ length c.args.records.now
@@ -24,18 +24,18 @@ overflow_mul-words c = omega (arith, records_fit (goal.at.overflow_mul-words c).
 pub offset_bounds-records-words : goal.offset_bounds-records-words
 offset_bounds-records-words c = omega (arith, records_fit (goal.at.offset_bounds-records-words c).Else-room-count, c.well_formed)
 
-pub slice_bounds-clear_words-count : goal.slice_bounds-clear_words-count
-slice_bounds-clear_words-count c = records_fit (goal.at.slice_bounds-clear_words-count c).Else-room-count
+pub slice_bounds-fill-count : goal.slice_bounds-fill-count
+slice_bounds-fill-count c = records_fit (goal.at.slice_bounds-fill-count c).Else-room-count
 
-pub slice_bounds-clear_words-start : goal.slice_bounds-clear_words-start
-slice_bounds-clear_words-start c = records_fit (goal.at.slice_bounds-clear_words-start c).Else-room-count
+pub slice_bounds-fill-start : goal.slice_bounds-fill-start
+slice_bounds-fill-start c = records_fit (goal.at.slice_bounds-fill-start c).Else-room-count
 
 pub returns-then-used-text : goal.returns-then-used-text
 returns-then-used-text c =
     let a = c.args in
-    finish_left a.used a.count a.width a.text.now a.records.now c.room.ensures c.if-room-count.false (beyond_cleared a.text.now a.used (search rules) c.clear_bytes-then-used-text.ensures) c.clear_words-2.ensures
+    finish_left a.used a.count a.width a.text.now a.records.now c.room.ensures c.if-room-count.false (beyond_cleared a.text.now a.used (search rules) (search rules)) (search rules)
 
 pub returns-else-used-text : goal.returns-else-used-text
 returns-else-used-text c =
     let a = c.args in
-    finish_left a.used a.count a.width a.text.now a.records.now c.room.ensures c.if-room-count.false (none_beyond a.text.now a.used c.if-used-text.false) c.clear_words-2.ensures
+    finish_left a.used a.count a.width a.text.now a.records.now c.room.ensures c.if-room-count.false (none_beyond a.text.now a.used c.if-used-text.false) (search rules)

@@ -1,6 +1,8 @@
 use mathlib.Core.Path.{◌≡◌, refl}
 use mathlib.Core.List.{List, []}
 use Prim.Native.Nat.{ℕ}
+use native.Mathlib.Omega.{arith}
+use lib.ListN.{length}
 use borrow.Author.Tests.{ne_eqb}
 use Rattle.lexer.specs.Runs.{closes, takes}
 use Rattle.lexer.specs.Rules.{comment}
@@ -36,4 +38,5 @@ pub returns : goal.returns
 returns c =
     let a = c.args in
     let l = c.loop-at in
-    ran comment 0 a.s.now a.from _ (going_end comment 0 a.s.now a.from 0 l.at c.loop-at-test.false l.invariant.1) l.invariant.0
+    let e : length a.s.now ≡ l.at = omega arith in
+    rw e (ran comment 0 a.s.now a.from _ (going_end comment 0 a.s.now a.from 0 l.at (omega arith) l.invariant.1) l.invariant.0)

@@ -8,10 +8,10 @@ use Rattle.lexer.proofs.WithinLaws.{part_length}
 use Rattle.lexer.proofs.PastLaws.{past_flat, past_fed}
 use Rattle.lexer.proofs.moving.cursor_past.Goals as goal
 
-pub returns-then-feeds-eq0 : goal.returns-then-feeds-eq0
-returns-then-feeds-eq0 c =
+pub returns-then-run-eq0 : goal.returns-then-run-eq0
+returns-then-run-eq0 c =
     let p = c.requires.passes in
-    sym (past_flat c.args.s.now c.args.c _ p.some p.inside p.solid (sym p.feeds_are ∙ c.if-feeds-eq0.true))
+    sym (past_flat c.args.s.now c.args.c _ p.some p.inside p.solid (sym p.feeds_are ∙ c.if-run-eq0.true))
 
 pub overflow_add-result-2 : goal.overflow_add-result-2
 overflow_add-result-2 c =
@@ -19,15 +19,9 @@ overflow_add-result-2 c =
     let z = c.args.c in
     omega (arith, feeds_few (part c.args.s.now z.place c.args.run.past), part_length c.args.s.now z.place c.args.run.past (omega (arith, p.some)) p.inside, p.feeds_are, c.requires.within)
 
-pub overflow_sub-result-2 : goal.overflow_sub-result-2
-overflow_sub-result-2 c = omega (arith, c.requires.passes.last_is (omega (arith, c.if-feeds-eq0)))
-
-pub blank_between-requires : goal.blank_between-requires
-blank_between-requires c = (omega (arith, c.requires.passes.last_is (omega (arith, c.if-feeds-eq0))), c.requires.passes.inside)
-
 pub returns : goal.returns
 returns c =
     let p = c.requires.passes in
-    let f : 0 < c.args.run.feeds = omega (arith, c.if-feeds-eq0) in
+    let f : 0 < c.args.run.feeds = omega (arith, c.if-run-eq0) in
     rw p.feeds_are
     (sym (past_fed c.args.s.now c.args.c _ p.some p.inside _ (rw p.feeds_are at f) (p.last_is f) _ c.blank_between.ensures))

@@ -1,4 +1,3 @@
-use mathlib.Core.Path.{◌∙◌}
 use mathlib.Core.Logic.{⊎_elim}
 use Prim.Native.Nat.{◌+◌, ◌≤◌}
 use native.Mathlib.Omega.{arith}
@@ -25,38 +24,17 @@ counted_on c x =
 pub loop-at-init : goal.loop-at-init
 loop-at-init c = quoting_none _ _ _ _ c.requires.from_in_bounds
 
-pub pass_span-reach-requires : goal.pass_span-reach-requires
-pass_span-reach-requires c = record { at_in_bounds = c.loop-at.invariant.counted.inside; s_bound = omega (arith, c.loop-at.invariant.room, c.loop-at.invariant.writing.written.long, c.requires.s_len_bound) }
-
-pub bounds-s-at : goal.bounds-s-at
-bounds-s-at c = omega arith
-
 pub overflow_add-feeds : goal.overflow_add-feeds
 overflow_add-feeds c = omega (arith, c.if-s-at.false, counted_few (spanned (goal.at.overflow_add-feeds c).After-pass_span-reach).1.counted)
-
-pub overflow_add-last : goal.overflow_add-last
-overflow_add-last c = omega (arith, c.if-s-at.false)
-
-pub overflow_add-at : goal.overflow_add-at
-overflow_add-at c = omega (arith, c.if-s-at.false)
 
 pub write_act-reach-requires : goal.write_act-reach-requires
 write_act-reach-requires c = acted_room (spanned (goal.at.write_act-reach-requires c).After-pass_span-reach).1 c.if-s-at.false c.requires.s_len_bound (counted_on (goal.at.write_act-reach-requires c).Joined-b-eq10 (spanned (goal.at.write_act-reach-requires c).After-pass_span-reach).1.counted) c.act_of-act.result c.act_of-act.ensures
 
-pub loop-at-smaller : goal.loop-at-smaller
-loop-at-smaller c = omega (arith, c.if-s-at.false, (spanned (goal.at.loop-at-smaller c).After-pass_span-reach).0, (acted_on (spanned (goal.at.loop-at-smaller c).After-pass_span-reach).1 c.if-s-at.false c.requires.s_len_bound (counted_on (goal.at.loop-at-smaller c).Joined-b-eq10 (spanned (goal.at.loop-at-smaller c).After-pass_span-reach).1.counted) c.act_of-act.result c.act_of-act.ensures c.write_act-reach.result (opened c.in_default.in_default-own.keys2) c.write_act-reach.ensures).0)
-
 pub loop-at-preserved : goal.loop-at-preserved
 loop-at-preserved c = (acted_on (spanned (goal.at.loop-at-preserved c).After-pass_span-reach).1 c.if-s-at.false c.requires.s_len_bound (counted_on (goal.at.loop-at-preserved c).Joined-b-eq10 (spanned (goal.at.loop-at-preserved c).After-pass_span-reach).1.counted) c.act_of-act.result c.act_of-act.ensures c.write_act-reach.result (opened c.in_default.in_default-own.keys2) c.write_act-reach.ensures).1
 
-pub shape_of-text-then-s-at : goal.shape_of-text-then-s-at
-shape_of-text-then-s-at c = (spanned (goal.at.shape_of-text-then-s-at c).After-pass_span-reach).1.writing.written.long
-
 pub returns-then-s-at : goal.returns-then-s-at
 returns-then-s-at c = let whole = quoting_end (spanned (goal.at.returns-then-s-at c).After-pass_span-reach).1 c.if-s-at.true in record { ran = whole.0; wrote = whole.1 }
-
-pub shape_of-text-in-Closes : goal.shape_of-text-in-Closes
-shape_of-text-in-Closes c = c.write_act-reach.auto.text ∙ (spanned (goal.at.shape_of-text-in-Closes c).After-pass_span-reach).1.writing.written.long
 
 pub returns-in-Closes : goal.returns-in-Closes
 returns-in-Closes c = let whole = acted_end (spanned (goal.at.returns-in-Closes c).After-pass_span-reach).1 c.if-s-at.false c.requires.s_len_bound (counted_on (goal.at.returns-in-Closes c).Joined-b-eq10 (spanned (goal.at.returns-in-Closes c).After-pass_span-reach).1.counted) c.act_of-act.result c.act_of-act.ensures c.write_act-reach.result c.in-Closes.is c.write_act-reach.ensures in record { ran = whole.0; wrote = whole.1 }

@@ -1,14 +1,13 @@
 -- By the class of the byte that the token starts with; each arm is one law of FindLaws.
 use mathlib.Core.Path.{◌≡◌, ◌∙◌, sym, refl, ap}
 use mathlib.Core.List.{[], ◌∷◌}
-use lib.Seq.{length-take-le}
 use Prim.Native.Nat.{◌+◌}
 use Rattle.lexer.specs.Bytes.{Class, Return, Gap, Upright, Slash}
 use Rattle.lexer.specs.Rules.{comment, word, quoted, plain}
 use Rattle.lexer.specs.Tokens.{token_by, nothing, word_kind}
 use lib.ListN.{get_or, drop}
 use Rattle.lexer.proofs.ClassLaws.{arm, hash_dark, quote_dark}
-use Rattle.lexer.proofs.LoopLaws.{wrote_fits, wrote_front}
+use Rattle.lexer.proofs.LoopLaws.{wrote_front}
 use Rattle.lexer.proofs.FindLaws.{next_none, found_none, found_newline, found_comment, found_quoted, found_word, found_stop, passes, word_passes}
 use Rattle.lexer.proofs.stepping.find.Goals as goal
 
@@ -39,9 +38,6 @@ cursor_past-next-requires-in-Quote c =
     let x = c.requires.within in
     let e = c.class_of.ensures in
     record { within = k.within; passes = passes (quoted _) plain s d _ h (quote_dark _ (sym e ∙ c.in-Quote.is)) c.read_quoted-run.ensures.ran }
-
-pub slice_bounds-word_kind-end-in-Other : goal.slice_bounds-word_kind-end-in-Other
-slice_bounds-word_kind-end-in-Other c = sym (length-take-le _ _ (wrote_fits word 0 _ _ c.read_word-run.ensures.wrote))
 
 pub cursor_past-next-requires-in-Other : goal.cursor_past-next-requires-in-Other
 cursor_past-next-requires-in-Other c =

@@ -18,13 +18,13 @@ pub loop-at-preserved-in-Other : goal.loop-at-preserved-in-Other
 loop-at-preserved-in-Other c =
     let k = c.class_of in
     let e = sym k.ensures ∙ c.in-Other.is in
-    kept c.loop-at.invariant c.if-s-at.false c.requires.s_len_bound (word_other _ _ e) (not_feed _ (other_dark _ e))
+    kept c.loop-at.invariant c.loop-at-test.true c.requires.s_len_bound (word_other _ _ e) (not_feed _ (other_dark _ e))
 
 pub loop-at-preserved-then-owed-eq0 : goal.loop-at-preserved-then-owed-eq0
 loop-at-preserved-then-owed-eq0 c =
     let k = c.class_of in
     let e = sym k.ensures ∙ c.in-Slash.is in
-    kept c.loop-at.invariant c.if-s-at.false c.requires.s_len_bound (word_lone _ _ e (sym c.line_end-owed.ensures ∙ c.if-owed-eq0.true)) (not_feed _ (slash_dark _ e))
+    kept c.loop-at.invariant c.loop-at-test.true c.requires.s_len_bound (word_lone _ _ e (sym c.line_end-owed.ensures ∙ c.if-owed-eq0.true)) (not_feed _ (slash_dark _ e))
 
 -- the line end behind a backslash stands inside the text
 owed_fits : (c : Else-owed-eq0) → c.loop-at.at + 1 + c.line_end-owed.result ≤ length c.args.s.now
@@ -40,17 +40,17 @@ pub loop-at-preserved : goal.loop-at-preserved
 loop-at-preserved c =
     let k = c.class_of in
     let e = sym k.ensures ∙ c.in-Slash.is in
-    cut c.loop-at.invariant c.if-s-at.false e c.line_end-owed.ensures c.if-owed-eq0.false
+    cut c.loop-at.invariant c.loop-at-test.true e c.line_end-owed.ensures c.if-owed-eq0.false
 
-pub returns-then-s-at : goal.returns-then-s-at
-returns-then-s-at c =
+pub returns-after-loop-at : goal.returns-after-loop-at
+returns-after-loop-at c =
     let a = c.args in
     let l = c.loop-at in
-    let h = c.if-s-at.true in let whole = ended _ l.invariant (going_end word 0 a.s.now a.from 0 l.at h l.invariant.going) (text_end_lem word 0 a.s.now a.from 0 l.at h) in record { ran = whole.0; wrote = whole.1 }
+    let h = c.loop-at-test.false in let whole = ended _ l.invariant (going_end word 0 a.s.now a.from 0 l.at h l.invariant.going) (text_end_lem word 0 a.s.now a.from 0 l.at h) in record { ran = whole.0; wrote = whole.1 }
 
 pub returns-in_default : goal.returns-in_default
 returns-in_default c =
     let a = c.args in
     let l = c.loop-at in
-    let k = c.if-s-at.false in
+    let k = c.loop-at-test.true in
     let e = word_stop _ _ c.class_of.result c.class_of.ensures (opened c.in_default.in_default-own.keys3) in let whole = ended _ l.invariant (going_stop word 0 a.s.now a.from k e l.invariant.going) (text_stop word 0 a.s.now a.from k e) in record { ran = whole.0; wrote = whole.1 }

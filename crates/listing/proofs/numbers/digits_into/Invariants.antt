@@ -2,8 +2,5 @@
 use Rattle.listing.proofs.DigitLaws.{Sofar}
 use Rattle.listing.proofs.numbers.digits_into.Given as goal
 
-abbrev pub invariant-loop-first : goal.invariant-loop-first
-invariant-loop-first l = Sofar l.n l.initial.digits l.digits l.first l.left
-
-abbrev pub decreases-loop-first : goal.decreases-loop-first
-decreases-loop-first l = l.first
+abbrev pub invariant-loop-i : goal.invariant-loop-i
+invariant-loop-i l = Sofar l.n l.initial.digits l.digits l.i l.left

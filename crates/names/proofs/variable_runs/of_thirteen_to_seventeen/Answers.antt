@@ -11,47 +11,47 @@ use Rattle.ascii.specs.Fold.{upper}
 use Rattle.names.specs.Variables.{variables, variable_code}
 use Rattle.names.proofs.Tests.{every}
 use Rattle.names.proofs.LengthLaws.{covers, none_of}
-use Rattle.names.proofs.VariableLaws.{places_of, codes_of, variables_fit, of_variables}
+use Rattle.names.proofs.VariableLaws.{parts_of, variables_fit, of_variables}
 use Rattle.names.proofs.variable_runs.of_thirteen_to_seventeen.Goals as goal
 
 pub among-requires : goal.among-requires
-unfolding places_of codes_of
+unfolding parts_of
 among-requires c = record { here = omega arith; fits = variables_fit 13 c.requires.run (omega arith) (omega arith) }
 
 pub among-requires-in-14 : goal.among-requires-in-14
-unfolding places_of codes_of
+unfolding parts_of
 among-requires-in-14 c = record { here = omega arith; fits = variables_fit 14 c.requires.run (omega arith) (omega arith) }
 
 pub among-requires-in-15 : goal.among-requires-in-15
-unfolding places_of codes_of
+unfolding parts_of
 among-requires-in-15 c = record { here = omega arith; fits = variables_fit 15 c.requires.run (omega arith) (omega arith) }
 
 pub among-requires-in-16 : goal.among-requires-in-16
-unfolding places_of codes_of
+unfolding parts_of
 among-requires-in-16 c = record { here = omega arith; fits = variables_fit 16 c.requires.run (omega arith) (omega arith) }
 
 pub among-requires-in-17 : goal.among-requires-in-17
-unfolding places_of codes_of
+unfolding parts_of
 among-requires-in-17 c = record { here = omega arith; fits = variables_fit 17 c.requires.run (omega arith) (omega arith) }
 
 pub returns-in-13 : goal.returns-in-13
-unfolding places_of codes_of
+unfolding parts_of
 returns-in-13 c = of_variables 13 c.requires.run c.among.ensures (omega arith)
 
 pub returns-in-14 : goal.returns-in-14
-unfolding places_of codes_of
+unfolding parts_of
 returns-in-14 c = of_variables 14 c.requires.run c.among-in-14.ensures (omega arith)
 
 pub returns-in-15 : goal.returns-in-15
-unfolding places_of codes_of
+unfolding parts_of
 returns-in-15 c = of_variables 15 c.requires.run c.among-in-15.ensures (omega arith)
 
 pub returns-in-16 : goal.returns-in-16
-unfolding places_of codes_of
+unfolding parts_of
 returns-in-16 c = of_variables 16 c.requires.run c.among-in-16.ensures (omega arith)
 
 pub returns-in-17 : goal.returns-in-17
-unfolding places_of codes_of
+unfolding parts_of
 returns-in-17 c = of_variables 17 c.requires.run c.among-in-17.ensures (omega arith)
 
 -- no name has another length

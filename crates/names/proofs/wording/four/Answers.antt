@@ -6,10 +6,4 @@ use Rattle.names.proofs.wording.four.Goals as goal
 pub returns : goal.returns
 returns c =
     let s = c.args in
-    rw (
-      c.wide.ensures.0,
-      c.wide-2.ensures.0,
-      c.wide-3.ensures.0,
-      c.wide-4.ensures.0,
-    )
-    (part_four s.s.now s.at (omega arith) (λ k. (c.shared_slice_known-5-1.given k).fits))
+    rw (c.from.ensures, c.from-2.ensures, c.from-3.ensures, c.from-4.ensures) (part_four s.s.now s.at (omega arith) (λ k. (c.type_inv.s k).fits))

@@ -1,4 +1,4 @@
--- The loop keeps the word of the bytes passed, from the last one back.
+-- The word of the bytes passed, from the last one back.
 use Prim.Native.Nat.{◌+◌, ◌-◌, ◌≤◌}
 use lib.ListN.{take, drop}
 use Rattle.names.specs.Words.{Packed}
@@ -6,6 +6,3 @@ use Rattle.names.proofs.wording.up_to_eight.Given as goal
 
 abbrev pub invariant-loop-k : goal.invariant-loop-k
 invariant-loop-k l = (l.k ≤ l.n) × Packed (take (l.n - l.k) (drop (l.at + l.k) l.s)) l.word
-
-abbrev pub decreases-loop-k : goal.decreases-loop-k
-decreases-loop-k l = l.k

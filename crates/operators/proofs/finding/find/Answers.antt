@@ -11,7 +11,7 @@ use Rattle.ascii.specs.declared.trimming.Part.{Part}
 use Rattle.ascii.proofs.TrimLaws.{ends_fit}
 use Rattle.operators.specs.Operators.{starts, name_length, after_name}
 use Rattle.operators.specs.Places.{sign_width, text_end, after_at, is_named, found_of}
-use Rattle.operators.proofs.FindLaws.{Begun, text_at, end_in_lem, body_in, body_at, name_in, name_at_lem, tail_in, tail_at, argument_in_lem}
+use Rattle.operators.proofs.FindLaws.{Begun, text_at, end_in_lem, body_in, body_at, name_at_lem, tail_in, tail_at, argument_in_lem}
 use Rattle.operators.proofs.NameLaws.{name_ended}
 use Rattle.operators.proofs.finding.find.Goals as goal
 
@@ -21,12 +21,6 @@ first_is _ e = ap (λ (p : Part). p.first) e
 
 past_is : (s : List ℕ) → {p : Part} → p ≡ trimmed_part s → p.past ≡ text_end s
 past_is _ e = ap (λ (p : Part). p.past) e
-
-pub slice_bounds-text-count : goal.slice_bounds-text-count
-slice_bounds-text-count c = omega (arith, first_is c.args.s.now c.trimmed-trimmed.ensures, past_is c.args.s.now c.trimmed-trimmed.ensures)
-
-pub slice_bounds-text-start : goal.slice_bounds-text-start
-slice_bounds-text-start c = omega (arith, first_is c.args.s.now c.trimmed-trimmed.ensures, past_is c.args.s.now c.trimmed-trimmed.ensures)
 
 pub slice_bounds-text-end : goal.slice_bounds-text-end
 slice_bounds-text-end c = omega (arith, past_is c.args.s.now c.trimmed-trimmed.ensures, ends_fit white c.args.s.now)
@@ -89,29 +83,6 @@ returns-then-not-starts_with c =
     let n = sym (named_is b c.starts_with.ensures) ∙ c.if-not-starts_with.true in
     rw (n, negated_is c.args.s.now c.trimmed-trimmed.ensures c.starts_with-negated.ensures, b.first, b.past, b.sign)
 
-pub overflow_add-first : goal.overflow_add-first
-overflow_add-first c =
-    let b = begun c.args.s.now c.trimmed-trimmed.ensures c.sign_width-width.ensures in
-    let h = written b c.starts_with.ensures c.if-not-starts_with.false in
-    omega (arith, name_in b h, end_in_lem b)
-
-pub slice_bounds-name_length-count : goal.slice_bounds-name_length-count
-slice_bounds-name_length-count c =
-    let b = begun c.args.s.now c.trimmed-trimmed.ensures c.sign_width-width.ensures in
-    let h = written b c.starts_with.ensures c.if-not-starts_with.false in
-    name_in b h
-
-pub slice_bounds-name_length-start : goal.slice_bounds-name_length-start
-slice_bounds-name_length-start c =
-    let b = begun c.args.s.now c.trimmed-trimmed.ensures c.sign_width-width.ensures in
-    let h = written b c.starts_with.ensures c.if-not-starts_with.false in
-    omega (arith, name_in b h)
-
-pub slice_bounds-name_length-end : goal.slice_bounds-name_length-end
-slice_bounds-name_length-end c =
-    let b = begun c.args.s.now c.trimmed-trimmed.ensures c.sign_width-width.ensures in
-    omega (arith, end_in_lem b)
-
 pub overflow_add-past : goal.overflow_add-past
 overflow_add-past c =
     let b = begun c.args.s.now c.trimmed-trimmed.ensures c.sign_width-width.ensures in
@@ -129,11 +100,6 @@ slice_bounds-gap_width-start c =
     let b = begun c.args.s.now c.trimmed-trimmed.ensures c.sign_width-width.ensures in
     let h = written b c.starts_with.ensures c.if-not-starts_with.false in
     omega (arith, tail_in b h _ (length_is b h c.name_length.ensures))
-
-pub slice_bounds-gap_width-end : goal.slice_bounds-gap_width-end
-slice_bounds-gap_width-end c =
-    let b = begun c.args.s.now c.trimmed-trimmed.ensures c.sign_width-width.ensures in
-    omega (arith, end_in_lem b)
 
 pub gap_width-gap-requires : goal.gap_width-gap-requires
 gap_width-gap-requires c =

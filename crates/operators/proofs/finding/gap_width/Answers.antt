@@ -1,5 +1,6 @@
 -- By whether anything follows the name; its first byte is white.
-use mathlib.Core.Path.{◌≡◌, ◌∙◌, ap}
+use mathlib.Core.Path.{◌≡◌, ◌∙◌, sym, ap}
+use borrow.Author.Tests.{eqb-true, eqb-false}
 use native.Mathlib.Omega.{arith}
 use lib.ListN.{drop, length-drop}
 use Rattle.ascii.specs.Classes.{white}
@@ -10,8 +11,8 @@ use Rattle.operators.proofs.NameLaws.{gap_more}
 use Rattle.operators.proofs.finding.gap_width.Goals as goal
 use Rattle.operators.proofs.finding.gap_width.Goals.{After-leading_white}
 
-pub returns-then-s-eq0 : goal.returns-then-s-eq0
-returns-then-s-eq0 c = omega (arith, leading_fits white c.args.s.now, c.if-s-eq0.true)
+pub returns-then-is_empty : goal.returns-then-is_empty
+returns-then-is_empty c = omega (arith, leading_fits white c.args.s.now, eqb-true _ _ (sym c.is_empty.ensures ∙ c.if-is_empty.true))
 
 -- the white bytes after it
 white_is : (c : After-leading_white) → c.leading_white.result ≡ leading_white (drop 1 c.args.s.now)
@@ -25,4 +26,4 @@ overflow_add-result c =
 pub returns : goal.returns
 returns c =
     let s = c.args.s.now in
-    omega (arith, white_is (goal.at.returns c).After-leading_white, gap_more s c.requires c.if-s-eq0.false)
+    omega (arith, white_is (goal.at.returns c).After-leading_white, gap_more s c.requires (eqb-false _ _ (sym c.is_empty.ensures ∙ c.if-is_empty.false)))

@@ -1,16 +1,9 @@
 use mathlib.Core.Path.{◌∙◌, sym}
 use native.Mathlib.Omega.{arith}
-use borrow.Author.Rules.{rules}
 use Rattle.ascii.proofs.TrimLaws.{leading_end}
 use Rattle.operators.specs.Operators.{in_name}
 use Rattle.operators.proofs.NameLaws.{name_more, name_stop}
 use Rattle.operators.proofs.finding.name_length.Goals as goal
-
-pub loop-i-init : goal.loop-i-init
-loop-i-init c = (omega arith, omega arith)
-
-pub bounds-s-i : goal.bounds-s-i
-bounds-s-i c = search rules
 
 pub returns-then-stops_name : goal.returns-then-stops_name
 returns-then-stops_name c =

@@ -1,36 +1,32 @@
 -- By whether a name is written, and then by its lookup; each way is one law of FoundLaws.
-use mathlib.Core.Path.{◌≡◌, ◌∙◌, sym}
-use mathlib.Core.Bool.{true}
-use native.Mathlib.Omega.{arith}
-use borrow.Author.Tests.{not-true, not-false}
+use mathlib.Core.Path.{◌∙◌, sym}
 use Rattle.operators.proofs.FoundLaws.{argument_ordered, name_ordered, name_within, answer_plain, answer_known, answer_unknown}
 use Rattle.operators.proofs.reading.operator_in.Goals as goal
-use Rattle.operators.proofs.reading.operator_in.Goals.{Else-not-f}
-
-pub overflow_sub-len : goal.overflow_sub-len
-overflow_sub-len c = argument_ordered c.args.s.now _ c.find-f.ensures
-
-pub returns-then-not-f : goal.returns-then-not-f
-returns-then-not-f c = record { answer = answer_plain c.args.s.now _ c.find-f.ensures (not-true _ c.if-not-f.true) }
-
--- a name is written
-written : (c : Else-not-f) → c.find-f.result.named ≡ true
-written c = not-false _ c.if-not-f.false
+use Rattle.operators.proofs.reading.operator_in.Goals.{in-None, in-Some+in-Some-operator_code}
 
 pub slice_bounds-operator_code-count : goal.slice_bounds-operator_code-count
-slice_bounds-operator_code-count c = name_ordered c.args.s.now _ c.find-f.ensures (written (goal.at.slice_bounds-operator_code-count c).Else-not-f)
+slice_bounds-operator_code-count c = name_ordered c.args.s.now _ c.find-found.ensures _ c.in-Some.is
 
 pub slice_bounds-operator_code-start : goal.slice_bounds-operator_code-start
-slice_bounds-operator_code-start c = omega (arith, name_ordered c.args.s.now _ c.find-f.ensures (written (goal.at.slice_bounds-operator_code-start c).Else-not-f))
+slice_bounds-operator_code-start c = name_ordered c.args.s.now _ c.find-found.ensures _ c.in-Some.is
 
 pub slice_bounds-operator_code-end : goal.slice_bounds-operator_code-end
-slice_bounds-operator_code-end c = omega (arith, name_within c.args.s.now _ c.find-f.ensures (written (goal.at.slice_bounds-operator_code-end c).Else-not-f))
+slice_bounds-operator_code-end c = name_within c.args.s.now _ c.find-found.ensures _ c.in-Some.is
 
 pub overflow_sub-result : goal.overflow_sub-result
-overflow_sub-result c = name_ordered c.args.s.now _ c.find-f.ensures (written (goal.at.overflow_sub-result c).Else-not-f)
+overflow_sub-result c = name_ordered c.args.s.now _ c.find-found.ensures _ c.in-Some.is
 
-pub returns-in-Code : goal.returns-in-Code
-returns-in-Code c = record { answer = answer_known c.args.s.now _ c.find-f.ensures (written (goal.at.returns-in-Code c).Else-not-f) _ (sym c.operator_code.ensures ∙ c.in-Code.is) }
+pub returns-in-None-operator_code : goal.returns-in-None-operator_code
+returns-in-None-operator_code c =
+    record { answer = answer_unknown c.args.s.now _ c.find-found.ensures _ c.in-Some.is (sym c.operator_code.ensures ∙ c.in-None-operator_code.is) }
 
-pub returns-in-Unknown : goal.returns-in-Unknown
-returns-in-Unknown c = record { answer = answer_unknown c.args.s.now _ c.find-f.ensures (written (goal.at.returns-in-Unknown c).Else-not-f) (sym c.operator_code.ensures ∙ c.in-Unknown.is) }
+pub overflow_sub-result-2 : goal.overflow_sub-result-2
+overflow_sub-result-2 c = argument_ordered c.args.s.now _ c.find-found.ensures
+
+pub returns : goal.returns
+returns c =
+    elim c.match-found.branch [
+      | in-None w ↦ rw w.name-is (record { answer = answer_plain c.args.s.now _ c.find-found.ensures w.in-None.is })
+      | in-Some+in-Some-operator_code w ↦
+          rw w.name-is (record { answer = answer_known c.args.s.now _ c.find-found.ensures _ w.in-Some.is _ (sym w.operator_code.ensures ∙ w.in-Some-operator_code.is) })
+    ]

@@ -1,16 +1,18 @@
 -- By the gate's answer; each way is one law of AnswerLaws.
-use mathlib.Core.Path.{ap}
-use mathlib.Core.Logic.{inl, inr, ⊎_elim}
-use denote.Enum.Declared.{tag_of}
-use Rattle.lent.specs.contracts.gating.Gate.{the_type}
-use Rattle.operators.proofs.AnswerLaws.{answer_too_long, answer_not_ascii, answer_open}
+use Rattle.std.proofs.lemmas.Result.{err_from_is_err_and}
+use Rattle.operators.proofs.AnswerLaws.{answer_refused, answer_unknown_lem, answer_open}
 use Rattle.operators.proofs.reading.parse_operator.Goals as goal
 
-pub returns-in-TooLong : goal.returns-in-TooLong
-returns-in-TooLong c = answer_too_long c.args.input.now _ c.admit.ensures c.in-TooLong.is
+pub returns-in_err-admit : goal.returns-in_err-admit
+returns-in_err-admit c =
+    let p = err_from_is_err_and c.from_residual.result c.from_residual.ensures.1 in
+    rw (p.1, p.2) (answer_refused c.args.input.now _ c.admit.ensures _ c.in_err-admit.was)
 
-pub returns-in-NotAscii : goal.returns-in-NotAscii
-returns-in-NotAscii c = answer_not_ascii c.args.input.now _ c.admit.ensures _ c.in-NotAscii.is
+pub returns-in_err-operator_in : goal.returns-in_err-operator_in
+returns-in_err-operator_in c =
+    let r = c.from_residual-in_err-operator_in in
+    let p = err_from_is_err_and r.result r.ensures.1 in
+    rw (p.1, p.2) (answer_unknown_lem c.args.input.now _ c.admit.ensures c.in_ok-admit.was _ c.in_err-operator_in.ensures)
 
-pub returns-in-Open : goal.returns-in-Open
-returns-in-Open c = answer_open c.args.input.now _ c.admit.ensures (⊎_elim (λ e. inl (ap (tag_of the_type) e)) (λ e. inr (ap (tag_of the_type) e)) c.in-Open.is) _ c.operator_in.ensures
+pub returns : goal.returns
+returns c = answer_open c.args.input.now _ c.admit.ensures c.in_ok-admit.was _ c.in_ok-operator_in.ensures

@@ -10,7 +10,7 @@ use Rattle.places.proofs.running.plain_run.Goals as goal
 pub returns : goal.returns
 returns c =
     let a = c.args in
-    let n = c.least.result in
+    let n = c.min.result in
     let e : a.place + n - a.place ≡ n = omega arith in
-    run_plain a.s.now a.place a.most n _ (omega (arith, c.least.ensures.1, c.requires)) c.least.ensures.0
+    run_plain a.s.now a.place a.most n _ (omega (arith, c.min.ensures)) (omega (arith, c.min.ensures))
     (c.first_of.ensures ∙ ap (λ (m : ℕ). first_of 92 (take m (drop a.place a.s.now))) e)

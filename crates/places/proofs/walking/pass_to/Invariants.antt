@@ -4,8 +4,8 @@ use lib.ListN.{length}
 use Rattle.places.proofs.WalkLaws.{Reaching}
 use Rattle.places.proofs.walking.pass_to.Given as goal
 
-abbrev pub invariant-loop-at : goal.invariant-loop-at
-invariant-loop-at l = Reaching l.rule l.s l.initial.at l.stop l.n l.noted l.at
+abbrev pub invariant-loop-w : goal.invariant-loop-w
+invariant-loop-w l = Reaching l.rule l.s l.initial.w l.stop l.n l.noted l.w
 
-abbrev pub decreases-loop-at : goal.decreases-loop-at
-decreases-loop-at l = length l.s - l.at.place
+abbrev pub decreases-loop-w : goal.decreases-loop-w
+decreases-loop-w l = length l.s - l.w.place

@@ -4,10 +4,10 @@ use Rattle.places.proofs.WalkLaws.{onward_as}
 use Rattle.places.proofs.walking.stepped.Goals as goal
 
 pub returns-in-Pass : goal.returns-in-Pass
-returns-in-Pass c = let a = c in onward_as _ a.args.s.now a.args.w a.requires.0 a.requires.1 (Pass _) c.act_of.ensures c.in-Pass.is
+returns-in-Pass c = let p = c.requires in onward_as _ c.args.s.now c.args.w p.0 p.1 (Pass _) c.act_of.ensures c.in-Pass.is
 
 pub returns-in-Keep : goal.returns-in-Keep
-returns-in-Keep c = let a = c in onward_as _ a.args.s.now a.args.w a.requires.0 a.requires.1 (Keep _) c.act_of.ensures c.in-Keep.is
+returns-in-Keep c = let p = c.requires in onward_as _ c.args.s.now c.args.w p.0 p.1 (Keep _) c.act_of.ensures c.in-Keep.is
 
 pub returns-in-Turn : goal.returns-in-Turn
-returns-in-Turn c = let a = c in rw c.before-in-Turn.ensures (onward_as _ a.args.s.now a.args.w a.requires.0 a.requires.1 (Turn _) c.act_of.ensures c.in-Turn.is)
+returns-in-Turn c = let p = c.requires in rw c.saturating_sub.ensures (onward_as _ c.args.s.now c.args.w p.0 p.1 (Turn _) c.act_of.ensures c.in-Turn.is)

@@ -1,19 +1,12 @@
--- Each arm of the match is the test that it stands for.
-use native.Mathlib.Omega.{arith}
+-- The first test decides, or else the second.
 use borrow.Author.Tests.{ne_eqb}
 use Rattle.single_action.specs.Marks.{quotation}
 use Rattle.single_action.proofs.marking.is_quotation.Goals as goal
 
-pub returns-in-34 : goal.returns-in-34
+pub returns-then-b-eq34 : goal.returns-then-b-eq34
 unfolding quotation
-returns-in-34 c = rw c.in-34.is
+returns-then-b-eq34 c = rw c.if-b-eq34.true
 
-pub returns-in-39 : goal.returns-in-39
+pub returns-else-b-eq34 : goal.returns-else-b-eq34
 unfolding quotation
-returns-in-39 c = rw c.in-39.is
-
-pub returns-in_default : goal.returns-in_default
-unfolding quotation
-returns-in_default c =
-    let b = c.args.b in
-    simp (ne_eqb b 34 (omega arith), ne_eqb b 39 (omega arith))
+returns-else-b-eq34 c = simp (ne_eqb c.args.b 34 c.if-b-eq34.false)

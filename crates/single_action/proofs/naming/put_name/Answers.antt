@@ -19,13 +19,13 @@ pub overflow_add-at : goal.overflow_add-at
 unfolding rows bytes
 overflow_add-at c = end_fits c.args.row c.if-row-ge41.false
 
-pub slice_bounds-store_bytes-end : goal.slice_bounds-store_bytes-end
+pub slice_bounds-store-end : goal.slice_bounds-store-end
 unfolding shelves rows bytes
-slice_bounds-store_bytes-end c = end_inside c.args.row c.if-row-ge41.false
+slice_bounds-store-end c = end_inside c.args.row c.if-row-ge41.false
 
 pub returns : goal.returns
 unfolding shelves rows bytes
 returns c =
     let d = c in
     let s = d in
-    (c.store_bytes.ensures ∙ ap (λ (t : List ℕ). stored s.args.out.now 0 t) (part_name s.args.row d.if-row-ge41.false), length_at s.args.row d.if-row-ge41.false)
+    (c.store.ensures ∙ ap (λ (t : List ℕ). stored s.args.out.now 0 t) (part_name s.args.row d.if-row-ge41.false), length_at s.args.row d.if-row-ge41.false)

@@ -1,12 +1,9 @@
 -- The loop keeps that the bytes from the one before `i` on decide.
 use mathlib.Core.Path.{◌≡◌}
-use Prim.Native.Nat.{◌≤◌, ◌-◌}
-use lib.ListN.{length, drop}
+use Prim.Native.Nat.{◌-◌}
+use lib.ListN.{drop}
 use Rattle.single_action.specs.Setvar.{has_macro}
 use Rattle.single_action.proofs.searching.has_macro.Given as goal
 
 abbrev pub invariant-loop-i : goal.invariant-loop-i
-invariant-loop-i l = (1 ≤ l.i) × (has_macro (drop (l.i - 1) l.s) ≡ has_macro l.s)
-
-abbrev pub decreases-loop-i : goal.decreases-loop-i
-decreases-loop-i l = length l.s - l.i
+invariant-loop-i l = has_macro (drop (l.i - 1) l.s) ≡ has_macro l.s

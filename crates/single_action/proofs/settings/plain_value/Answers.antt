@@ -3,7 +3,6 @@ use mathlib.Core.Path.{◌≡◌, ◌∙◌, sym}
 use mathlib.Core.Logic.{⊎_elim}
 use native.Mathlib.Omega.{arith}
 use lib.ListN.{get_or}
-use borrow.Enum.Refused.{opened}
 use borrow.Author.Tests.{ne_eqb}
 use Rattle.ascii.specs.Numbers.{signed_word}
 use Rattle.single_action.specs.Setvar.{number_or, plain_value}
@@ -39,13 +38,14 @@ no_sign c =
     (λ w. unsigned_value t f p s.requires.first_le_past s.requires.past_in_bounds (leads_none t 43 f p w.if-first-past.false) (leads_none t 45 f p w.if-first-past.false))
     c.if-first-past.branch-raw
 
-pub returns-in-Value : goal.returns-in-Value
-returns-in-Value c =
+pub returns-in-Ok : goal.returns-in-Ok
+returns-in-Ok c =
     let s = c in
-    value_number s.args.s.now s.args.first s.args.past s.requires.first_le_past s.requires.past_in_bounds (no_sign (goal.at.returns-in-Value c).Joined-first-past)
-    c.in-Value.number (sym c.signed-2.ensures ∙ c.in-Value.is)
+    value_number s.args.s.now s.args.first s.args.past s.requires.first_le_past s.requires.past_in_bounds (no_sign (goal.at.returns-in-Ok c).Joined-first-past)
+    c.in-Ok.number (sym c.signed-2.ensures ∙ c.in-Ok.is)
 
-pub returns-in_default-signed : goal.returns-in_default-signed
-returns-in_default-signed c =
+pub returns-in-Err : goal.returns-in-Err
+returns-in-Err c =
     let s = c in
-    value_text s.args.s.now s.args.first s.args.past s.requires.first_le_past s.requires.past_in_bounds (no_sign (goal.at.returns-in_default-signed c).Joined-first-past) (rw c.signed-2.ensures at (opened c.in_default-signed.in_default-signed-own.keys2))
+    value_text s.args.s.now s.args.first s.args.past s.requires.first_le_past s.requires.past_in_bounds (no_sign (goal.at.returns-in-Err c).Joined-first-past)
+    (sym c.signed-2.ensures ∙ c.in-Err.is)

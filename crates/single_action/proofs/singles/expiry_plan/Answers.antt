@@ -2,7 +2,7 @@
 use mathlib.Core.Path.{◌∙◌, sym, ap}
 use native.Mathlib.Omega.{arith}
 use Rattle.single_action.specs.Actions.{seconds}
-use Rattle.single_action.proofs.JudgedLaws.{equals_within, expiry_whole, expiry_halves}
+use Rattle.single_action.proofs.JudgedLaws.{equals_within, expiry_whole, expiry_halves, seconds_or}
 use Rattle.single_action.proofs.singles.expiry_plan.Goals as goal
 
 pub overflow_add-equals : goal.overflow_add-equals
@@ -13,21 +13,9 @@ returns-then-s-equals c =
     let s = c in
     rw c.text_plan.ensures (expiry_whole s.args.s.now s.args.from s.args.code s.requires c.first_of.result c.first_of.ensures c.if-s-equals.true)
 
-pub returns-in-Value : goal.returns-in-Value
-returns-in-Value c =
+pub returns : goal.returns
+returns c =
     let s = c in
-    rw c.text_plan-in-Value.ensures
-    (expiry_halves s.args.s.now s.args.from s.args.code s.requires c.first_of.result c.first_of.ensures c.if-s-equals.false c.in-Value.seconds
-    (ap seconds (sym c.unsigned.ensures ∙ c.in-Value.is)))
-
-pub returns-in-Unreadable : goal.returns-in-Unreadable
-returns-in-Unreadable c =
-    let s = c in
-    rw c.text_plan-in-Unreadable.ensures
-    (expiry_halves s.args.s.now s.args.from s.args.code s.requires c.first_of.result c.first_of.ensures c.if-s-equals.false 0 (ap seconds (sym c.unsigned.ensures ∙ c.in-Unreadable.is)))
-
-pub returns-in-TooLarge : goal.returns-in-TooLarge
-returns-in-TooLarge c =
-    let s = c in
-    rw c.text_plan-in-TooLarge.ensures
-    (expiry_halves s.args.s.now s.args.from s.args.code s.requires c.first_of.result c.first_of.ensures c.if-s-equals.false 0 (ap seconds (sym c.unsigned.ensures ∙ c.in-TooLarge.is)))
+    rw c.text_plan-2.ensures
+    (expiry_halves s.args.s.now s.args.from s.args.code s.requires c.first_of.result c.first_of.ensures c.if-s-equals.false c.unwrap_or-seconds.result
+    (ap seconds (sym c.unsigned.ensures) ∙ seconds_or c.unsigned.result ∙ sym c.unwrap_or-seconds.ensures))

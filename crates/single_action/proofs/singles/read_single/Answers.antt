@@ -17,21 +17,17 @@ slice_bounds-row_of-end c =
     let n = c.first_of-colon.result in
     sym (length-take-le n s (colon_within s n (parted (goal.at.slice_bounds-row_of-end c).After-first_of-colon)))
 
-pub returns-then-row-ge41 : goal.returns-then-row-ge41
-returns-then-row-ge41 c =
-    let r = c.row_of-row in
-    single_unknown c.args.s.now c.first_of-colon.result (parted (goal.at.returns-then-row-ge41 c).After-first_of-colon) r.result r.ensures c.if-row-ge41.true
+pub returns-in_default : goal.returns-in_default
+returns-in_default c = single_unknown c.args.s.now c.first_of-colon.result (parted (goal.at.returns-in_default c).After-first_of-colon) c.in_default.ensures
 
 pub returns-then-colon-past : goal.returns-then-colon-past
 returns-then-colon-past c =
     let s = c.args.s.now in
-    let r = c.row_of-row in
-    rw (single_text s c.first_of-colon.result (parted (goal.at.returns-then-colon-past c).After-first_of-colon) r.result r.ensures c.if-row-ge41.false c.if-colon-past.true)
+    rw (single_text s c.first_of-colon.result (parted (goal.at.returns-then-colon-past c).After-first_of-colon) c.in-Some.row c.in-Some.ensures c.if-colon-past.true)
     c.with_text.ensures
 
 pub returns-else-colon-past : goal.returns-else-colon-past
 returns-else-colon-past c =
     let s = c.args.s.now in
-    let r = c.row_of-row in
-    rw (single_none s c.first_of-colon.result (parted (goal.at.returns-else-colon-past c).After-first_of-colon) r.result r.ensures c.if-row-ge41.false c.if-colon-past.false)
+    rw (single_none s c.first_of-colon.result (parted (goal.at.returns-else-colon-past c).After-first_of-colon) c.in-Some.row c.in-Some.ensures c.if-colon-past.false)
     (c.with_none.ensures s)

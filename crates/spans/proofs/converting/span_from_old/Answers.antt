@@ -2,7 +2,7 @@
 use mathlib.Core.Path.{◌∙◌, sym, ap}
 use native.Mathlib.Omega.{arith}
 use Rattle.lent.specs.Sizes.{span_word}
-use Rattle.spans.specs.declared.converting.Answer.TheVariants.{Word}
+use Rattle.std.specs.Prelude.{Ok}
 use Rattle.spans.proofs.ConversionLaws.{both_low, made_far, made_near}
 use Rattle.spans.proofs.converting.span_from_old.Goals as goal
 
@@ -13,4 +13,4 @@ pub overflow_cast-offset : goal.overflow_cast-offset
 overflow_cast-offset c = omega (arith, both_low _ _ (sym c.fits_both.ensures ∙ c.if-not-fits_both.false))
 
 pub returns : goal.returns
-returns c = ap Word c.span.ensures ∙ sym (made_near _ _ span_word (sym c.fits_both.ensures ∙ c.if-not-fits_both.false))
+returns c = ap Ok c.span.ensures ∙ sym (made_near _ _ span_word (sym c.fits_both.ensures ∙ c.if-not-fits_both.false))

@@ -1,6 +1,6 @@
--- What store_bytes promises, with the count.
+-- What store promises, with the count.
 use Rattle.listing.proofs.PutLaws.{put_stored}
 use Rattle.spelled.proofs.putting.put_bytes.Goals as goal
 
 pub returns : goal.returns
-returns c = put_stored _ _ _ _ c.store_bytes.ensures
+returns c = put_stored _ _ _ _ c.store.ensures

@@ -1,5 +1,5 @@
-use mathlib.Core.Path.{ap}
-use Prim.Native.Nat.{ℕ, ◌+◌}
+use mathlib.Core.Path.{◌≡◌, ap}
+use Prim.Native.Nat.{ℕ, ◌+◌, ◌*◌}
 use native.Mathlib.Omega.{arith}
 use lib.ListN.{length}
 use lib.Dec.{leb}
@@ -18,20 +18,20 @@ put_record-requires c = record {
   to_le_limit = c.loop-count.invariant.near;
 }
 
-pub shape_of-out-in-Fails : goal.shape_of-out-in-Fails
-shape_of-out-in-Fails c = (halted c.loop-count.invariant (omega (arith, c.loop-count-test.true, c.room-most.ensures)) (ap (λ (n : ℕ). leb n (c.loop-count.count + 1)) c.room-most.ensures) c.put_record.ensures c.in-Fails.is).long
+pub shape_of-out-in-None : goal.shape_of-out-in-None
+shape_of-out-in-None c = (halted c.loop-count.invariant (omega (arith, c.loop-count-test.true, c.room-most.ensures)) (ap (λ (n : ℕ). leb n (c.loop-count.count + 1)) c.room-most.ensures) c.put_record.ensures c.in-None.is).long
 
-pub returns-in-Fails : goal.returns-in-Fails
-returns-in-Fails c = halted c.loop-count.invariant (omega (arith, c.loop-count-test.true, c.room-most.ensures)) (ap (λ (n : ℕ). leb n (c.loop-count.count + 1)) c.room-most.ensures) c.put_record.ensures c.in-Fails.is
+pub returns-in-None : goal.returns-in-None
+returns-in-None c = halted c.loop-count.invariant (omega (arith, c.loop-count-test.true, c.room-most.ensures)) (ap (λ (n : ℕ). leb n (c.loop-count.count + 1)) c.room-most.ensures) c.put_record.ensures c.in-None.is
 
-pub overflow_add-at : goal.overflow_add-at
-overflow_add-at c = omega (arith, fits_record c.loop-count.invariant (omega (arith, c.loop-count-test.true, c.room-most.ensures)), c.well_formed)
-
-pub loop-count-smaller : goal.loop-count-smaller
-loop-count-smaller c = omega (arith, c.loop-count-test.true, c.room-most.ensures)
+pub overflow_mul-at : goal.overflow_mul-at
+overflow_mul-at c = omega (arith, fits_record c.loop-count.invariant (omega (arith, c.loop-count-test.true, c.room-most.ensures)), c.well_formed)
 
 pub loop-count-preserved : goal.loop-count-preserved
-loop-count-preserved c = turned c.loop-count.invariant (omega (arith, c.loop-count-test.true, c.room-most.ensures)) (ap (λ (n : ℕ). leb n (c.loop-count.count + 1)) c.room-most.ensures) c.put_record.ensures c.in-Put.is
+loop-count-preserved c =
+    let l = c.loop-count in
+    let a : (l.count + 1) * action_words ≡ l.count * action_words + action_words = omega arith in
+    rw a (turned l.invariant (omega (arith, c.loop-count-test.true, c.room-most.ensures)) (ap (λ (n : ℕ). leb n (l.count + 1)) c.room-most.ensures) c.put_record.ensures c.in-Some.is)
 
 pub shape_of-out : goal.shape_of-out
 shape_of-out c = c.loop-count.invariant.put.long

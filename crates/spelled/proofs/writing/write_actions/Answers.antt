@@ -2,8 +2,8 @@
 use Rattle.spelled.proofs.EachLaws.{each_failed, each_written}
 use Rattle.spelled.proofs.writing.write_actions.Goals as goal
 
-pub returns-in-Fails : goal.returns-in-Fails
-returns-in-Fails c = each_failed c.put_records.ensures c.in-Fails.is c.clear_bytes.ensures
+pub returns-in-Err : goal.returns-in-Err
+returns-in-Err c = each_failed c.put_records.ensures c.in-Err.is (c.fill.ensures.after (λ y e. e))
 
-pub returns-in-Put : goal.returns-in-Put
-returns-in-Put c = each_written c.put_records.ensures c.in-Put.is c.finish.ensures
+pub returns-in-Ok : goal.returns-in-Ok
+returns-in-Ok c = each_written c.put_records.ensures c.in-Ok.is c.finish.ensures

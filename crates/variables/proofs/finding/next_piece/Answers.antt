@@ -1,10 +1,7 @@
-use mathlib.Core.Path.{◌∙◌, refl}
+use mathlib.Core.Path.{◌∙◌}
 use native.Mathlib.Omega.{arith}
 use Rattle.variables.proofs.PlaceLaws.{bar_fits, trim_fits, trim_first, piece_found, part_empty, next_from, pieces_end}
 use Rattle.variables.proofs.finding.next_piece.Goals as goal
-
-pub loop-at-init : goal.loop-at-init
-loop-at-init c = (omega arith, refl)
 
 pub overflow_add-bar : goal.overflow_add-bar
 overflow_add-bar c = omega (arith, bar_fits c.args.s.now c.loop-at.at _ c.loop-at-test.true c.first_of.ensures)
@@ -20,17 +17,9 @@ pub overflow_add-result-then-part : goal.overflow_add-result-then-part
 overflow_add-result-then-part c =
     omega (arith, bar_fits c.args.s.now c.loop-at.at _ c.loop-at-test.true c.first_of.ensures, trim_fits c.args.s.now c.loop-at.at _ c.loop-at-test.true c.first_of.ensures _ c.trimmed-part.ensures)
 
-pub overflow_add-result-then-part-2 : goal.overflow_add-result-then-part-2
-overflow_add-result-then-part-2 c =
-    omega (arith, bar_fits c.args.s.now c.loop-at.at _ c.loop-at-test.true c.first_of.ensures)
-
 pub returns-then-part : goal.returns-then-part
 returns-then-part c =
     next_from c.loop-at.invariant.0 c.loop-at.invariant.1 (piece_found c.args.s.now c.loop-at.at _ c.loop-at-test.true c.first_of.ensures _ c.trimmed-part.ensures c.if-part.true)
-
-pub overflow_add-at : goal.overflow_add-at
-overflow_add-at c =
-    omega (arith, bar_fits c.args.s.now c.loop-at.at _ c.loop-at-test.true c.first_of.ensures)
 
 pub loop-at-preserved : goal.loop-at-preserved
 loop-at-preserved c = (omega arith, part_empty c.args.s.now c.loop-at.at _ c.loop-at-test.true c.first_of.ensures _ c.trimmed-part.ensures c.if-part.false ∙ c.loop-at.invariant.1)

@@ -5,61 +5,39 @@ use lib.ListN.{length}
 use Rattle.lent.proofs.StartLaws.{starts_is}
 use Rattle.variables.specs.Parts.{pieces}
 use Rattle.variables.specs.Steps.{excluded_of}
-use Rattle.variables.proofs.CoreLaws.{kept_low, all_or_none, used_fits, core_unfit, core_unknown, core_read}
+use Rattle.variables.proofs.CoreLaws.{all_or_none, used_fits, core_unknown, core_read}
 use Rattle.variables.proofs.parsing.read_targets.Goals as goal
 
 pub scan-requires : goal.scan-requires
 scan-requires c =
     let a = c.args in
-    let b = (starts_is (length a.s.now) (length a.text.now) a.offset a.place).0 (sym c.starts.ensures ∙ c.if-starts.true) in
+    let b = (starts_is (length a.s.now) (length a.text.now) a.offset a.place).0 (sym c.starts.ensures ∙ c.if-not-starts.false) in
     record { s_len_bound = b.within; offset_le_limit = (b.offset_low, b.count_low) }
 
-pub slice_bounds-refuse_piece-count : goal.slice_bounds-refuse_piece-count
-slice_bounds-refuse_piece-count c = let x = (rw c.in-Unknown.is at c.scan.ensures) in x.ordered
-
-pub slice_bounds-refuse_piece-start : goal.slice_bounds-refuse_piece-start
-slice_bounds-refuse_piece-start c = let x = (rw c.in-Unknown.is at c.scan.ensures) in x.ordered
-
-pub slice_bounds-refuse_piece-end : goal.slice_bounds-refuse_piece-end
-slice_bounds-refuse_piece-end c = let x = (rw c.in-Unknown.is at c.scan.ensures) in x.inside
-
-pub overflow_sub-result : goal.overflow_sub-result
-overflow_sub-result c = let x = (rw c.in-Unknown.is at c.scan.ensures) in x.ordered
-
-pub returns-in-Unknown : goal.returns-in-Unknown
-returns-in-Unknown c =
+pub returns-in-Err : goal.returns-in-Err
+returns-in-Err c =
     let a = c.args in
-    core_unknown a.exclusions a.s.now a.offset a.place a.text.now a.records.now (sym c.starts.ensures ∙ c.if-starts.true) (rw c.in-Unknown.is at c.scan.ensures) c.scan.new.text c.scan.new.records c.scan.auto.text c.scan.auto.records c.refuse_piece.ensures.0 c.refuse_piece.ensures.1
+    core_unknown a.exclusions a.s.now a.offset a.place a.text.now a.records.now (sym c.starts.ensures ∙ c.if-not-starts.false) c.in-Err.ensures c.scan.new.text c.scan.new.records c.scan.auto.text c.scan.auto.records c.refuse_piece.ensures.0 c.refuse_piece.ensures.1
 
 pub overflow_add-place : goal.overflow_add-place
 overflow_add-place c =
     let a = c.args in
-    let b = (starts_is (length a.s.now) (length a.text.now) a.offset a.place).0 (sym c.starts.ensures ∙ c.if-starts.true) in
-    let x = (rw c.in-Targets.is at c.scan.ensures) in
+    let b = (starts_is (length a.s.now) (length a.text.now) a.offset a.place).0 (sym c.starts.ensures ∙ c.if-not-starts.false) in
+    let x = c.in-Ok.ensures in
     omega (arith, x.few, b.count_low)
 
 pub add_exclusions-past-requires : goal.add_exclusions-past-requires
 add_exclusions-past-requires c =
     let a = c.args in
-    let b = (starts_is (length a.s.now) (length a.text.now) a.offset a.place).0 (sym c.starts.ensures ∙ c.if-starts.true) in
-    let x = (rw c.in-Targets.is at c.scan.ensures) in
+    let b = (starts_is (length a.s.now) (length a.text.now) a.offset a.place).0 (sym c.starts.ensures ∙ c.if-not-starts.false) in
+    let x = c.in-Ok.ensures in
     record {
       s_len_bound = b.within;
       offset_bound = (omega (arith, used_fits x, b.offset_low, b.within), omega (arith, x.few, b.count_low));
       all_or_none = all_or_none a.exclusions _ _ _ (excluded_of (pieces a.s.now)) c.kept-kept.ensures x.excluded_are;
     }
 
-pub overflow_add-result : goal.overflow_add-result
-overflow_add-result c =
-    let x = (rw c.in-Targets.is at c.scan.ensures) in
-    omega (arith, x.few, kept_low c.args.exclusions _ _ _ c.kept-kept.ensures)
-
-pub returns-in-Targets : goal.returns-in-Targets
-returns-in-Targets c =
+pub returns-in-Ok : goal.returns-in-Ok
+returns-in-Ok c =
     let a = c.args in
-    core_read a.exclusions a.s.now a.offset a.place a.text.now a.records.now (sym c.starts.ensures ∙ c.if-starts.true) (rw c.in-Targets.is at c.scan.ensures) _ c.kept-kept.ensures c.add_exclusions-past.ensures
-
-pub returns : goal.returns
-returns c =
-    let a = c.args in
-    core_unfit a.exclusions a.s.now a.offset a.place a.text.now a.records.now (sym c.starts.ensures ∙ c.if-starts.false)
+    core_read a.exclusions a.s.now a.offset a.place a.text.now a.records.now (sym c.starts.ensures ∙ c.if-not-starts.false) c.in-Ok.ensures _ c.kept-kept.ensures c.add_exclusions-past.ensures

@@ -13,10 +13,10 @@ slice_bounds-variable_code-end c = colon_fits c.args.p.now 1 _ false (omega arit
 pub returns-in-AsWritten : goal.returns-in-AsWritten
 returns-in-AsWritten c = rw c.in-AsWritten.is (marked_written c.args.p.now c.requires.p_nonzero c.requires.p_value)
 
-pub returns-in-Code : goal.returns-in-Code
-returns-in-Code c =
-    rw c.in-LookedUp.is (marked_known c.args.p.now c.requires.p_nonzero c.requires.p_value _ c.first_of-end.ensures _ c.variable_code.ensures _ c.in-Code.is)
+pub returns-in-Some : goal.returns-in-Some
+returns-in-Some c =
+    rw c.in-LookedUp.is (marked_known c.args.p.now c.requires.p_nonzero c.requires.p_value _ c.first_of-end.ensures _ c.variable_code.ensures _ c.in-Some.is)
 
-pub returns-in-Unknown : goal.returns-in-Unknown
-returns-in-Unknown c =
-    rw c.in-LookedUp.is (marked_unknown c.args.p.now c.requires.p_nonzero c.requires.p_value _ c.first_of-end.ensures _ c.variable_code.ensures c.in-Unknown.is)
+pub returns-in-None : goal.returns-in-None
+returns-in-None c =
+    rw c.in-LookedUp.is (marked_unknown c.args.p.now c.requires.p_nonzero c.requires.p_value _ c.first_of-end.ensures _ c.variable_code.ensures c.in-None.is)

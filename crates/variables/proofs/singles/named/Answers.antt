@@ -9,14 +9,14 @@ overflow_add-colon c = omega (arith, colon_fits c.args.p.now c.args.first _ c.ar
 pub slice_bounds-variable_code-end : goal.slice_bounds-variable_code-end
 slice_bounds-variable_code-end c = colon_fits c.args.p.now c.args.first _ c.args.counts c.requires.first_in_bounds c.first_of.ensures
 
-pub selection_at-c-requires : goal.selection_at-c-requires
-selection_at-c-requires c =
+pub selection_at-chosen-requires : goal.selection_at-chosen-requires
+selection_at-chosen-requires c =
     record { p_nonzero = c.requires.p_nonzero; colon_in_bounds = colon_fits c.args.p.now c.args.first _ c.args.counts c.requires.first_in_bounds c.first_of.ensures }
 
-pub returns-in-Unknown : goal.returns-in-Unknown
-returns-in-Unknown c =
-    named_unknown c.args.p.now c.args.first _ c.args.counts c.requires.first_in_bounds c.first_of.ensures _ c.variable_code.ensures c.in-Unknown.is
+pub returns-in-None : goal.returns-in-None
+returns-in-None c =
+    named_unknown c.args.p.now c.args.first _ c.args.counts c.requires.first_in_bounds c.first_of.ensures _ c.variable_code.ensures c.in-None.is
 
-pub returns-in-Code : goal.returns-in-Code
-returns-in-Code c =
-    named_code c.args.p.now c.args.first _ c.args.counts c.requires.first_in_bounds c.first_of.ensures _ c.variable_code.ensures _ c.in-Code.is _ c.selection_at-c.ensures
+pub returns-in-Some : goal.returns-in-Some
+returns-in-Some c =
+    named_code c.args.p.now c.args.first _ c.args.counts c.requires.first_in_bounds c.first_of.ensures _ c.variable_code.ensures _ c.in-Some.is _ c.selection_at-chosen.ensures

@@ -8,7 +8,7 @@ use Rattle.variables.proofs.SingleLaws.{chose_none, chose_key, chose_regex}
 use Rattle.variables.proofs.singles.selection_at.Goals as goal
 
 pub returns-then-past-colon : goal.returns-then-past-colon
-returns-then-past-colon c = chose_none c.args.p.now c.args.colon c.requires.p_nonzero c.if-past-colon.true c.requires.colon_in_bounds
+returns-then-past-colon c = chose_none c.args.p.now c.args.colon c.requires.p_nonzero c.if-past-colon.true
 
 pub returns-then-is_regex : goal.returns-then-is_regex
 returns-then-is_regex c =

@@ -1,5 +1,5 @@
--- With no span it is 0.
+-- With no text it is 0.
 use Rattle.variables.proofs.writing.span_of.Goals as goal
 
-pub returns-then-e : goal.returns-then-e
-returns-then-e c = rw c.if-e.true c.span.ensures
+pub returns-in-Some : goal.returns-in-Some
+returns-in-Some c = rw c.in-Some.is c.span.ensures

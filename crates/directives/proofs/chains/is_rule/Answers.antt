@@ -1,9 +1,0 @@
--- Two tests.
-use borrow.Author.Tests.{eq-eqb, ne_eqb}
-use Rattle.directives.proofs.chains.is_rule.Goals as goal
-
-pub returns-then-kind-eq1 : goal.returns-then-kind-eq1
-returns-then-kind-eq1 c = rw (eq-eqb c.args.kind 1 c.if-kind-eq1.true)
-
-pub returns : goal.returns
-returns c = rw (ne_eqb c.args.kind 1 c.if-kind-eq1.false)

@@ -1,9 +1,0 @@
--- The loop counts up to n.
-use Prim.Native.Nat.{◌-◌}
-use Rattle.replay.proofs.hexes.print_front.Given as goal
-
-abbrev pub invariant-loop-i : goal.invariant-loop-i
-invariant-loop-i l = Unit {0}
-
-abbrev pub decreases-loop-i : goal.decreases-loop-i
-decreases-loop-i l = l.n - l.i

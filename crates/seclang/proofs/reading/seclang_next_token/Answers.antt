@@ -1,8 +1,0 @@
--- What the reader promises of its answer is told, and its buffers are left as they are.
-use Rattle.seclang.proofs.ToldLaws.{told_as}
-use Rattle.seclang.proofs.reading.seclang_next_token.Goals as goal
-
-pub returns : goal.returns
-returns c =
-    let x = c.next_token.ensures in
-    record { told = told_as x.answer c.tell_step.ensures; texts = x.text }
