@@ -53,6 +53,12 @@ abbrev pub least_of : RuleIdSelector → ℕ
 least_of (Single s) = s
 least_of (Range start end) = start
 
+-- words from `past` up to the last, moved down to `first`
+pub record Closable (first past last : ℕ) (s : List ℕ) : Type 0 where
+  pub order : first ≤ past
+  pub ends : past ≤ last
+  pub room : last ≤ length s
+
 abbrev pub kept_of : ℕ → RuleIdSelector → List ℕ → List Rule
 kept_of count selector s = without (matched selector) (rules_of count (drop 1 s))
 
