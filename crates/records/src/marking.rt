@@ -20,37 +20,6 @@ pub enum Shape {
     Setting,
 }
 
-impl Shape {
-    fn has_a(self) -> bool
-        ensures { result ≡ has_a self }
-    {
-        matches!(self, Shape::One | Shape::Two | Shape::Setting)
-    }
-
-    fn has_b(self) -> bool
-        ensures { result ≡ has_b self }
-    {
-        matches!(self, Shape::Two | Shape::Setting)
-    }
-
-    fn has_c(self, kind: u64) -> bool
-        ensures { result ≡ has_c self kind }
-    {
-        matches!(self, Shape::Setting) && (kind == STRING_KIND || kind == MACRO_KIND)
-    }
-
-    // There is such a code and, for SetVar, such a value kind.
-    fn is_known_by(self, kind: u64) -> bool
-        ensures { result ≡ known_by self kind }
-    {
-        match self {
-            Shape::NoCode => false,
-            Shape::Bare | Shape::One | Shape::Two => true,
-            Shape::Setting => STRING_KIND <= kind && kind <= MACRO_KIND,
-        }
-    }
-}
-
 // By code, from 0.
 const SHAPES: [Shape; 33] = [
     Shape::NoCode, // no code
@@ -88,13 +57,46 @@ const SHAPES: [Shape; 33] = [
     Shape::One, // transformation
 ];
 
+impl Shape {
+    fn has_a(self) -> bool
+        ensures { result ≡ has_a self }
+    {
+        matches!(self, Shape::One | Shape::Two | Shape::Setting)
+    }
+
+    fn has_b(self) -> bool
+        ensures { result ≡ has_b self }
+    {
+        matches!(self, Shape::Two | Shape::Setting)
+    }
+
+    fn has_c(self, kind: u64) -> bool
+        ensures { result ≡ has_c self kind }
+    {
+        matches!(self, Shape::Setting) && (kind == STRING_KIND || kind == MACRO_KIND)
+    }
+
+    // There is such a code and, for SetVar, such a value kind.
+    fn is_known_by(self, kind: u64) -> bool
+        ensures { result ≡ known_by self kind }
+    {
+        match self {
+            Shape::NoCode => false,
+            Shape::Bare | Shape::One | Shape::Two => true,
+            Shape::Setting => STRING_KIND <= kind && kind <= MACRO_KIND,
+        }
+    }
+}
+
 fn shape_of(code: u64) -> Shape
     ensures { result ≡ shape_of code }
 {
     if TRANSFORMATION < code {
         return Shape::NoCode;
     }
-    SHAPES[code as usize]
+    // indexed by its own name, the table is laid out on the stack at each look
+    let shapes = &SHAPES;
+    shapes[code as usize]
 }
 
 // Whether there is such a code and, for SetVar, such a value kind.
