@@ -1,6 +1,6 @@
 // The answers for action lists and for a setvar alone.
+use crate::buffers::{Buffers, refill};
 use crate::sizes;
-use crate::sizes::Room;
 use crate::words::{ACTION, print_gate, print_records, print_refusal, print_refused, print_text};
 use actions::{ActionsError, Read};
 use std::io;
@@ -34,23 +34,29 @@ fn print_answer(
 }
 
 // The scratch buffer comes last, without the zeros at its end.
-pub fn print_actions(rt: &HostRuntime, input: &[u8], room: Room) -> io::Result<()> {
-    let mut text = vec![in rt.alloc(); 0u8; room.acted]?;
-    let mut scratch = vec![in rt.alloc(); 0u8; room.text]?;
-    let mut records = [0u64; sizes::ACTIONS];
-    let answer = actions::parse_actions(input, &mut text, &mut scratch, &mut records);
-    print_answer(rt, answer, &text, &records)?;
+pub fn print_actions(rt: &HostRuntime, input: &[u8], buffers: &mut Buffers) -> io::Result<()> {
+    refill(&mut buffers.text, buffers.room.acted, 0)?;
+    refill(&mut buffers.scratch, buffers.room.text, 0)?;
+    refill(&mut buffers.records, sizes::ACTIONS, 0)?;
+    let answer = actions::parse_actions(
+        input,
+        &mut buffers.text,
+        &mut buffers.scratch,
+        &mut buffers.records,
+    );
+    print_answer(rt, answer, &buffers.text, &buffers.records)?;
     rt.write_all(b" ")?;
-    let filled = scratch
+    let filled = buffers
+        .scratch
         .iter()
         .rposition(|b| *b != 0)
         .map_or(0, |last| last + 1);
-    print_text(rt, &scratch, filled)
+    print_text(rt, &buffers.scratch, filled)
 }
 
-pub fn print_setvar(rt: &HostRuntime, input: &[u8], room: Room) -> io::Result<()> {
-    let mut text = vec![in rt.alloc(); 0u8; room.acted]?;
-    let mut records = [0u64; sizes::ACTIONS];
-    let answer = actions::parse_setvar(input, &mut text, &mut records);
-    print_answer(rt, answer, &text, &records)
+pub fn print_setvar(rt: &HostRuntime, input: &[u8], buffers: &mut Buffers) -> io::Result<()> {
+    refill(&mut buffers.text, buffers.room.acted, 0)?;
+    refill(&mut buffers.records, sizes::ACTIONS, 0)?;
+    let answer = actions::parse_setvar(input, &mut buffers.text, &mut buffers.records);
+    print_answer(rt, answer, &buffers.text, &buffers.records)
 }

@@ -1,5 +1,5 @@
 // One answer, by the question's letter. docs/VECTORS.md lists the letters.
-use crate::sizes::Room;
+use crate::buffers::Buffers;
 use crate::{
     acting, converting, directing, hexes, indexing, lexing, listings, matching, operating, phasing,
     selecting, targeting, thin, writing,
@@ -36,7 +36,7 @@ fn print_trimmed(rt: &HostRuntime, s: &[u8]) -> io::Result<()> {
     }
 }
 
-pub fn answer(rt: &HostRuntime, letter: u8, body: &[u8], room: Room) -> io::Result<()> {
+pub fn answer(rt: &HostRuntime, letter: u8, body: &[u8], buffers: &mut Buffers) -> io::Result<()> {
     match letter {
         b'1' => print_unsigned(rt, body, u64::from(u8::MAX)),
         b'2' => print_unsigned(rt, body, u64::from(u16::MAX)),
@@ -48,19 +48,19 @@ pub fn answer(rt: &HostRuntime, letter: u8, body: &[u8], room: Room) -> io::Resu
         b'o' => print_number(rt, names::operator_code(body), "unknown"),
         b's' => print_number(rt, names::severity_code(body), "unknown"),
         b'c' => print_flags(rt, hexes::word(body)),
-        b'T' => lexing::print_tokens(rt, body, room),
-        b'P' => lexing::print_plain_tokens(rt, body, room),
-        b'S' => lexing::print_step(rt, body, room),
-        b'R' => thin::print_steps(rt, body, room),
-        b'a' => acting::print_actions(rt, body, room),
-        b'e' => acting::print_setvar(rt, body, room),
-        b'l' => targeting::print_variables(rt, body, room),
-        b'u' => targeting::print_update(rt, body, room),
+        b'T' => lexing::print_tokens(rt, body, buffers),
+        b'P' => lexing::print_plain_tokens(rt, body, buffers),
+        b'S' => lexing::print_step(rt, body, buffers),
+        b'R' => thin::print_steps(rt, body, buffers),
+        b'a' => acting::print_actions(rt, body, buffers),
+        b'e' => acting::print_setvar(rt, body, buffers),
+        b'l' => targeting::print_variables(rt, body, buffers),
+        b'u' => targeting::print_update(rt, body, buffers),
         b'p' => operating::print_operator(rt, body),
-        b'D' => directing::print_directives(rt, body, Version::TwoSix, room),
-        b'E' => directing::print_directives(rt, body, Version::TwoSeven, room),
-        b'L' => listings::print_listing(rt, body, room),
-        b'w' => writing::print_written(rt, body, room),
+        b'D' => directing::print_directives(rt, body, Version::TwoSix, buffers),
+        b'E' => directing::print_directives(rt, body, Version::TwoSeven, buffers),
+        b'L' => listings::print_listing(rt, body, buffers),
+        b'w' => writing::print_written(rt, body, buffers),
         b'x' => selecting::print_xml(rt, body),
         b'm' => matching::print_match(rt, body),
         b'h' => phasing::print_phase(rt, body),

@@ -1,6 +1,6 @@
 // The answer for a package: its directives, or the first fault.
+use crate::buffers::{Buffers, refill};
 use crate::sizes;
-use crate::sizes::Room;
 use crate::words::{
     ACTION, DIRECTIVE, VARIABLE, print_gate, print_records, print_refusal, print_span_word,
     print_text,
@@ -47,26 +47,26 @@ pub fn print_directives(
     rt: &HostRuntime,
     input: &[u8],
     version: Version,
-    room: Room,
+    buffers: &mut Buffers,
 ) -> io::Result<()> {
-    let mut text = vec![in rt.alloc(); 0u8; room.text]?;
-    let mut scratch = vec![in rt.alloc(); 0u8; room.text]?;
-    let mut records = [0u64; sizes::DIRECTIVES];
-    let mut variables = [0u64; sizes::VARIABLES];
-    let mut actions = [0u64; sizes::ACTIONS];
+    refill(&mut buffers.text, buffers.room.text, 0)?;
+    refill(&mut buffers.scratch, buffers.room.text, 0)?;
+    refill(&mut buffers.records, sizes::PACKAGE, 0)?;
+    let (records, others) = buffers.records.split_at_mut(sizes::DIRECTIVES);
+    let (variables, actions) = others.split_at_mut(sizes::VARIABLES);
     let answer = directives::directives(
         input,
         version,
-        &mut text,
-        &mut scratch,
-        &mut records,
-        &mut variables,
-        &mut actions,
+        &mut buffers.text,
+        &mut buffers.scratch,
+        records,
+        variables,
+        actions,
     );
     match answer {
-        Ok(read) => print_read(rt, read, &text, &records, &variables, &actions),
+        Ok(read) => print_read(rt, read, &buffers.text, records, variables, actions),
         Err(DirectivesError::Gate(error)) => print_gate(rt, error),
-        Err(DirectivesError::Refused(fault)) => print_fault(rt, fault, &text),
+        Err(DirectivesError::Refused(fault)) => print_fault(rt, fault, &buffers.text),
         Err(
             DirectivesError::NoRoom {
                 directives,

@@ -1,8 +1,16 @@
 // Bytes as pairs of hexadecimal digits, and numbers as bytes.
-ghost use Rattle.std.specs.Prelude.{◌<◌};
+ghost use Rattle.std.specs.Prelude.{◌<◌, ◌≡◌, ◌/◌, length, min, vec_len, IfOk};
+ghost use Rattle.listing.specs.Json.{hex};
 
 use std::alloc::Global;
 use std::io;
+
+fn digit_of(v: u8) -> u8
+    requires { v < 16 }
+    ensures { result ≡ hex v }
+{
+    if v < 10 { b'0' + v } else { b'a' + (v - 10) }
+}
 
 fn digit_value(b: u8) -> u8
     ensures { result < 16 }
@@ -15,7 +23,9 @@ fn digit_value(b: u8) -> u8
 }
 
 // The bytes that pairs of digits stand for.
-pub fn decode(alloc: Global, digits: &[u8]) -> io::Result<Vec<u8>> {
+pub fn decode(alloc: Global, digits: &[u8]) -> io::Result<Vec<u8>>
+    ensures { IfOk result (λ bytes. vec_len bytes ≡ length digits.now / 2) }
+{
     let (pairs, _) = digits.as_chunks::<2>();
     let bytes = pairs
         .iter()
@@ -36,7 +46,9 @@ pub fn first_word(body: &[u8]) -> Option<(u64, &[u8])> {
 }
 
 // The words of a body, 8 bytes each, up to so many.
-pub fn words(alloc: Global, body: &[u8], most: usize) -> io::Result<Vec<u64>> {
+pub fn words(alloc: Global, body: &[u8], most: usize) -> io::Result<Vec<u64>>
+    ensures { IfOk result (λ words. vec_len words ≡ min most (length body.now / 8)) }
+{
     let words = body.chunks_exact(8).take(most).map(word).collect(alloc)?;
     Ok(words)
 }
@@ -49,7 +61,7 @@ pub fn sum(s: &[u8]) -> u64 {
 
 pub fn print(rt: &HostRuntime, s: &[u8]) -> io::Result<()> {
     for b in s {
-        print!(rt; "{b:02x}")?;
+        rt.write_all(&[digit_of(b >> 4), digit_of(b & 15)])?;
     }
     Ok(())
 }

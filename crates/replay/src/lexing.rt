@@ -1,5 +1,5 @@
 // The lexer's answers: a whole text, and one step.
-use crate::sizes::Room;
+use crate::buffers::{Buffers, refill};
 use crate::words::{TOKEN, print_gate, print_records, print_refusal, print_span, print_text};
 use crate::{hexes, sizes};
 use lexer::{Column, Cursor, Found, Lexeme, Line, Read, StepError, TokensError};
@@ -23,18 +23,18 @@ fn print_read(
     }
 }
 
-pub fn print_tokens(rt: &HostRuntime, input: &[u8], room: Room) -> io::Result<()> {
-    let mut text = vec![in rt.alloc(); 0u8; room.text]?;
-    let mut records = [0u64; sizes::RECORDS];
-    let answer = lexer::tokens(input, &mut text, &mut records);
-    print_read(rt, answer, &text, &records)
+pub fn print_tokens(rt: &HostRuntime, input: &[u8], buffers: &mut Buffers) -> io::Result<()> {
+    refill(&mut buffers.text, buffers.room.text, 0)?;
+    refill(&mut buffers.records, sizes::RECORDS, 0)?;
+    let answer = lexer::tokens(input, &mut buffers.text, &mut buffers.records);
+    print_read(rt, answer, &buffers.text, &buffers.records)
 }
 
-pub fn print_plain_tokens(rt: &HostRuntime, input: &[u8], room: Room) -> io::Result<()> {
-    let mut text = vec![in rt.alloc(); 0u8; room.text]?;
-    let mut records = [0u64; sizes::RECORDS];
-    let answer = plain::plain_tokens(input, &mut text, &mut records);
-    print_read(rt, answer, &text, &records)
+pub fn print_plain_tokens(rt: &HostRuntime, input: &[u8], buffers: &mut Buffers) -> io::Result<()> {
+    refill(&mut buffers.text, buffers.room.text, 0)?;
+    refill(&mut buffers.records, sizes::RECORDS, 0)?;
+    let answer = plain::plain_tokens(input, &mut buffers.text, &mut buffers.records);
+    print_read(rt, answer, &buffers.text, &buffers.records)
 }
 
 fn print_cursor(rt: &HostRuntime, c: Cursor) -> io::Result<()> {
@@ -94,11 +94,11 @@ fn asked(body: &[u8]) -> Option<(Cursor, &[u8])> {
     Some((cursor, text))
 }
 
-pub fn print_step(rt: &HostRuntime, body: &[u8], room: Room) -> io::Result<()> {
+pub fn print_step(rt: &HostRuntime, body: &[u8], buffers: &mut Buffers) -> io::Result<()> {
     let Some((from, input)) = asked(body) else {
         return Ok(());
     };
-    let mut text = vec![in rt.alloc(); 0u8; room.text]?;
-    let step = lexer::next_token(input, from, &mut text);
-    print_found(rt, step, &text)
+    refill(&mut buffers.text, buffers.room.text, 0)?;
+    let step = lexer::next_token(input, from, &mut buffers.text);
+    print_found(rt, step, &buffers.text)
 }

@@ -1,15 +1,20 @@
 // A text's line, but for its line feed.
-use crate::sizes::Room;
+use crate::buffers::{Buffers, refill};
 use std::io;
 
-pub fn print_listing(rt: &HostRuntime, input: &[u8], room: Room) -> io::Result<()> {
-    let mut text = vec![in rt.alloc(); 0u8; room.text]?;
-    let mut records = vec![in rt.alloc(); 0u64; room.listed]?;
-    let mut out = vec![in rt.alloc(); 0u8; room.line]?;
-    let Ok(n) = listing::list_text(input, &mut text, &mut records, &mut out) else {
+pub fn print_listing(rt: &HostRuntime, input: &[u8], buffers: &mut Buffers) -> io::Result<()> {
+    refill(&mut buffers.text, buffers.room.text, 0)?;
+    refill(&mut buffers.records, buffers.room.listed, 0)?;
+    refill(&mut buffers.scratch, buffers.room.line, 0)?;
+    let Ok(n) = listing::list_text(
+        input,
+        &mut buffers.text,
+        &mut buffers.records,
+        &mut buffers.scratch,
+    ) else {
         return Ok(());
     };
-    match out.get(..n) {
+    match buffers.scratch.get(..n) {
         Some([line @ .., _]) => rt.write_all(line),
         _ => Ok(()),
     }

@@ -1,7 +1,7 @@
 // Questions on texts up to the limit and past it: a front, a part so many times, and a tail.
-use crate::{hexes, sizes};
-use std::alloc::Global;
-use std::io;
+ghost use Rattle.std.specs.Prelude.{◌≤◌, length};
+
+use crate::hexes;
 
 // The body is how often, the length of the front and of the part, 8 bytes each, the largest first, and then all three.
 fn parts(body: &[u8]) -> Option<(u64, &[u8], &[u8], &[u8])> {
@@ -13,23 +13,30 @@ fn parts(body: &[u8]) -> Option<(u64, &[u8], &[u8], &[u8])> {
     Some((times, front, part, tail))
 }
 
-// Behind what is there, where it fits.
-fn put(text: &mut Vec<u8>, part: &[u8]) -> io::Result<()> {
-    if part.len() <= sizes::LONG_BYTES.saturating_sub(text.len()) {
-        text.extend_from_slice(part)?;
+// Bytes at a place, where they fit, and the place past them.
+fn put(out: &mut [u8], at: usize, bytes: &[u8]) -> usize
+    ensures { result ≤ length out.new }
+{
+    let Some(room) = out.len().checked_sub(at) else {
+        return 0;
+    };
+    if room < bytes.len() {
+        return at;
     }
-    Ok(())
+    lent::store(out, at, bytes);
+    at + bytes.len()
 }
 
-pub fn spread(alloc: Global, body: &[u8]) -> io::Result<Vec<u8>> {
-    let mut text = Vec::new(alloc);
+// The text at the front of `out`, and its length.
+pub fn spread(body: &[u8], out: &mut [u8]) -> usize
+    ensures { result ≤ length out.new }
+{
     let Some((times, front, part, tail)) = parts(body) else {
-        return Ok(text);
+        return 0;
     };
-    put(&mut text, front)?;
+    let mut at = put(out, 0, front);
     for _ in 0..times {
-        put(&mut text, part)?;
+        at = put(out, at, part);
     }
-    put(&mut text, tail)?;
-    Ok(text)
+    put(out, at, tail)
 }

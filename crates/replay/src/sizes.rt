@@ -22,6 +22,9 @@ pub const DIRECTIVES: usize = 4096 * lent::DIRECTIVE_WORDS;
 
 pub const VARIABLES: usize = PIECES * lent::VARIABLE_WORDS;
 
+// All three of a package, more than those of any other question.
+pub const PACKAGE: usize = DIRECTIVES + VARIABLES + ACTIONS;
+
 // Words of the records that a phase is asked of.
 pub const PHASED: usize = 64 * lent::ACTION_WORDS;
 

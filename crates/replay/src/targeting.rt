@@ -1,6 +1,6 @@
 // The answers of the two parsers of lists.
+use crate::buffers::{Buffers, refill};
 use crate::sizes;
-use crate::sizes::Room;
 use crate::words::{VARIABLE, print_gate, print_records, print_refusal, print_refused, print_text};
 use std::io;
 use variables::{Read, VariablesError};
@@ -25,16 +25,16 @@ fn print_answer(
     }
 }
 
-pub fn print_variables(rt: &HostRuntime, input: &[u8], room: Room) -> io::Result<()> {
-    let mut text = vec![in rt.alloc(); 0u8; room.text]?;
-    let mut records = [0u64; sizes::RECORDS];
-    let answer = variables::parse_variables(input, &mut text, &mut records);
-    print_answer(rt, answer, &text, &records)
+pub fn print_variables(rt: &HostRuntime, input: &[u8], buffers: &mut Buffers) -> io::Result<()> {
+    refill(&mut buffers.text, buffers.room.text, 0)?;
+    refill(&mut buffers.records, sizes::RECORDS, 0)?;
+    let answer = variables::parse_variables(input, &mut buffers.text, &mut buffers.records);
+    print_answer(rt, answer, &buffers.text, &buffers.records)
 }
 
-pub fn print_update(rt: &HostRuntime, input: &[u8], room: Room) -> io::Result<()> {
-    let mut text = vec![in rt.alloc(); 0u8; room.text]?;
-    let mut records = [0u64; sizes::RECORDS];
-    let answer = variables::parse_update_targets(input, &mut text, &mut records);
-    print_answer(rt, answer, &text, &records)
+pub fn print_update(rt: &HostRuntime, input: &[u8], buffers: &mut Buffers) -> io::Result<()> {
+    refill(&mut buffers.text, buffers.room.text, 0)?;
+    refill(&mut buffers.records, sizes::RECORDS, 0)?;
+    let answer = variables::parse_update_targets(input, &mut buffers.text, &mut buffers.records);
+    print_answer(rt, answer, &buffers.text, &buffers.records)
 }

@@ -1,5 +1,5 @@
 // Action records written back to text: the bytes, or why there are none.
-use crate::sizes::Room;
+use crate::buffers::{Buffers, refill};
 use crate::words::{print_refusal, print_text};
 use crate::{hexes, sizes};
 use listing::ListingError;
@@ -13,19 +13,19 @@ fn asked(body: &[u8]) -> Option<(usize, &[u8], &[u8])> {
     Some((lent as usize, records, text))
 }
 
-pub fn print_written(rt: &HostRuntime, body: &[u8], room: Room) -> io::Result<()> {
+pub fn print_written(rt: &HostRuntime, body: &[u8], buffers: &mut Buffers) -> io::Result<()> {
     let Some((lent, records, text)) = asked(body) else {
         return Ok(());
     };
-    if room.text < lent {
+    if buffers.room.text < lent {
         return Ok(());
     }
     let records = hexes::words(rt.alloc(), records, sizes::PHASED)?;
-    let mut out = vec![in rt.alloc(); 0u8; lent]?;
-    match spelled::write_actions(&records, text, &mut out) {
+    refill(&mut buffers.text, lent, 0)?;
+    match spelled::write_actions(&records, text, &mut buffers.text) {
         Ok(n) => {
             print!(rt; "0 {n} ")?;
-            print_text(rt, &out, n)
+            print_text(rt, &buffers.text, n)
         }
         Err(ListingError::NoRoom(needed)) => print_refusal(rt, 4, needed),
         Err(ListingError::NoToken(record)) => print_refusal(rt, 19, record),
